@@ -1,6 +1,6 @@
 #!/bin/sh
 # Tries the edits of edits/CRATE, for each crate that is named, in a temporary copy of the checkout: see README.md. Prints what
-# 'rt ci CRATE..' says, and ends with its status, or with status 1 if an edit could not be applied or read. Ends with status 2 if
+# 'rt must-fail CRATE..' says, and ends with its status, or with status 1 if an edit could not be applied or read. Ends with status 2 if
 # no crate is named, or one without edits here.
 set -u
 LC_ALL=C
@@ -58,7 +58,7 @@ done
 cd -- "$dir/copy" || exit 2
 {
     status=0
-    rt ci "$@" 2>&1 || status=$?
+    rt must-fail "$@" 2>&1 || status=$?
     echo "$status" >"$dir/status"
 } | tee "$dir/said"
 status=$(cat "$dir/status")

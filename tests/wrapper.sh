@@ -227,6 +227,13 @@ echo '// low, changed' >"$checkout/crates/low/src/lib.rt"
 run "$checkout/cpsa" analyse --limit 3
 judge 'a file has changed' 3 "$answer" 'cpsa: the program is proved and built first, 2 crates*'
 builds 'a file has changed' 1
+sleep 1
+echo '// low, changed again' >"$checkout/crates/low/src/lib.rt"
+echo "another kit logic ${kit##* logic }" >"$dir/kit"
+run "$checkout/cpsa" analyse --limit 3
+judge 'another toolchain of the same logic' 3 "$answer" "cpsa: rt version says 'another kit logic ${kit##* logic }'; README.md names '$kit', which has the same logic*"
+builds 'another toolchain of the same logic' 1
+echo "$kit" >"$dir/kit"
 run "$checkout/cpsa" shapes
 judge 'the other command' 3 'words: shapes
 input' ''

@@ -16,15 +16,15 @@ use Rattle.cp_words.specs.Command.{Command}
 use Rattle.cp_app.specs.Headline.{most_bytes, HaveTrees, IsAccepted, SaysOutcomes}
 use Rattle.cp_app.specs.Commands.{Accepts, Answers}
 use Rattle.cp_app.specs.Details.{AnswersInDetail, IsReportedInDetail}
-use Rattle.cp_app.specs.Answered.{IsWhole, HasAnswered, HasBrokenOff}
+use Rattle.cp_app.specs.Answered.{SaysWhole, HasAnswered, HasBrokenOff}
 use Rattle.cp_app.specs.Endings.{IsRefusedFor, HasRefused, WasTooLong, TookAtMost}
 use Rattle.cp_app.specs.Reported.{text_by}
 use Rattle.cp_report.specs.FittingTrees.{TreeFits}
-use Rattle.cp_app.specs.Steps.{IsCauseFor, HasStopped, outcomes_status, cause_of_load, IsWholeReport, HasWritten, HasWrittenPart, HasEnded, HasExecuted}
+use Rattle.cp_app.specs.Steps.{IsCauseFor, HasStopped, outcomes_status, cause_of_load, IsWholeReport, HasReportedAll, HasWrittenPart, HasEnded, HasExecuted}
 use Rattle.cp_app.proofs.CommandCases.{accepts_well_formed, refuses_faulty, accepts_or_refuses, one_fault, reported_answers, detail_answers}
 use Rattle.cp_app.specs.Analysis.{IsAnalysisOf}
 use Rattle.cp_app.proofs.Trees.{zip_onto}
-use Rattle.cp_legible.proofs.DenotedTrees.{report_true}
+use Rattle.cp_printable.proofs.DenotedTrees.{report_true}
 use Rattle.cp_language.specs.Input.{Entry, input_of}
 use Rattle.cp_language.specs.StatedInput.{IsInput}
 use Rattle.cp_language.specs.Report.{HasItsVariables}
@@ -35,7 +35,7 @@ use Rattle.cp_app.specs.declared.stopped.Stopped.{Stopped}
 use Rattle.cp_app.specs.declared.stopped.Stopped.TheVariants as stopped
 use Rattle.cp_app.proofs.ReportsBack.{same_reading, read_back_as}
 use Rattle.cp_app.proofs.ProperAnalyses.{analyses_are_proper}
-use Rattle.cp_proper.proofs.ReadTexts.{read_is_proper}
+use Rattle.cp_printable.proofs.ReadTexts.{read_is_proper}
 
 -- ---- an input is refused or accepted
 
@@ -78,10 +78,10 @@ module _ (command : Command) (input : List ℕ) (left_new held_old held_new : Op
   abbrev Ended : Status → Type 0
   Ended status = HasEnded command input left_new held_old held_new status
 
-  written_answered : (before : List ℕ) (b : Bool) → held_old ≡ Some before → HasWritten command input left_new held_old held_new b (Ok tt) → HasAnswered (AnswersInDetail command) command input before left_new held_new (outcomes_status b)
+  written_answered : (before : List ℕ) (b : Bool) → held_old ≡ Some before → HasReportedAll command input left_new held_old held_new b (Ok tt) → HasAnswered (AnswersInDetail command) command input before left_new held_new (outcomes_status b)
   written_answered before b is written = record { text = written.text; at_end = λ reading. written.at_end; held = written.put before is; answer = written.report.answer }
 
-  pub ended_in_detail : (before : List ℕ) (status : Status) → held_old ≡ Some before → IsWhole status → HasEnded command input left_new held_old held_new status → HasAnswered (AnswersInDetail command) command input before left_new held_new status
+  pub ended_in_detail : (before : List ℕ) (status : Status) → held_old ≡ Some before → SaysWhole status → HasEnded command input left_new held_old held_new status → HasAnswered (AnswersInDetail command) command input before left_new held_new status
   ended_in_detail before status is (inl e) ended = subst (HasAnswered (AnswersInDetail command) command input before left_new held_new) (sym e) (written_answered before true is (subst Ended e ended))
   ended_in_detail before status is (inr e) ended = subst (HasAnswered (AnswersInDetail command) command input before left_new held_new) (sym e) (written_answered before false is (subst Ended e ended))
 
@@ -93,7 +93,7 @@ module _ (command : Command) (input : List ℕ) (left_new held_old held_new : Op
     answer = detail_answers command.name command.limits input answered.text status answered.answer;
   }
 
-  outcomes_are_whole : (b : Bool) → IsWhole (outcomes_status b)
+  outcomes_are_whole : (b : Bool) → SaysWhole (outcomes_status b)
   outcomes_are_whole true = inl refl
   outcomes_are_whole false = inr refl
 
@@ -125,9 +125,9 @@ module _ (command : Command) (input : List ℕ) (left_new held_old held_new : Op
     answer = detail_answers command.name command.limits input broken.text broken.status broken.answer;
   }
 
-  pub ended_accepted : (status : Status) → HasEnded command input left_new held_old held_new status → (IsWhole status ⊎ (status ≡ WriteFault)) → (left_new ≡ Some []) × ((fs : Forms) × IsAccepted (Accepts command) input fs)
-  ended_accepted status ended (inl (inl e)) = let done : HasWritten command input left_new held_old held_new true (Ok tt) = subst Ended e ended in (done.at_end, (done.report.forms, done.report.accepted))
-  ended_accepted status ended (inl (inr e)) = let at_limit : HasWritten command input left_new held_old held_new false (Ok tt) = subst Ended e ended in (at_limit.at_end, (at_limit.report.forms, at_limit.report.accepted))
+  pub ended_accepted : (status : Status) → HasEnded command input left_new held_old held_new status → (SaysWhole status ⊎ (status ≡ WriteFault)) → (left_new ≡ Some []) × ((fs : Forms) × IsAccepted (Accepts command) input fs)
+  ended_accepted status ended (inl (inl e)) = let done : HasReportedAll command input left_new held_old held_new true (Ok tt) = subst Ended e ended in (done.at_end, (done.report.forms, done.report.accepted))
+  ended_accepted status ended (inl (inr e)) = let at_limit : HasReportedAll command input left_new held_old held_new false (Ok tt) = subst Ended e ended in (at_limit.at_end, (at_limit.report.forms, at_limit.report.accepted))
   ended_accepted status ended (inr e) =
       let whole : HasWrittenPart command input left_new held_old held_new = subst Ended e ended in
       let part = whole.1 in
@@ -161,7 +161,7 @@ module _ (command : Command) (input : List ℕ) (left_new held_old held_new : Op
   ended_only_too_long TooLong ended long = inl refl
 
   pub ended_completes : (status : Status) (fs : Forms) (read written : Type 0) → HasEnded command input left_new held_old held_new status → (status ≡ ReadFault → read) → (status ≡ WriteFault → written)
-      → IsAccepted (Accepts command) input fs → (read → ⊥) → (written → ⊥) → IsWhole status ⊎ (status ≡ Memory)
+      → IsAccepted (Accepts command) input fs → (read → ⊥) → (written → ⊥) → SaysWhole status ⊎ (status ≡ Memory)
   ended_completes Done fs read written ended reading writing accepted not_read not_written = inl (inl refl)
   ended_completes Limit fs read written ended reading writing accepted not_read not_written = inl (inr refl)
   ended_completes Usage fs read written ended reading writing accepted not_read not_written = absurd ended
@@ -221,7 +221,7 @@ load_cause command input fs e (Ok x) is reading refused = tt
 load_cause command input fs (loading.Refused r) (Err cause) is reading refused = subst (IsCauseFor command input) (sym is) (inr (fs, reading, refuses_faulty command.name fs r (refused r refl)))
 load_cause command input fs loading.Memory (Err cause) is reading refused = subst (IsCauseFor command input) (sym is) tt
 
-pub ended_ok : (command : Command) (input : List ℕ) (left_new held_old held_new : Option (List ℕ)) (b : Bool) (s : Status) → s ≡ outcomes_status b → HasWritten command input left_new held_old held_new b (Ok tt)
+pub ended_ok : (command : Command) (input : List ℕ) (left_new held_old held_new : Option (List ℕ)) (b : Bool) (s : Status) → s ≡ outcomes_status b → HasReportedAll command input left_new held_old held_new b (Ok tt)
     → HasEnded command input left_new held_old held_new s
 ended_ok command input left_new held_old held_new true s is written = subst (HasEnded command input left_new held_old held_new) (sym is) written
 ended_ok command input left_new held_old held_new false s is written = subst (HasEnded command input left_new held_old held_new) (sym is) written
@@ -229,7 +229,7 @@ ended_ok command input left_new held_old held_new false s is written = subst (Ha
 -- ---- runs
 
 module _ (o : Option Command) (input : List ℕ) (left_new held_old held_new : Option (List ℕ)) where
-  pub executed_in_detail : (command : Command) (before : List ℕ) (s : Status) → HasExecuted o input left_new held_old held_new s → o ≡ Some command → held_old ≡ Some before → IsWhole s → HasAnswered (AnswersInDetail command) command input before left_new held_new s
+  pub executed_in_detail : (command : Command) (before : List ℕ) (s : Status) → HasExecuted o input left_new held_old held_new s → o ≡ Some command → held_old ≡ Some before → SaysWhole s → HasAnswered (AnswersInDetail command) command input before left_new held_new s
   executed_in_detail command before s executed is held whole =
       ended_in_detail command input left_new held_old held_new before s held whole (subst (λ p. HasExecuted p input left_new held_old held_new s) is executed)
 
@@ -237,7 +237,7 @@ module _ (o : Option Command) (input : List ℕ) (left_new held_old held_new : O
   executed_broken_off command before s executed is held broken =
       ended_broken_off command input left_new held_old held_new before s held broken (subst (λ p. HasExecuted p input left_new held_old held_new s) is executed)
 
-  pub executed_accepted : (command : Command) (s : Status) → HasExecuted o input left_new held_old held_new s → o ≡ Some command → (IsWhole s ⊎ (s ≡ WriteFault)) → (left_new ≡ Some []) × ((fs : Forms) × IsAccepted (Accepts command) input fs)
+  pub executed_accepted : (command : Command) (s : Status) → HasExecuted o input left_new held_old held_new s → o ≡ Some command → (SaysWhole s ⊎ (s ≡ WriteFault)) → (left_new ≡ Some []) × ((fs : Forms) × IsAccepted (Accepts command) input fs)
   executed_accepted command s executed is ends =
       ended_accepted command input left_new held_old held_new s (subst (λ p. HasExecuted p input left_new held_old held_new s) is executed) ends
 
@@ -255,7 +255,7 @@ module _ (o : Option Command) (input : List ℕ) (left_new held_old held_new : O
       ended_only_too_long command input left_new held_old held_new s (subst (λ p. HasExecuted p input left_new held_old held_new s) is executed) long
 
   pub executed_completes : (command : Command) (s : Status) (fs : Forms) (read written : Type 0) → HasExecuted o input left_new held_old held_new s → o ≡ Some command → (s ≡ ReadFault → read) → (s ≡ WriteFault → written)
-      → IsAccepted (Accepts command) input fs → (read → ⊥) → (written → ⊥) → IsWhole s ⊎ (s ≡ Memory)
+      → IsAccepted (Accepts command) input fs → (read → ⊥) → (written → ⊥) → SaysWhole s ⊎ (s ≡ Memory)
   executed_completes command s fs read written executed is reading writing accepted not_read not_written =
       ended_completes command input left_new held_old held_new s fs read written (subst (λ p. HasExecuted p input left_new held_old held_new s) is executed) reading writing accepted not_read not_written
 

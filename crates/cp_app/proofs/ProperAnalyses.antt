@@ -11,15 +11,15 @@ use Rattle.cp_sexpr.specs.Syntax.{Forms, forms_of}
 use Rattle.cp_language.specs.Problems.{Problem}
 use Rattle.cp_language.specs.Input.{faults_of, input_of}
 use Rattle.cp_language.specs.Report.{tree_forms, report_forms}
-use Rattle.cp_wellformed.proofs.Problems.{are_skeletons, map_to_themselves, roles_are_well_formed}
-use Rattle.cp_proper.specs.Proper.{IsStringText, IsSymbolText, AreProper}
-use Rattle.cp_proper.specs.Spelled.{IsSpelledProblem, IsSpelledLabel}
-use Rattle.cp_proper.proofs.StringTexts.{string_text_or_not}
-use Rattle.cp_proper.proofs.SpelledInput.{form_is_proper, problem_is_spelled}
-use Rattle.cp_proper.proofs.ProperTrees.{tree_is_proper}
-use Rattle.cp_proper.proofs.ProperReports.{report_is_proper}
+use Rattle.cp_language.proofs.Problems.{are_skeletons, map_to_themselves, roles_are_well_formed}
+use Rattle.cp_printable.specs.Proper.{IsStringText, IsSymbolText, AreProper}
+use Rattle.cp_printable.specs.Spelled.{IsSpelledProblem, IsSpelledLabel}
+use Rattle.cp_printable.proofs.StringTexts.{string_text_or_not}
+use Rattle.cp_printable.proofs.SpelledInput.{form_is_proper, problem_is_spelled}
+use Rattle.cp_printable.proofs.ProperTrees.{tree_is_proper}
+use Rattle.cp_printable.proofs.ProperReports.{report_is_proper}
 use Rattle.cp_strand.specs.Declares.{DeclaresItsVariables}
-use Rattle.cp_strings.proofs.Labels.{labels_spelled}
+use Rattle.cp_printable.proofs.Labels.{labels_spelled}
 use Rattle.cp_app.specs.Headline.{HaveTrees}
 use Rattle.cp_app.specs.Analysis.{IsAnalysisOf}
 use Rattle.cp_app.proofs.Trees.{entry_of}

@@ -15,8 +15,8 @@ use Rattle.cp_language.specs.Report.{report_forms, text_of_forms}
 use Rattle.cp_report.specs.FittingTrees.{TreeFits, problem_onto, problems_in}
 use Rattle.cp_report.specs.Laws.{CanBeStated}
 use Rattle.cp_report.proofs.Premises.{reads_back}
-use Rattle.cp_proper.specs.Proper.{AreProper}
-use Rattle.cp_proper.proofs.ReadTexts.{read_as_they_are, can_be_read}
+use Rattle.cp_printable.specs.Proper.{AreProper}
+use Rattle.cp_printable.proofs.ReadTexts.{read_as_they_are, can_be_read}
 use Rattle.cp_words.specs.declared.command.CommandName.{CommandName}
 use Rattle.cp_words.specs.declared.command.CommandName.TheVariants.{Analyse}
 use Rattle.cp_app.specs.Headline.{HaveTrees}

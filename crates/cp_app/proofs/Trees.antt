@@ -26,16 +26,16 @@ use Rattle.cp_language.specs.Report.{variables_of_terms, variables_of_test, vari
 use Rattle.cp_language.specs.Input.{Entry, faults_of, input_of}
 use Rattle.cp_language.specs.StatedInput.{IsInput}
 use Rattle.cp_language.proofs.NoLocals.{from_but}
-use Rattle.cp_load.specs.Inputs.{problem_view, entries_view, entries_of}
+use Rattle.cp_load.specs.Inputs.{problem_view, entries_view, input_entries}
 use Rattle.cp_load.specs.declared.input.Problem.{Problem as ProgramProblem}
 use Rattle.cp_load.specs.declared.input.Input.{Input}
 use Rattle.cp_sexpr.specs.declared.form.Form as form
 use Rattle.cp_model.proofs.OccurringVariables.{term_with}
-use Rattle.cp_guard.specs.Matches.{IsFreeIn}
+use Rattle.cp_theory.specs.Matches.{IsFreeIn}
 use Rattle.cp_tree.specs.Searched.{IsTreeOf}
 use Rattle.cp_tree.specs.Declared.{DeclaresItsOwn}
 use Rattle.cp_report.specs.FittingTrees.{TreeFits}
-use Rattle.cp_wellformed.proofs.Problems as wellformed
+use Rattle.cp_language.proofs.Problems as wellformed
 use Rattle.cp_app.specs.Headline.{HaveTrees}
 use Rattle.cp_app.specs.Analysis.{HaveFewVariables, IsAnalysable, IsAnalysisOf}
 
@@ -165,7 +165,7 @@ stated_problems [] (p ∷ ps) same = absurd (omega (arith, same))
 stated_problems (f ∷ fs) [] same = absurd (omega (arith, same))
 stated_problems (f ∷ fs) (p ∷ ps) same = ap (λ qs. cons_option (option_map problem_view p) qs) (stated_problems fs ps (omega (arith, same)))
 
-stated_in : (input : Input) (fs : List form.Form) → input.forms.now ≡ fs → length input.problems.items ≡ length fs → filter_map (λ e. e.problem) (entries_of input) ≡ stated input.problems.items
+stated_in : (input : Input) (fs : List form.Form) → input.forms.now ≡ fs → length input.problems.items ≡ length fs → filter_map (λ e. e.problem) (input_entries input) ≡ stated input.problems.items
 stated_in input fs same counted = stated_problems (map view input.forms.now) input.problems.items (counted ∙ ap length (sym same) ∙ sym (length-map input.forms.now view))
 
 in_next : (o : Option Problem) (ps : List Problem) (p : Problem) → IsIn p (cons_option o ps) → (o ≡ Some p) ⊎ IsIn p ps
@@ -186,11 +186,11 @@ analysable_input fs es none same p listed =
       own = wellformed.map_to_themselves fs found.0 p none found.1 found.2;
     }
 
-pub analysable_problems : (input : Input) (fs : List form.Form) → IsInput (views fs) (Ok (entries_of input)) → input.forms.now ≡ fs → length input.problems.items ≡ length fs → (p : Problem) → IsIn p (stated input.problems.items) → IsAnalysable p
-analysable_problems input fs loaded same counted p listed = analysable_input (views fs) (entries_of input) loaded.0 loaded.1 p (rw (sym (stated_in input fs same counted)) at listed)
+pub analysable_problems : (input : Input) (fs : List form.Form) → IsInput (views fs) (Ok (input_entries input)) → input.forms.now ≡ fs → length input.problems.items ≡ length fs → (p : Problem) → IsIn p (stated input.problems.items) → IsAnalysable p
+analysable_problems input fs loaded same counted p listed = analysable_input (views fs) (input_entries input) loaded.0 loaded.1 p (rw (sym (stated_in input fs same counted)) at listed)
 
 pub all_analysed : (limits : Limits) (input : Input) (fs : List form.Form) (ts : List Tree) → input.forms.now ≡ fs → length input.problems.items ≡ length fs → AllZip (IsAnalysisOf limits) (stated input.problems.items) ts
-    → HaveTrees (IsAnalysisOf limits) (entries_of input) ts
+    → HaveTrees (IsAnalysisOf limits) (input_entries input) ts
 all_analysed limits input fs ts same counted all = rw (sym (stated_in input fs same counted)) at all
 
 -- ---- outcomes

@@ -6,8 +6,8 @@ use Rattle.cp_words.specs.Command.{Command}
 use Rattle.cp_app.specs.Commands.{reads}
 
 -- The status says that the whole text was put.
-abbrev pub IsWhole : Status → Type 0
-IsWhole s = (s ≡ Done) ⊎ (s ≡ Limit)
+abbrev pub SaysWhole : Status → Type 0
+SaysWhole s = (s ≡ Done) ⊎ (s ≡ Limit)
 
 -- Whenever the words are this command, this input is left if the command reads, and this stands put before, P holds of the three.
 abbrev pub WheneverGiven : Option Command → Option (List ℕ) → Option (List ℕ) → (Command → List ℕ → List ℕ → Type 0) → Type 0
@@ -25,7 +25,7 @@ pub record HasBrokenOff (Answer : List ℕ → List ℕ → Status → Type 0) (
   pub text : List ℕ
   pub status : Status
   pub put : ℕ
-  pub whole : IsWhole status
+  pub whole : SaysWhole status
   pub shorter : put < length text
   pub at_end : reads command.name ≡ true → left_new ≡ Some []
   pub held : held_new ≡ Some (before ++ take put text)

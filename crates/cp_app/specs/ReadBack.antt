@@ -8,7 +8,7 @@ use Rattle.cp_language.specs.Report.{report_forms}
 use Rattle.cp_report.specs.Laws.{ArePrinted}
 use Rattle.cp_report.specs.ReadBack.{Report}
 use Rattle.cp_report.specs.UpToNames.{IsReport}
-use Rattle.cp_proper.specs.Proper.{AreProper, AreWithinBounds}
+use Rattle.cp_printable.specs.Proper.{AreProper, AreWithinBounds}
 use Rattle.cp_words.specs.declared.command.CommandName.{CommandName}
 use Rattle.cp_words.specs.declared.command.CommandName.TheVariants.{Analyse}
 

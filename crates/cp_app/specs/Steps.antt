@@ -27,9 +27,9 @@ status_of TooLong = status.TooLong
 status_of Memory = status.Memory
 
 -- The cause that an error of the reader is.
-abbrev pub cause_of : ReadError → Stopped
-cause_of (reading.Refused r) = Refused r
-cause_of reading.Memory = Memory
+abbrev pub stopped_by_reader : ReadError → Stopped
+stopped_by_reader (reading.Refused r) = Refused r
+stopped_by_reader reading.Memory = Memory
 
 -- The cause that an error of the loader is.
 abbrev pub cause_of_load : LoadError → Stopped
@@ -81,7 +81,7 @@ HasPut before text held_new (Ok u) = held_new ≡ Some (before ++ text)
 HasPut before text held_new (Err failed) = (n : ℕ) × (n < length text) × (held_new ≡ Some (before ++ take n text))
 
 -- The source was read to its end, and the text of a report of its input was put so.
-pub record HasWritten (command : Command) (input : List ℕ) (left_new held_old held_new : Option (List ℕ)) (complete : Bool) (result : Result (Unit {0}) Failed) : Type 0 where
+pub record HasReportedAll (command : Command) (input : List ℕ) (left_new held_old held_new : Option (List ℕ)) (complete : Bool) (result : Result (Unit {0}) Failed) : Type 0 where
   pub text : List ℕ
   pub report : IsWholeReport command input text complete
   pub at_end : left_new ≡ Some []
@@ -89,12 +89,12 @@ pub record HasWritten (command : Command) (input : List ℕ) (left_new held_old 
 
 -- A report was put in part.
 abbrev pub HasWrittenPart : Command → List ℕ → Option (List ℕ) → Option (List ℕ) → Option (List ℕ) → Type 0
-HasWrittenPart command input left_new held_old held_new = (complete : Bool) × HasWritten command input left_new held_old held_new complete (Err (record {}))
+HasWrittenPart command input left_new held_old held_new = (complete : Bool) × HasReportedAll command input left_new held_old held_new complete (Err (record {}))
 
 -- What a command that reads leaves of its source and of the sink for its output.
 abbrev pub HasEnded : Command → List ℕ → Option (List ℕ) → Option (List ℕ) → Option (List ℕ) → Status → Type 0
-HasEnded command input left_new held_old held_new status.Done = HasWritten command input left_new held_old held_new true (Ok tt)
-HasEnded command input left_new held_old held_new status.Limit = HasWritten command input left_new held_old held_new false (Ok tt)
+HasEnded command input left_new held_old held_new status.Done = HasReportedAll command input left_new held_old held_new true (Ok tt)
+HasEnded command input left_new held_old held_new status.Limit = HasReportedAll command input left_new held_old held_new false (Ok tt)
 HasEnded command input left_new held_old held_new status.WriteFault = HasWrittenPart command input left_new held_old held_new
 HasEnded command input left_new held_old held_new (status.Refused r) = HasRefused command input left_new r
 HasEnded command input left_new held_old held_new status.TooLong = WasTooLong input left_new

@@ -10,8 +10,8 @@ ghost use Rattle.cp_app.specs.Analysis.{HaveFewVariables, IsAnalysable, IsAnalys
 ghost use Rattle.cp_app.specs.Headline.{SaysOutcomes};
 ghost use Rattle.cp_app.specs.Steps.{is_complete, outcomes_status};
 
-use cp_legible::search_trees_can_be_stated;
 use cp_load::Problem;
+use cp_printable::search_trees_can_be_stated;
 use cp_search::search;
 use cp_skel::{Limits, Outcome, Tree, TreeNode};
 use std::alloc::{AllocError, Global};

@@ -4,9 +4,9 @@
 mod analysis;
 mod input;
 mod laws;
+mod main_call;
 mod output;
 mod stopped;
-mod top_call;
 
 pub use laws::{answers_are_reports, well_formed_input_is_accepted};
-pub use top_call::run;
+pub use main_call::run;

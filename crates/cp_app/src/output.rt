@@ -3,7 +3,7 @@ ghost use Rattle.std.specs.Prelude.{◌≡◌, ◌≤◌, ℕ, List, map, Some, 
 ghost use Rattle.std.specs.List.{concat};
 ghost use Rattle.cp_base.specs.declared.status.Status.TheVariants.{Refused};
 ghost use Rattle.cp_base.specs.Outside.{Rose};
-ghost use Rattle.cp_app.specs.Answered.{IsWhole};
+ghost use Rattle.cp_app.specs.Answered.{SaysWhole};
 ghost use Rattle.cp_app.specs.Endings.{HasLine, status_line};
 ghost use Rattle.cp_app.specs.Steps.{HasPut};
 
@@ -74,7 +74,7 @@ fn put_status<O: Sink>(out: &mut O, status: Status) -> Result<(), Failed>
     ensures put { (before : List ℕ) → O.held out.old ≡ Some before
         → HasPut before (status_line status) (O.held out.new) result }
     ensures failed { OnErr result (Rose (O.faults out.old) (O.faults out.new)) }
-    ensures none { IsWhole status → out.new ≡ out.old }
+    ensures none { SaysWhole status → out.new ≡ out.old }
 {
     match status {
         Status::Done | Status::Limit => Ok(()),
@@ -91,7 +91,7 @@ fn put_status<O: Sink>(out: &mut O, status: Status) -> Result<(), Failed>
 pub(crate) fn put_line<E: Sink>(errs: &mut E, status: Status)
     ensures line { (before : List ℕ) → E.held errs.old ≡ Some before
         → HasLine (status_line status) before (E.held errs.new) (E.faults errs.old) (E.faults errs.new) }
-    ensures none { IsWhole status → errs.new ≡ errs.old }
+    ensures none { SaysWhole status → errs.new ≡ errs.old }
 {
     // If the line cannot be put, the status stays the same.
     let _ = put_status(errs, status);

@@ -45,9 +45,9 @@ impl From<AllocError> for Stopped {
 }
 
 impl From<ReadError> for Stopped {
-    ghost use Rattle.cp_app.specs.Steps.{cause_of};
+    ghost use Rattle.cp_app.specs.Steps.{stopped_by_reader};
 
-    ghost from_gives = { λ error cause. cause ≡ cause_of error };
+    ghost from_gives = { λ error cause. cause ≡ stopped_by_reader error };
 
     fn from(error: ReadError) -> Stopped {
         match error {

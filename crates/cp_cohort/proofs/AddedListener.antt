@@ -8,20 +8,20 @@ use Rattle.cp_model.specs.Bundle.{node_at}
 use Rattle.cp_model.specs.declared.node.Node.{Node}
 use Rattle.cp_model.specs.Skeleton.{SkeletonStrand, listener, skeleton_trace_or_none, Skeleton, Before, OrderStep, along_strand_of, along_pair, IsOrderPair}
 use Rattle.cp_model.specs.Tree.{by_added_listener}
-use Rattle.cp_guard.specs.Critical.{IsTest}
-use Rattle.cp_skel.specs.Extensions.{AddsListener}
+use Rattle.cp_theory.specs.Critical.{IsTest}
+use Rattle.cp_model.specs.Extensions.{AddsListener}
 use Rattle.cp_model.specs.Data.{SkeletonData}
 use Rattle.cp_skel.specs.Sound.{IsSound}
 use Rattle.cp_skel.specs.View.{skeleton_view}
-use Rattle.cp_term.specs.declared.path.Step.{Step}
-use Rattle.cp_answers.specs.Covering.{put_before}
+use Rattle.cp_model.specs.declared.step.Step.{Step}
+use Rattle.cp_theory.specs.Covering.{put_before}
 use Rattle.cp_normal.specs.Exact.{HasForms}
-use Rattle.cp_covering.specs.Children.{Child, child}
-use Rattle.cp_covering.specs.Cohort.{Question, Listens}
-use Rattle.cp_cohort.specs.Children.{AreForms}
+use Rattle.cp_cohort.specs.CoveringChildren.{Child, child}
+use Rattle.cp_cohort.specs.Cohort.{GuardedTest, Listens}
+use Rattle.cp_cohort.specs.Children.{AreChildrenOfForms}
 use Rattle.cp_cohort.proofs.GrownReleases.{event_stays, strand_there}
 
-module _ (q : Question) (t : Term) (test : IsTest q.skeleton q.node q.critical) where
+module _ (q : GuardedTest) (t : Term) (test : IsTest q.skeleton q.node q.critical) where
   abbrev heard : Skeleton
   heard = record q.skeleton { strands = q.skeleton.strands ++ listener t ∷ [] }
 
@@ -57,7 +57,7 @@ module _ (q : Question) (t : Term) (test : IsTest q.skeleton q.node q.critical) 
     none_before b = let same : q.node.strand ≡ place = stays b refl in absurd (omega (arith, below, same))
 
   pub listened : (added put : Skeleton) (vs : List Declaration) → AddsListener t q.skeleton added → put ≡ put_before (node_at place 1) q.node added → vs ≡ q.variables → (cs : List Child) →
-      AreForms vs (by_added_listener place) [] put cs → Listens q t cs
+      AreChildrenOfForms vs (by_added_listener place) [] put cs → Listens q t cs
   listened added put vs adds same variables cs f = record {
     added = added;
     adds = adds;
@@ -79,10 +79,10 @@ module _ (q : Question) (t : Term) (test : IsTest q.skeleton q.node q.critical) 
     never_refused sound b =
         none_before sound (subst (λ (k : Skeleton). Before k q.node (node_at place 1)) adds (subst (λ (m : ℕ). Before added q.node (record { strand = m; index = 1 })) number b))
 
-    pub listened_at : (path : List Step) → path ≡ [] → (put : Skeleton) (vs : List Declaration) → put ≡ put_before sent q.node added → vs ≡ q.variables → (cs : List Child) → AreForms vs (by_added_listener n) path put cs → Listens q t cs
+    pub listened_at : (path : List Step) → path ≡ [] → (put : Skeleton) (vs : List Declaration) → put ≡ put_before sent q.node added → vs ≡ q.variables → (cs : List Child) → AreChildrenOfForms vs (by_added_listener n) path put cs → Listens q t cs
     listened_at path none put vs same variables cs f =
-        let at_number : AreForms vs (by_added_listener place) path put cs = subst (λ (m : ℕ). AreForms vs (by_added_listener m) path put cs) number f in
-        let at_start : AreForms vs (by_added_listener place) [] put cs = subst (λ (p : List Step). AreForms vs (by_added_listener place) p put cs) none at_number in
+        let at_number : AreChildrenOfForms vs (by_added_listener place) path put cs = subst (λ (m : ℕ). AreChildrenOfForms vs (by_added_listener m) path put cs) number f in
+        let at_start : AreChildrenOfForms vs (by_added_listener place) [] put cs = subst (λ (p : List Step). AreChildrenOfForms vs (by_added_listener place) p put cs) none at_number in
         listened added put vs adds (same ∙ ap (λ (m : ℕ). put_before (record { strand = m; index = 1 }) q.node added) number) variables cs at_start
 
 -- The listener that is added in a copy.

@@ -6,8 +6,8 @@ use Rattle.cp_model.proofs.Numbers.{numbers_length}
 use Rattle.cp_collapse.proofs.Lowest.{numbers_at}
 use Rattle.cp_lists.specs.Lists.{item_at}
 use Rattle.cp_lists.proofs.Items.{take_to_item}
-use Rattle.cp_covering.specs.GatheredLists.{EachGives, nothing_given, then_given}
-use Rattle.cp_covering.specs.Children.{Child}
+use Rattle.cp_cohort.specs.GatheredLists.{EachGives, nothing_given, then_given}
+use Rattle.cp_cohort.specs.CoveringChildren.{Child}
 use Rattle.cp_cohort.specs.declared.child.Child as program
 use Rattle.cp_cohort.specs.Views.{child_view, PutsChildren}
 

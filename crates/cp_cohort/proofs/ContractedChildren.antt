@@ -6,26 +6,26 @@ use Rattle.cp_model.specs.Identity.{unchanged}
 use Rattle.cp_model.specs.Strand.{Declaration, payload}
 use Rattle.cp_model.specs.Skeleton.{Skeleton, IsNodeOf}
 use Rattle.cp_model.specs.Tree.{by_contraction}
-use Rattle.cp_completeness.specs.Normal.{skeleton_under}
+use Rattle.cp_theory.specs.Normal.{skeleton_under}
 use Rattle.cp_collapse.specs.SameSkeletons.{SaysTheSame}
-use Rattle.cp_guard.specs.Inside.{IsInside}
+use Rattle.cp_theory.specs.Inside.{IsInside}
 use Rattle.cp_normal.specs.Exact.{HasForms}
-use Rattle.cp_match.specs.Candidates.{may_equal}
-use Rattle.cp_match.specs.Unifiers.{UnifiesMostGenerally}
-use Rattle.cp_match.proofs.DifferentTerms as differing
+use Rattle.cp_pattern.specs.Candidates.{may_equal}
+use Rattle.cp_pattern.specs.Unifiers.{UnifiesMostGenerally}
+use Rattle.cp_pattern.proofs.DifferentTerms as differing
 use Rattle.cp_skel.proofs.EventLists.{listed_event}
 use Rattle.cp_model.specs.Data.{SkeletonData}
-use Rattle.cp_skel.specs.Events.{Occurrence, occurrence_view, events_of}
+use Rattle.cp_skel.specs.Events.{LocatedEvent, located_event_view, events_of}
 use Rattle.cp_skel.specs.Trees.{variables_view}
 use Rattle.cp_skel.specs.View.{skeleton_view}
-use Rattle.cp_skel.specs.declared.events.Occurrence as program
-use Rattle.cp_term.specs.declared.path.Step.{Step}
-use Rattle.cp_term.specs.Positions.{term_at, positions_where}
+use Rattle.cp_skel.specs.declared.events.LocatedEvent as program
+use Rattle.cp_model.specs.declared.step.Step.{Step}
+use Rattle.cp_model.specs.Positions.{term_at, positions_where}
 use Rattle.cp_lists.proofs.Mapped.{map_then, map_alike}
-use Rattle.cp_covering.specs.GatheredLists.{EachGives, nothing_given, then_given, AreThoseWith, none_left, taken, left_out}
-use Rattle.cp_covering.specs.Children.{Child, child, IsSentBefore}
-use Rattle.cp_covering.specs.Cohort.{Question, positions, Contracts, never_equal, unified, AreContracted}
-use Rattle.cp_cohort.specs.Children.{AreForms, ContractsEvent, not_before, is_before}
+use Rattle.cp_cohort.specs.GatheredLists.{EachGives, nothing_given, then_given, AreThoseWith, none_left, taken, left_out}
+use Rattle.cp_cohort.specs.CoveringChildren.{Child, child, IsTransmissionBefore}
+use Rattle.cp_cohort.specs.Cohort.{GuardedTest, positions, Contracts, never_equal, unified, AreContracted}
+use Rattle.cp_cohort.specs.Children.{AreChildrenOfForms, ContractsEvent, not_before, is_before}
 use Rattle.cp_cohort.specs.Views.{child_view, child_of, PutsChildren}
 use Rattle.cp_cohort.specs.declared.child.Child as program_child
 use Rattle.cp_cohort.proofs.ChildLists.{gives_all}
@@ -34,12 +34,12 @@ use Rattle.cp_model.specs.Tree.{Operation, Pattern}
 use Rattle.cp_unify.specs.Bindings.{Binding, as_substitution}
 
 -- An event that is listed is at a node.
-pub listed_node : (k : Skeleton) (o : Occurrence) → IsIn o (events_of k) → IsNodeOf k.strands o.node
+pub listed_node : (k : Skeleton) (o : LocatedEvent) → IsIn o (events_of k) → IsNodeOf k.strands o.node
 listed_node k o i = (o.event, listed_event k o i)
 
 -- Normal forms with the variables of a skeleton are children of it.
 pub forms_put : (k : SkeletonData) (ks : List SkeletonData) (operation : Operation) (path : List Step) (old new : List program_child.Child) → ((r : SkeletonData) → IsIn r ks → r.variables ≡ k.variables) →
-    HasForms (skeleton_view k) (map skeleton_view ks) → map child_view new ≡ map child_view old ++ map (child_of operation path) ks → PutsChildren (AreForms (variables_view k.variables) operation path (skeleton_view k)) old new
+    HasForms (skeleton_view k) (map skeleton_view ks) → map child_view new ≡ map child_view old ++ map (child_of operation path) ks → PutsChildren (AreChildrenOfForms (variables_view k.variables) operation path (skeleton_view k)) old new
 forms_put k ks operation path old new same forms p =
     let each : map (child_of operation path) ks ≡ map (λ r. child (variables_view k.variables) operation path (skeleton_view r)) ks =
     map_alike (child_of operation path) (λ r. child (variables_view k.variables) operation path (skeleton_view r)) ks (λ r i. ap (λ vs. child (variables_view vs) operation path (skeleton_view r)) (same r i)) in
@@ -47,36 +47,36 @@ forms_put k ks operation path old new same forms p =
     map_then skeleton_view (child (variables_view k.variables) operation path) (λ r. child (variables_view k.variables) operation path (skeleton_view r)) (λ r. refl) ks in
     record { added = map (child_of operation path) ks; behind = p; given = record { forms = map skeleton_view ks; normal = forms; are_children = each ∙ parts } }
 
-module _ (q : Question) (o : Occurrence) where
+module _ (q : GuardedTest) (o : LocatedEvent) where
   pub contracted_by : (path : List Step) (t : Term) (s : Substitution) (l : Skeleton) (vs : List Declaration) → (IsInside q.patterns unchanged (payload o.event) path → ⊥) → term_at (payload o.event) path ≡ Some t → t ≢ q.critical →
-      UnifiesMostGenerally t q.critical s → SaysTheSame (skeleton_under s q.skeleton) l → vs ≡ q.variables → (cs : List Child) → AreForms vs (by_contraction o.node) path l cs → Contracts q o path cs
+      UnifiesMostGenerally t q.critical s → SaysTheSame (skeleton_under s q.skeleton) l → vs ≡ q.variables → (cs : List Child) → AreChildrenOfForms vs (by_contraction o.node) path l cs → Contracts q o path cs
   contracted_by path t s l vs outside at other u same variables cs f =
       subst (Contracts q o path) (sym (f.are_children ∙ ap (λ ds. map (child ds (by_contraction o.node) path) f.forms) variables)) (unified outside at other u same f.normal)
 
   others_never : (path : List Step) (u : Term) → term_at (payload o.event) path ≡ Some u → may_equal q.critical u ≡ false → Contracts q o path []
   others_never path u at fails = never_equal at (differing.never_equal q.critical u fails)
 
-  pub event_contracted : (paths : List (List Step)) → paths ≡ positions_where (may_equal q.critical) (payload o.event) → IsSentBefore q.skeleton q.node o → (cs : List Child) → EachGives (Contracts q o) paths cs → ContractsEvent q o cs
+  pub event_contracted : (paths : List (List Step)) → paths ≡ positions_where (may_equal q.critical) (payload o.event) → IsTransmissionBefore q.skeleton q.node o → (cs : List Child) → EachGives (Contracts q o) paths cs → ContractsEvent q o cs
   event_contracted paths all before cs e =
       is_before before (wider (may_equal q.critical) (payload o.event) (Contracts q o) others_never cs (subst (λ ps. EachGives (Contracts q o) ps cs) all e))
 
-record Picked (q : Question) (os : List Occurrence) (cs : List Child) : Type 0 where
-  sent : List Occurrence
-  before : AreThoseWith (IsSentBefore q.skeleton q.node) os sent
+record Picked (q : GuardedTest) (os : List LocatedEvent) (cs : List Child) : Type 0 where
+  sent : List LocatedEvent
+  before : AreThoseWith (IsTransmissionBefore q.skeleton q.node) os sent
   each : EachGives (λ o. EachGives (Contracts q o) (positions (payload o.event))) sent cs
 
-module _ (q : Question) where
-  pick_one : (o : Occurrence) (os : List Occurrence) (cs ds : List Child) → ContractsEvent q o cs → Picked q os ds → Picked q (o ∷ os) (cs ++ ds)
+module _ (q : GuardedTest) where
+  pick_one : (o : LocatedEvent) (os : List LocatedEvent) (cs ds : List Child) → ContractsEvent q o cs → Picked q os ds → Picked q (o ∷ os) (cs ++ ds)
   pick_one o os _ ds (not_before fails) p = record { sent = p.sent; before = left_out fails p.before; each = p.each }
   pick_one o os cs ds (is_before holds e) p = record { sent = o ∷ p.sent; before = taken holds p.before; each = then_given e p.each }
 
-  pick : (os : List Occurrence) (cs : List Child) → EachGives (ContractsEvent q) os cs → Picked q os cs
+  pick : (os : List LocatedEvent) (cs : List Child) → EachGives (ContractsEvent q) os cs → Picked q os cs
   pick [] _ nothing_given = record { sent = []; before = none_left; each = nothing_given }
   pick (o ∷ os) _ (then_given {ys = ys} {zs = zs} h rest) = pick_one o os ys zs h (pick os zs rest)
 
-  pub all_contracted : (os : List program.Occurrence) → map occurrence_view os ≡ events_of q.skeleton → (cs : List Child) → EachGives (λ o. ContractsEvent q (occurrence_view o)) os cs → AreContracted q cs
+  pub all_contracted : (os : List program.LocatedEvent) → map located_event_view os ≡ events_of q.skeleton → (cs : List Child) → EachGives (λ o. ContractsEvent q (located_event_view o)) os cs → AreContracted q cs
   all_contracted os all cs e =
-      let p = pick (events_of q.skeleton) cs (subst (λ xs. EachGives (ContractsEvent q) xs cs) all (gives_all (ContractsEvent q) occurrence_view os cs e)) in
+      let p = pick (events_of q.skeleton) cs (subst (λ xs. EachGives (ContractsEvent q) xs cs) all (gives_all (ContractsEvent q) located_event_view os cs e)) in
       record { sent = p.sent; before = p.before; each = p.each }
 
 -- Whether a position is inside, where nothing is substituted.

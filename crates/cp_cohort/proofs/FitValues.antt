@@ -9,15 +9,15 @@ use Rattle.cp_model.specs.Skeleton.{Skeleton}
 use Rattle.cp_model.specs.Tree.{Pattern}
 use Rattle.cp_model.specs.Homomorphism.{substitution_by}
 use Rattle.cp_model.specs.Data.{InstanceData, SkeletonData}
-use Rattle.cp_strand.specs.PrefixVariables.{prefix_variables, added_variables, fits, AreTermsFor}
-use Rattle.cp_skel.specs.Extensions.{AddsStrand, CanExtend, Extends}
+use Rattle.cp_model.specs.PrefixVariables.{prefix_variables, added_variables, fits, AreTermsFor}
+use Rattle.cp_model.specs.Extensions.{AddsStrand, CanExtend, Extends}
 use Rattle.cp_skel.specs.Trees.{variables_view, declared_view}
 use Rattle.cp_skel.specs.View.{skeleton_view}
 use Rattle.cp_skel.proofs.ValuedTerms.{all-added}
-use Rattle.cp_answers.specs.Fresh.{fresh_terms}
-use Rattle.cp_covering.specs.Children.{declarations_of, HasGrown}
-use Rattle.cp_cohort.specs.Children.{IsThere, IsGrown, IsAdded}
-use Rattle.cp_cohort.specs.Views.{question_of}
+use Rattle.cp_theory.specs.Fresh.{fresh_terms}
+use Rattle.cp_cohort.specs.CoveringChildren.{declarations_among, HasGrown}
+use Rattle.cp_cohort.specs.Children.{IsThere, IsGrown, AddsRoleStrand}
+use Rattle.cp_cohort.specs.Views.{guarded_test_of}
 
 -- New variables are of the sorts of those whose places they take.
 fits_its_sort : (s : Sort) (n : ℕ) → fits s (atom_term (atom_of_variable (record { sort = s; number = n }))) ≡ true
@@ -54,13 +54,13 @@ module _ (k : SkeletonData) (h : ℕ) where
         fitting = values_fit (length k.variables) (added_variables i.role i.height h) values are;
       }
 
-      pub grown_by : i.height < h → (j : ℕ) → h ≡ suc j → (grown : SkeletonData) → variables_view declared.variables ≡ variables_view k.variables ++ declarations_of i.role (added_variables i.role i.height h) → Extends s h values (skeleton_view declared) (skeleton_view grown) →
+      pub grown_by : i.height < h → (j : ℕ) → h ≡ suc j → (grown : SkeletonData) → variables_view declared.variables ≡ variables_view k.variables ++ declarations_among i.role (added_variables i.role i.height h) → Extends s h values (skeleton_view declared) (skeleton_view grown) →
           grown.variables ≡ declared.variables → HasGrown s i.role i.height j (variables_view k.variables) (skeleton_view k) (variables_view grown.variables) (skeleton_view grown)
       grown_by higher j is grown more extends kept =
           let vs : List Declaration = variables_view k.variables in
           let terms : values ≡ fresh_terms (length vs) (added_variables i.role i.height (suc j)) = are ∙ ap (λ (m : ℕ). fresh_terms m (added_variables i.role i.height h)) count ∙ ap (λ (m : ℕ). fresh_terms (length vs) (added_variables i.role i.height m)) is in
-          let more_of : variables_view grown.variables ≡ vs ++ declarations_of i.role (added_variables i.role i.height (suc j)) =
-          ap variables_view kept ∙ more ∙ ap (λ (m : ℕ). vs ++ declarations_of i.role (added_variables i.role i.height m)) is in
+          let more_of : variables_view grown.variables ≡ vs ++ declarations_among i.role (added_variables i.role i.height (suc j)) =
+          ap variables_view kept ∙ more ∙ ap (λ (m : ℕ). vs ++ declarations_among i.role (added_variables i.role i.height m)) is in
           let one : Extends s h values (skeleton_view k) (skeleton_view grown) = subst (λ (l : Skeleton). Extends s h values l (skeleton_view grown)) unchanged_view extends in
           let two : Extends s (suc j) values (skeleton_view k) (skeleton_view grown) = subst (λ (m : ℕ). Extends s m values (skeleton_view k) (skeleton_view grown)) is one in
           record { how = inr (omega (arith, higher, is), more_of, subst (λ (us : List Term). Extends s (suc j) us (skeleton_view k) (skeleton_view grown)) terms two) }
@@ -75,21 +75,21 @@ module _ (k : SkeletonData) (h : ℕ) where
           let one : AddsStrand role h values (skeleton_view k) (skeleton_view grown) = subst (λ (l : Skeleton). AddsStrand role h values l (skeleton_view grown)) unchanged_view adds in
           subst (λ (us : List Term). AddsStrand role h us (skeleton_view k) (skeleton_view grown)) terms one
 
-      pub declared_by : (grown : SkeletonData) → variables_view declared.variables ≡ variables_view k.variables ++ declarations_of role (added_variables role 0 h) → grown.variables ≡ declared.variables →
-          variables_view grown.variables ≡ variables_view k.variables ++ declarations_of role (prefix_variables role h)
-      declared_by grown more kept = ap variables_view kept ∙ more ∙ ap (λ xs. variables_view k.variables ++ declarations_of role xs) (all-added role h)
+      pub declared_by : (grown : SkeletonData) → variables_view declared.variables ≡ variables_view k.variables ++ declarations_among role (added_variables role 0 h) → grown.variables ≡ declared.variables →
+          variables_view grown.variables ≡ variables_view k.variables ++ declarations_among role (prefix_variables role h)
+      declared_by grown more kept = ap variables_view kept ∙ more ∙ ap (λ xs. variables_view k.variables ++ declarations_among role xs) (all-added role h)
 
   -- A strand that is high enough stays as it is.
   pub high_enough : (s : ℕ) (i : InstanceData) → h ≤ i.height → (j : ℕ) → h ≡ suc j → HasGrown s i.role i.height j (variables_view k.variables) (skeleton_view k) (variables_view k.variables) (skeleton_view k)
   high_enough s i below j is = record { how = inl (omega (arith, below, is), refl, refl) }
 
--- What has grown in a copy of a question's skeleton, or was added there.
+-- What has grown in a copy of a test's skeleton, or was added there.
 module _ (k : SkeletonData) (n : Node) (c : Term) (ps : List Pattern) (copied : SkeletonData) (same : copied ≡ k) (grown : SkeletonData) where
-  pub grown_in_copy : (s : ℕ) (role : Role) (height j : ℕ) → HasGrown s role height j (variables_view copied.variables) (skeleton_view copied) (variables_view grown.variables) (skeleton_view grown) → IsGrown (question_of k n c ps) s role height j grown
+  pub grown_in_copy : (s : ℕ) (role : Role) (height j : ℕ) → HasGrown s role height j (variables_view copied.variables) (skeleton_view copied) (variables_view grown.variables) (skeleton_view grown) → IsGrown (guarded_test_of k n c ps) s role height j grown
   grown_in_copy s role height j grows = record { grows = subst (λ (l : SkeletonData). HasGrown s role height j (variables_view l.variables) (skeleton_view l) (variables_view grown.variables) (skeleton_view grown)) same grows }
 
   pub added_in_copy : (role : Role) (h j : ℕ) → h ≡ suc j → AddsStrand role h (fresh_terms (length copied.variables) (prefix_variables role h)) (skeleton_view copied) (skeleton_view grown) →
-      variables_view grown.variables ≡ variables_view copied.variables ++ declarations_of role (prefix_variables role h) → IsAdded (question_of k n c ps) role j grown
+      variables_view grown.variables ≡ variables_view copied.variables ++ declarations_among role (prefix_variables role h) → AddsRoleStrand (guarded_test_of k n c ps) role j grown
   added_in_copy role h j is adds more =
       let one : AddsStrand role h (fresh_terms (length k.variables) (prefix_variables role h)) (skeleton_view k) (skeleton_view grown) =
       subst (λ (l : SkeletonData). AddsStrand role h (fresh_terms (length l.variables) (prefix_variables role h)) (skeleton_view l) (skeleton_view grown)) same adds in
@@ -97,5 +97,5 @@ module _ (k : SkeletonData) (n : Node) (c : Term) (ps : List Pattern) (copied : 
       subst (λ (m : ℕ). AddsStrand role h (fresh_terms m (prefix_variables role h)) (skeleton_view k) (skeleton_view grown)) (sym (length-map k.variables declared_view)) one in
       record {
         adds = subst (λ (m : ℕ). AddsStrand role m (fresh_terms (length (variables_view k.variables)) (prefix_variables role m)) (skeleton_view k) (skeleton_view grown)) is two;
-        variables = more ∙ ap (λ (l : SkeletonData). variables_view l.variables ++ declarations_of role (prefix_variables role h)) same ∙ ap (λ (m : ℕ). variables_view k.variables ++ declarations_of role (prefix_variables role m)) is;
+        variables = more ∙ ap (λ (l : SkeletonData). variables_view l.variables ++ declarations_among role (prefix_variables role h)) same ∙ ap (λ (m : ℕ). variables_view k.variables ++ declarations_among role (prefix_variables role m)) is;
       }

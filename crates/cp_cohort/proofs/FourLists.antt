@@ -2,12 +2,12 @@
 use Rattle.std.proofs.Common.{append_assoc, ◌≡◌, List, [], ◌++◌, map, ap, ◌∙◌}
 use Rattle.cp_model.specs.Problem.{numbers_from}
 use Rattle.cp_model.specs.Strand.{Protocol}
-use Rattle.cp_covering.specs.GatheredLists.{EachGives}
-use Rattle.cp_covering.specs.Cohort.{Question, AreContracted, DisplacesStrand, AddsEvent, AreListeners, IsCohort}
+use Rattle.cp_cohort.specs.GatheredLists.{EachGives}
+use Rattle.cp_cohort.specs.Cohort.{GuardedTest, AreContracted, DisplacesStrand, AddsEvent, AreListeners, IsCohort}
 use Rattle.cp_cohort.specs.declared.child.Child as program
 use Rattle.cp_cohort.specs.Views.{child_view, PutsChildren}
 
-pub all_put : (protocol : Protocol) (q : Question) (none one two three four : List program.Child) → none ≡ [] → PutsChildren (AreContracted q) none one → PutsChildren (EachGives (DisplacesStrand q) (numbers_from 0 q.skeleton.strands)) one two →
+pub all_put : (protocol : Protocol) (q : GuardedTest) (none one two three four : List program.Child) → none ≡ [] → PutsChildren (AreContracted q) none one → PutsChildren (EachGives (DisplacesStrand q) (numbers_from 0 q.skeleton.strands)) one two →
     PutsChildren (EachGives (λ role. EachGives (AddsEvent q role) (numbers_from 0 role.trace)) protocol.roles) two three → PutsChildren (AreListeners q) three four → IsCohort protocol q (map child_view four)
 all_put protocol q none one two three four empty a b c d = record {
   contracted = a.added;

@@ -14,13 +14,13 @@ use Rattle.cp_model.specs.Skeleton.{SkeletonStrand, instance, listener, skeleton
 use Rattle.cp_model.specs.Tree.{Operation, by_displacement, by_added_strand}
 use Rattle.cp_model.proofs.LawOrder.{before_wider}
 use Rattle.cp_model.proofs.LawStandings.{event_of_higher}
-use Rattle.cp_guard.specs.Critical.{IsTest}
-use Rattle.cp_completeness.specs.Normal.{skeleton_under}
+use Rattle.cp_theory.specs.Critical.{IsTest}
+use Rattle.cp_theory.specs.Normal.{skeleton_under}
 use Rattle.cp_collapse.specs.SameSkeletons.{SaysTheSame}
-use Rattle.cp_match.specs.Candidates.{may_equal}
-use Rattle.cp_match.specs.Unifiers.{UnifiesMostGenerally, NeverEqual}
-use Rattle.cp_match.proofs.DifferentTerms as differing
-use Rattle.cp_skel.specs.Extensions.{AddsStrand, Extends}
+use Rattle.cp_pattern.specs.Candidates.{may_equal}
+use Rattle.cp_pattern.specs.Unifiers.{UnifiesMostGenerally, NeverEqual}
+use Rattle.cp_pattern.proofs.DifferentTerms as differing
+use Rattle.cp_model.specs.Extensions.{AddsStrand, Extends}
 use Rattle.cp_model.specs.Data.{SkeletonData, InstanceData, StrandData}
 use Rattle.cp_skel.specs.Ordered.{ChangesOrderOnly}
 use Rattle.cp_skel.specs.View.{skeleton_view}
@@ -29,19 +29,19 @@ use Rattle.cp_strand.specs.Shapes.{strand_of_shape}
 use Rattle.cp_strand.specs.declared.strand.StrandShape.{StrandShape}
 use Rattle.cp_strand.specs.declared.strand.StrandShape.TheVariants.{Instance, Listener}
 use Rattle.cp_strand.specs.declared.protocol.Event as program_events
-use Rattle.cp_strand.specs.PrefixVariables.{prefix_variables, added_variables}
-use Rattle.cp_term.specs.declared.path.Step.{Step}
-use Rattle.cp_term.specs.Positions.{term_at, positions_where}
-use Rattle.cp_answers.specs.Covering.{put_before}
-use Rattle.cp_answers.specs.Fresh.{fresh_terms}
-use Rattle.cp_settle.specs.Releases.{Tried}
-use Rattle.cp_settle.specs.Stages.{Settles, on_the_way}
-use Rattle.cp_settle.specs.Views.{tried_view}
-use Rattle.cp_settle.specs.declared.release.Tried as program
-use Rattle.cp_covering.specs.GatheredLists.{EachGives, nothing_given, then_given}
-use Rattle.cp_covering.specs.Children.{Child, child, declarations_of, HasGrown}
-use Rattle.cp_covering.specs.Cohort.{Question, positions, cyclic, never_equal, unified, release_at, DisplacesEvent, is_displaced, AddsAt, AddsEvent, is_added}
-use Rattle.cp_covering.proofs.GrownEvents.{Sends, grown_sends}
+use Rattle.cp_model.specs.PrefixVariables.{prefix_variables, added_variables}
+use Rattle.cp_model.specs.declared.step.Step.{Step}
+use Rattle.cp_model.specs.Positions.{term_at, positions_where}
+use Rattle.cp_theory.specs.Covering.{put_before}
+use Rattle.cp_theory.specs.Fresh.{fresh_terms}
+use Rattle.cp_cohort.specs.Releases.{PartialSolution}
+use Rattle.cp_cohort.specs.Stages.{SolvesRelease, on_the_way}
+use Rattle.cp_cohort.specs.ReleaseViews.{partial_solution_view}
+use Rattle.cp_cohort.specs.declared.release.PartialSolution as program
+use Rattle.cp_cohort.specs.GatheredLists.{EachGives, nothing_given, then_given}
+use Rattle.cp_cohort.specs.CoveringChildren.{Child, child, declarations_among, HasGrown}
+use Rattle.cp_cohort.specs.Cohort.{GuardedTest, positions, cyclic, never_equal, unified, release_at, DisplacesEvent, is_displaced, AddsAt, AddsEvent, is_added}
+use Rattle.cp_cohort.proofs.GrownEvents.{Sends, grown_sends}
 use Rattle.cp_cohort.specs.Children.{ReleasesAt, ReleasesEach, ReleasesPut}
 use Rattle.cp_cohort.specs.Views.{settled_child}
 use Rattle.cp_cohort.proofs.ChildLists.{each_nothing}
@@ -63,7 +63,7 @@ module _ (m n : Node) (k : Skeleton) where
 pub put_there : (old new : SkeletonData) (m n : Node) → ChangesOrderOnly old new → (skeleton_view new).pairs ≡ (skeleton_view old).pairs ++ record { earlier = m; later = n } ∷ [] → skeleton_view new ≡ put_before m n (skeleton_view old)
 put_there old new m n c p = λ i. record { strands = map strand_view (c.strands i); pairs = p i; assumptions = c.assumptions i; from_problem = c.from_problem i }
 
-module _ (q : Question) (vs : List Declaration) (op : Operation) (m : Node) where
+module _ (q : GuardedTest) (vs : List Declaration) (op : Operation) (m : Node) where
   -- One that closes a cycle gives nothing.
   pub nothing_released : (grown : Skeleton) → Before grown q.node m → ReleasesEach q vs op m grown []
   nothing_released grown b t at = each_nothing (ReleasesAt q vs op m grown) (positions t) (λ path. cyclic (closes m q.node grown b))
@@ -72,15 +72,15 @@ module _ (q : Question) (vs : List Declaration) (op : Operation) (m : Node) wher
   pub never_released : (put : Skeleton) (t u : Term) (path : List Step) → term_at t path ≡ Some u → NeverEqual u q.critical → ReleasesPut q vs op m put t path []
   never_released put t u path at never grown same there = never_equal there at never
 
-  pub released_by : (put : Skeleton) (t u : Term) (path : List Step) (s : Substitution) (l : Skeleton) (ws : List Declaration) (settled : List program.Tried) → ((y : Node) → Before put y y → ⊥) → term_at t path ≡ Some u →
+  pub released_by : (put : Skeleton) (t u : Term) (path : List Step) (s : Substitution) (l : Skeleton) (ws : List Declaration) (settled : List program.PartialSolution) → ((y : Node) → Before put y y → ⊥) → term_at t path ≡ Some u →
       UnifiesMostGenerally u q.critical s → SaysTheSame (skeleton_under s put) l → ws ≡ vs →
-      Settles (release_at q m.strand m.index path) on_the_way (record { variables = ws; substitution = s; skeleton = l }) (map tried_view settled) → ReleasesPut q vs op m put t path (map (settled_child op path) settled)
+      SolvesRelease (release_at q m.strand m.index path) on_the_way (record { variables = ws; substitution = s; skeleton = l }) (map partial_solution_view settled) → ReleasesPut q vs op m put t path (map (settled_child op path) settled)
   released_by put t u path s l ws settled acyclic at unifies says variables settles grown same there =
       let free : (y : Node) → Before (put_before m q.node grown) y y → ⊥ = subst (λ (k : Skeleton). (y : Node) → Before k y y → ⊥) same acyclic in
       let says_so : SaysTheSame (skeleton_under s (put_before m q.node grown)) l = subst (λ (k : Skeleton). SaysTheSame (skeleton_under s k) l) same says in
-      let settles_so : Settles (release_at q m.strand m.index path) on_the_way (record { variables = vs; substitution = s; skeleton = l }) (map tried_view settled) =
-      subst (λ (ds : List Declaration). Settles (release_at q m.strand m.index path) on_the_way (record { variables = ds; substitution = s; skeleton = l }) (map tried_view settled)) variables settles in
-      subst (ReleasesAt q vs op m grown path) (sym (map_then tried_view (λ (x : Tried). child x.variables op path x.skeleton) (settled_child op path) (λ x. refl) settled))
+      let settles_so : SolvesRelease (release_at q m.strand m.index path) on_the_way (record { variables = vs; substitution = s; skeleton = l }) (map partial_solution_view settled) =
+      subst (λ (ds : List Declaration). SolvesRelease (release_at q m.strand m.index path) on_the_way (record { variables = ds; substitution = s; skeleton = l }) (map partial_solution_view settled)) variables settles in
+      subst (ReleasesAt q vs op m grown path) (sym (map_then partial_solution_view (λ (x : PartialSolution). child x.variables op path x.skeleton) (settled_child op path) (λ x. refl) settled))
       (unified free there at unifies says_so settles_so)
 
   -- The positions at which what stands may equal the critical term are enough.
@@ -109,7 +109,7 @@ event_stays old new n e keeps at = by_strand (item_at old n.strand) refl
 
 -- ---- displaced
 
-module _ (q : Question) (s : ℕ) (role : Role) (height j : ℕ) (terms : Substitution) (t : Term) (on : item_at q.skeleton.strands s ≡ Some (instance role height terms)) (sent : item_at role.trace j ≡ Some (send t)) where
+module _ (q : GuardedTest) (s : ℕ) (role : Role) (height j : ℕ) (terms : Substitution) (t : Term) (on : item_at q.skeleton.strands s ≡ Some (instance role height terms)) (sent : item_at role.trace j ≡ Some (send t)) where
   module _ (vs : List Declaration) (grown : Skeleton) (grows : HasGrown s role height j q.variables q.skeleton vs grown) where
     abbrev sends_there : Sends grown (node_at s j) t
     sends_there = grown_sends q.variables q.skeleton s role height j terms t on sent vs grown grows
@@ -135,7 +135,7 @@ module _ (q : Question) (s : ℕ) (role : Role) (height j : ℕ) (terms : Substi
 
 -- ---- added
 
-module _ (q : Question) (role : Role) (j : ℕ) (t : Term) (sent : item_at role.trace j ≡ Some (send t)) (grown : Skeleton)
+module _ (q : GuardedTest) (role : Role) (j : ℕ) (t : Term) (sent : item_at role.trace j ≡ Some (send t)) (grown : Skeleton)
     (adds : AddsStrand role (suc j) (fresh_terms (length q.variables) (prefix_variables role (suc j))) q.skeleton grown) where
   abbrev place : Node
   place = node_at (length q.skeleton.strands) j
@@ -159,7 +159,7 @@ module _ (q : Question) (role : Role) (j : ℕ) (t : Term) (sent : item_at role.
     between_strands = other;
   }
 
-  pub added_each : (vs : List Declaration) → vs ≡ q.variables ++ declarations_of role (prefix_variables role (suc j)) → (cs : List Child) → ReleasesEach q vs (by_added_strand (length q.skeleton.strands)) place grown cs → AddsEvent q role j cs
+  pub added_each : (vs : List Declaration) → vs ≡ q.variables ++ declarations_among role (prefix_variables role (suc j)) → (cs : List Child) → ReleasesEach q vs (by_added_strand (length q.skeleton.strands)) place grown cs → AddsEvent q role j cs
   added_each vs same cs r =
       let each : EachGives (ReleasesAt q vs (by_added_strand (length q.skeleton.strands)) place grown) (positions t) cs =
       subst (λ ps. EachGives (ReleasesAt q vs (by_added_strand (length q.skeleton.strands)) place grown) ps cs) (positions_under added_sends.terms t) (r (apply_to added_sends.terms t) added_sends.there) in
@@ -180,7 +180,7 @@ strand_there strands n e at = by_strand (item_at strands n.strand) refl
     by_strand (Some x) is = item_below strands n.strand x is
 
 -- What is released in a grown skeleton that has been put before the node, with its variables.
-pub released_all : (q : Question) (vs : List Declaration) (op : Operation) (m : Node) (put grown : Skeleton) (message : Term) (ws : List Declaration) → ws ≡ vs → put ≡ put_before m q.node grown → ((t : Term) → term_event_at put.strands m ≡ Some (send t) → message ≡ t) →
+pub released_all : (q : GuardedTest) (vs : List Declaration) (op : Operation) (m : Node) (put grown : Skeleton) (message : Term) (ws : List Declaration) → ws ≡ vs → put ≡ put_before m q.node grown → ((t : Term) → term_event_at put.strands m ≡ Some (send t) → message ≡ t) →
     (cs : List Child) → EachGives (ReleasesPut q ws op m put message) (positions_where (may_equal q.critical) message) cs → ReleasesEach q vs op m grown cs
 released_all q vs op m put grown message ws variables same is cs e =
     each_released q vs op m put grown message (positions_where (may_equal q.critical) message) same refl is cs
@@ -201,7 +201,7 @@ module _ (es : List program_events.Event) (trace : List (Event Term)) (same : ma
   pub event_there : (e read : program_events.Event) → read ≡ get_or es i read → read ≡ e → item_at trace i ≡ Some (event_view e)
   event_there e read is same_event = ap (λ (xs : List (Event Term)). item_at xs i) (sym same) ∙ map_of_read event_view es i read is_within is ∙ ap (λ (x : program_events.Event). Some (event_view x)) same_event
 
-module _ (q : Question) (role : Role) (j : ℕ) (t : Term) (sent : item_at role.trace j ≡ Some (send t)) (grown : Skeleton)
+module _ (q : GuardedTest) (role : Role) (j : ℕ) (t : Term) (sent : item_at role.trace j ≡ Some (send t)) (grown : Skeleton)
     (adds : AddsStrand role (suc j) (fresh_terms (length q.variables) (prefix_variables role (suc j))) q.skeleton grown) (n : ℕ) (number : n ≡ length q.skeleton.strands) where
   pub added_pair_at : IsTest q.skeleton q.node q.critical → IsOrderPair grown (record { earlier = record { strand = n; index = j }; later = q.node })
   added_pair_at test =
@@ -209,6 +209,6 @@ module _ (q : Question) (role : Role) (j : ℕ) (t : Term) (sent : item_at role.
       subst (λ (m : ℕ). IsOrderPair grown (record { earlier = record { strand = m; index = j }; later = q.node })) (sym number)
       (added_pair q role j t sent grown adds (λ e. absurd (omega (arith, below, e))) test)
 
-  pub added_at : (vs : List Declaration) → vs ≡ q.variables ++ declarations_of role (prefix_variables role (suc j)) → (cs : List Child) → ReleasesEach q vs (by_added_strand n) (record { strand = n; index = j }) grown cs → AddsEvent q role j cs
+  pub added_at : (vs : List Declaration) → vs ≡ q.variables ++ declarations_among role (prefix_variables role (suc j)) → (cs : List Child) → ReleasesEach q vs (by_added_strand n) (record { strand = n; index = j }) grown cs → AddsEvent q role j cs
   added_at vs same cs r =
       added_each q role j t sent grown adds vs same cs (subst (λ (m : ℕ). ReleasesEach q vs (by_added_strand m) (record { strand = m; index = j }) grown cs) number r)

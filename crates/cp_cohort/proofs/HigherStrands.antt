@@ -9,13 +9,13 @@ use Rattle.cp_model.specs.Strand.{Event, Declaration, Role, prefix_of, variables
 use Rattle.cp_term.specs.Variables.{variable_term}
 use Rattle.cp_model.specs.declared.sort.Sort.{Sort}
 use Rattle.cp_model.specs.declared.sort.Sort.TheVariants as sorts
-use Rattle.cp_strand.specs.PrefixVariables.{declared_variables, is_added, added_variables}
+use Rattle.cp_model.specs.PrefixVariables.{declared_variables, is_added, added_variables}
 use Rattle.cp_strand.specs.View.{sort_view, declaration_view}
 use Rattle.cp_strand.specs.declared.protocol.Declaration as program
 use Rattle.cp_model.specs.Data.{SkeletonData}
 use Rattle.cp_skel.specs.Trees.{variables_view}
-use Rattle.cp_answers.specs.Fresh.{fresh_terms}
-use Rattle.cp_covering.specs.Children.{declaration_onto, declarations_of}
+use Rattle.cp_theory.specs.Fresh.{fresh_terms}
+use Rattle.cp_cohort.specs.CoveringChildren.{declaration_onto, declarations_among}
 use Rattle.cp_cohort.specs.Children.{Declares}
 
 -- A variable as a term.
@@ -94,12 +94,12 @@ module _ (wanted : Variable → Bool) (terms : List Term) (all : List Declaratio
 -- ---- the declarations of variables of a role
 
 module _ (role : Role) (wanted : Variable → Bool) where
-  onto_one : (n : ℕ) (d : Declaration) (xs : List Variable) (ds : List Declaration) → item_at role.variables n ≡ Some d → declarations_of role xs ≡ ds → (b : Bool) →
-      declarations_of role (cond b (record { sort = d.sort; number = n } ∷ xs) xs) ≡ cond b (d ∷ ds) ds
-  onto_one n d xs ds at e true = ap (λ o. declaration_onto o (declarations_of role xs)) at ∙ ap (λ es. d ∷ es) e
+  onto_one : (n : ℕ) (d : Declaration) (xs : List Variable) (ds : List Declaration) → item_at role.variables n ≡ Some d → declarations_among role xs ≡ ds → (b : Bool) →
+      declarations_among role (cond b (record { sort = d.sort; number = n } ∷ xs) xs) ≡ cond b (d ∷ ds) ds
+  onto_one n d xs ds at e true = ap (λ o. declaration_onto o (declarations_among role xs)) at ∙ ap (λ es. d ∷ es) e
   onto_one n d xs ds at e false = e
 
-  of_filtered : (n : ℕ) (ds : List Declaration) → ((j : ℕ) (d : Declaration) → item_at ds j ≡ Some d → item_at role.variables (n + j) ≡ Some d) → declarations_of role (filter wanted (declared_variables n ds)) ≡ declared_from wanted n ds
+  of_filtered : (n : ℕ) (ds : List Declaration) → ((j : ℕ) (d : Declaration) → item_at ds j ≡ Some d → item_at role.variables (n + j) ≡ Some d) → declarations_among role (filter wanted (declared_variables n ds)) ≡ declared_from wanted n ds
   of_filtered n [] h = refl
   of_filtered n (d ∷ ds) h =
       let here : item_at role.variables n ≡ Some d = let e : n + 0 ≡ n = omega arith in subst (λ m. item_at role.variables m ≡ Some d) e (h 0 d refl) in
@@ -107,7 +107,7 @@ module _ (role : Role) (wanted : Variable → Bool) where
       (of_filtered (suc n) ds (λ j c at. let e : n + suc j ≡ suc n + j = omega arith in subst (λ m. item_at role.variables m ≡ Some c) e (h (suc j) c at)))
       (wanted (record { sort = d.sort; number = n }))
 
-  pub declarations_filtered : declarations_of role (filter wanted (declared_variables 0 role.variables)) ≡ declared_from wanted 0 role.variables
+  pub declarations_filtered : declarations_among role (filter wanted (declared_variables 0 role.variables)) ≡ declared_from wanted 0 role.variables
   declarations_filtered = of_filtered 0 role.variables (λ j d at. let e : j ≡ 0 + j = omega arith in subst (λ (m : ℕ). item_at role.variables m ≡ Some d) e at)
 
 -- ---- at the first declaration, and behind the last
@@ -124,7 +124,7 @@ pub all_declared : (role : Role) (before height : ℕ) (earlier prefix : List (E
     IsDeclaredSoFar (tests_for earlier prefix) n (map declaration_view (drop n ds)) (fresh_terms (length old.variables) (filter (tests_for earlier prefix) (declared_variables 0 (map declaration_view ds))))
     (variables_view old.variables ++ declared_from (tests_for earlier prefix) 0 (map declaration_view ds)) old new values →
     (values ≡ fresh_terms (length old.variables) (added_variables role before height))
-    × (variables_view new.variables ≡ variables_view old.variables ++ declarations_of role (added_variables role before height))
+    × (variables_view new.variables ≡ variables_view old.variables ++ declarations_among role (added_variables role before height))
     × (new ≡ record old { variables = new.variables })
 all_declared role before height earlier prefix first second ds all n past old new values h =
     let wanted = tests_for earlier prefix in
@@ -132,8 +132,8 @@ all_declared role before height earlier prefix first second ds all n past old ne
     let same_test : wanted ≡ is_added (variables_of_prefix role before) (variables_of_prefix role height) = ap (λ (es : List (Event Term)). tests_for es prefix) first ∙ ap (λ (es : List (Event Term)). tests_for (prefix_of role before) es) second in
     let filtered : filter wanted (declared_variables 0 (map declaration_view ds)) ≡ added_variables role before height =
     ap (λ (es : List Declaration). filter wanted (declared_variables 0 es)) all ∙ ap (λ (w : Variable → Bool). filter w (declared_variables 0 role.variables)) same_test in
-    let listed : declared_from wanted 0 (map declaration_view ds) ≡ declarations_of role (added_variables role before height) =
-    ap (declared_from wanted 0) all ∙ sym (declarations_filtered role wanted) ∙ ap (λ (w : Variable → Bool). declarations_of role (filter w (declared_variables 0 role.variables))) same_test in (
+    let listed : declared_from wanted 0 (map declaration_view ds) ≡ declarations_among role (added_variables role before height) =
+    ap (declared_from wanted 0) all ∙ sym (declarations_filtered role wanted) ∙ ap (λ (w : Variable → Bool). declarations_among role (filter w (declared_variables 0 role.variables))) same_test in (
       sym (append-nil values) ∙ e.values_all ∙ ap (fresh_terms (length old.variables)) filtered,
       sym (append-nil (variables_view new.variables)) ∙ e.declared_all ∙ ap (λ (zs : List Declaration). variables_view old.variables ++ zs) listed,
       e.rest,

@@ -8,19 +8,19 @@ use Rattle.cp_model.specs.Term.{KeyTerm, key_term, inverse_term, Term, atom_term
 use Rattle.cp_model.specs.Derivable.{DerivableAt}
 use Rattle.cp_derive.specs.Given.{Given, IsDerivable}
 use Rattle.cp_term.specs.Keys.{key_as_term}
-use Rattle.cp_term.specs.Shapes.{IsShapeOf}
+use Rattle.cp_term.specs.Shapes.{HasShape}
 use Rattle.cp_term.specs.declared.shape.Shape.{Shape}
 use Rattle.cp_term.specs.declared.shape.Shape.TheVariants.{Tag, Variable, Inverse, Ltk, Pubk, Pair, Encryption}
 use Rattle.cp_model.specs.declared.sort.Sort.TheVariants as sorts
 use Rattle.cp_model.specs.Tree.{Pattern}
-use Rattle.cp_covering.specs.GatheredLists.{EachGives, nothing_given, has_term, terms_onto}
-use Rattle.cp_covering.specs.Cohort.{Question, FreesCritical, by_key, by_body, by_nothing, OpensPattern, Listens, AreListeners}
-use Rattle.cp_covering.specs.Children.{Child}
+use Rattle.cp_cohort.specs.GatheredLists.{EachGives, nothing_given, has_term, terms_onto}
+use Rattle.cp_cohort.specs.Cohort.{GuardedTest, FreesCritical, by_key, by_body, by_nothing, OpensPattern, Listens, AreListeners}
+use Rattle.cp_cohort.specs.CoveringChildren.{Child}
 use Rattle.cp_cohort.specs.HeardTerms.{FreesOnto, AreHeard}
 use Rattle.cp_cohort.proofs.ChildLists.{one_more}
 
 -- The terms to be heard, where these patterns have been taken.
-pub record IsHeardSoFar (q : Question) (ps : List Pattern) (terms : List Term) : Type 0 where
+pub record IsHeardSoFar (q : GuardedTest) (ps : List Pattern) (terms : List Term) : Type 0 where
   pub frees : List Term
   pub opens : List Term
   pub critical : FreesCritical q frees
@@ -31,7 +31,7 @@ onto_more : (before ts us : List Term) → terms_onto before (ts ++ us) ≡ term
 onto_more before [] us = refl
 onto_more before (t ∷ ts) us = onto_more (if has_term before t then before else before ++ t ∷ []) ts us
 
-module _ (q : Question) where
+module _ (q : GuardedTest) where
   pub heard_first : (terms new : List Term) → terms ≡ [] → FreesOnto q terms new → IsHeardSoFar q [] new
   heard_first terms new none f = record {
     frees = f.frees;
@@ -62,7 +62,7 @@ module _ (q : Question) where
 
 -- ---- encryptions
 
-pub no_encryption : (s : Shape) (t : Term) → IsShapeOf s t → ((b k : Bor Term) → s ≡ Encryption b k → ⊥) → (body : Term) (key : KeyTerm) → t ≡ enc_term body key → ⊥
+pub no_encryption : (s : Shape) (t : Term) → HasShape s t → ((b k : Bor Term) → s ≡ Encryption b k → ⊥) → (body : Term) (key : KeyTerm) → t ≡ enc_term body key → ⊥
 no_encryption (Encryption b k) t is other body key e = other b k refl
 no_encryption (Tag text) t is other body key e = absurd (cc)
 no_encryption (Variable n sorts.Text) t is other body key e = absurd (cc)
@@ -80,7 +80,7 @@ pub opened_by : (p : Pattern) (u inverse : Term) (body key : Term) → u ≡ p.t
 opened_by p u inverse body key same shape inverts =
     record { body = body; key = shape.0; is_pattern = sym same ∙ shape.2; inverse = ap (λ (t : Term). t ∷ []) (inverts shape.0 shape.1) }
 
-module _ (q : Question) (body key : Term) (shape : (k : KeyTerm) × (key ≡ key_as_term k) × (q.critical ≡ enc_term body k)) (derivable : Bool)
+module _ (q : GuardedTest) (body key : Term) (shape : (k : KeyTerm) × (key ≡ key_as_term k) × (q.critical ≡ enc_term body k)) (derivable : Bool)
     (asked : IsTrue derivable ↔ DerivableAt q.skeleton q.node key) (old new : List Term) where
   pub freed_by_body : derivable ≡ true → new ≡ terms_onto old (body ∷ []) → FreesOnto q old new
   freed_by_body holds e = record { frees = body ∷ []; critical = by_body shape.2 (subst (DerivableAt q.skeleton q.node) shape.1 (asked.0 holds)); onto = e }
@@ -92,14 +92,14 @@ module _ (q : Question) (body key : Term) (shape : (k : KeyTerm) × (key ≡ key
     onto = e ∙ ap (λ (t : Term). terms_onto old (t ∷ [])) shape.1;
   }
 
-pub freed_by_nothing : (q : Question) (old : List Term) → ((body : Term) (key : KeyTerm) → q.critical ≢ enc_term body key) → FreesOnto q old old
+pub freed_by_nothing : (q : GuardedTest) (old : List Term) → ((body : Term) (key : KeyTerm) → q.critical ≢ enc_term body key) → FreesOnto q old old
 freed_by_nothing q old other = record { frees = []; critical = by_nothing other; onto = refl }
 
 -- What can be built from what is known at the node can be derived there.
-pub asked_at : (q : Question) (known : Given) (t : Term) → ((u : Term) → IsDerivable known u ↔ DerivableAt q.skeleton q.node u) → (b : Bool) → IsTrue b ↔ IsDerivable known t → IsTrue b ↔ DerivableAt q.skeleton q.node t
+pub asked_at : (q : GuardedTest) (known : Given) (t : Term) → ((u : Term) → IsDerivable known u ↔ DerivableAt q.skeleton q.node u) → (b : Bool) → IsTrue b ↔ IsDerivable known t → IsTrue b ↔ DerivableAt q.skeleton q.node t
 asked_at q known t given b exact = ((λ holds. (given t).0 (exact.0 holds)), (λ d. exact.1 ((given t).1 d)))
 
-pub are_listeners : (q : Question) (terms : List Term) → AreHeard q terms → (items : List Term) → items ≡ terms → (cs : List Child) → EachGives (Listens q) items cs → AreListeners q cs
+pub are_listeners : (q : GuardedTest) (terms : List Term) → AreHeard q terms → (items : List Term) → items ≡ terms → (cs : List Child) → EachGives (Listens q) items cs → AreListeners q cs
 are_listeners q terms h items same cs e = record {
   frees = h.frees;
   opens = h.opens;

@@ -1,46 +1,46 @@
--- What questions and children of the program stand for, and how a list of children grows.
+-- What guarded tests and children of the program stand for, and how a list of children grows.
 use Rattle.std.specs.Prelude.{◌≡◌, List, ◌++◌, map}
 use Rattle.cp_model.specs.Term.{Term}
 use Rattle.cp_model.specs.declared.node.Node.{Node}
 use Rattle.cp_model.specs.Tree.{Operation, by_contraction, by_displacement, by_added_strand, by_added_listener, Pattern}
-use Rattle.cp_term.specs.declared.path.Step.{Step}
+use Rattle.cp_model.specs.declared.step.Step.{Step}
 use Rattle.cp_model.specs.Data.{SkeletonData}
 use Rattle.cp_skel.specs.View.{skeleton_view}
 use Rattle.cp_skel.specs.Trees.{variables_view, operation_view}
-use Rattle.cp_settle.specs.declared.release.Tried as tries
+use Rattle.cp_cohort.specs.declared.release.PartialSolution as tries
 use Rattle.cp_cohort.specs.declared.child.Child as program
 use Rattle.cp_cohort.specs.declared.child.Made.{Made}
 use Rattle.cp_cohort.specs.declared.child.Made.TheVariants as ways
-use Rattle.cp_cohort.specs.declared.question.Question as questions
-use Rattle.cp_covering.specs.Children.{Child, child}
-use Rattle.cp_covering.specs.Cohort.{Question}
+use Rattle.cp_cohort.specs.declared.guarded_test.GuardedTest as questions
+use Rattle.cp_cohort.specs.CoveringChildren.{Child, child}
+use Rattle.cp_cohort.specs.Cohort.{GuardedTest}
 
--- What is asked of a skeleton of the program.
-abbrev pub question_of : SkeletonData → Node → Term → List Pattern → Question
-question_of k n c ps = record { variables = variables_view k.variables; skeleton = skeleton_view k; node = n; critical = c; patterns = ps }
+-- The guarded test of a skeleton of the program.
+abbrev pub guarded_test_of : SkeletonData → Node → Term → List Pattern → GuardedTest
+guarded_test_of k n c ps = record { variables = variables_view k.variables; skeleton = skeleton_view k; node = n; critical = c; patterns = ps }
 
-abbrev pub question_view : questions.Question → Question
-question_view q = question_of q.skeleton.now q.node q.critical.now q.patterns.now
+abbrev pub guarded_test_view : questions.GuardedTest → GuardedTest
+guarded_test_view q = guarded_test_of q.skeleton.now q.node q.critical.now q.patterns.now
 
--- The nodes that lead to the node along the skeleton's pairs were gathered.
-abbrev pub KnowsWhatLeads : questions.Question → Type 0
-KnowsWhatLeads q = q.leading.now ≡ record { pairs = q.skeleton.now.order; node = q.node }
+-- The predecessors of the node along the skeleton's pairs were gathered.
+abbrev pub HasPredecessors : questions.GuardedTest → Type 0
+HasPredecessors q = q.leading.now ≡ record { pairs = q.skeleton.now.order; node = q.node }
 
 abbrev pub child_view : program.Child → Child
 child_view c = child (variables_view c.skeleton.variables) (operation_view c.operation) c.path (skeleton_view c.skeleton)
 
-abbrev pub made_view : Made → Operation
-made_view (ways.Contracted n) = by_contraction n
-made_view (ways.Displaced n) = by_displacement n
-made_view (ways.AddedStrand s) = by_added_strand s
-made_view (ways.AddedListener s) = by_added_listener s
+abbrev pub operation_of_made : Made → Operation
+operation_of_made (ways.Contracted n) = by_contraction n
+operation_of_made (ways.Displaced n) = by_displacement n
+operation_of_made (ways.AddedStrand s) = by_added_strand s
+operation_of_made (ways.AddedListener s) = by_added_listener s
 
 -- The skeleton as a child, made by this operation with this position.
 abbrev pub child_of : Operation → List Step → SkeletonData → Child
 child_of operation path k = child (variables_view k.variables) operation path (skeleton_view k)
 
--- A skeleton that was tried, as a child.
-abbrev pub settled_child : Operation → List Step → tries.Tried → Child
+-- A partial solution, as a child.
+abbrev pub settled_child : Operation → List Step → tries.PartialSolution → Child
 settled_child operation path x = child_of operation path x.skeleton
 
 -- Behind the old children stand those that are given.

@@ -1,14 +1,14 @@
 // Children with an added strand: its last event is put before the node and releases the critical term.
 ghost use Rattle.std.specs.Prelude.{◌<◌, length, OnOk};
-ghost use Rattle.cp_guard.specs.Critical.{IsTest};
+ghost use Rattle.cp_theory.specs.Critical.{IsTest};
 ghost use Rattle.cp_model.specs.Problem.{numbers_from};
-ghost use Rattle.cp_covering.specs.Cohort.{AddsEvent};
-ghost use Rattle.cp_covering.specs.GatheredLists.{EachGives};
-ghost use Rattle.cp_cohort.specs.Views.{question_view, PutsChildren};
+ghost use Rattle.cp_cohort.specs.Cohort.{AddsEvent};
+ghost use Rattle.cp_cohort.specs.GatheredLists.{EachGives};
+ghost use Rattle.cp_cohort.specs.Views.{guarded_test_view, PutsChildren};
 
 use crate::child::{Child, Made};
 use crate::grown_skeletons::with_strand;
-use crate::question::Question;
+use crate::guarded_test::GuardedTest;
 use crate::releases::release;
 use crate::transmissions::is_sent;
 use cp_skel::{Node, Protocol, Role};
@@ -18,25 +18,25 @@ use std::rc::Rc;
 /// Appends the children for a new strand that ends with this event of the role.
 fn add_event(
     alloc: Global,
-    question: &Question,
+    guarded_test: &GuardedTest,
     role: &Rc<Role>,
     index: usize,
     children: &mut Vec<Child>,
 ) -> Result<(), AllocError>
-    requires test { IsTest (question_view question.now).skeleton (question_view question.now).node (question_view question.now).critical }
+    requires test { IsTest (guarded_test_view guarded_test.now).skeleton (guarded_test_view guarded_test.now).node (guarded_test_view guarded_test.now).critical }
     requires reached { index < length role.now.value.trace }
-    ensures { OnOk result (PutsChildren (AddsEvent (question_view question.now) role.now.value index) children.old.items children.new.items) }
+    ensures { OnOk result (PutsChildren (AddsEvent (guarded_test_view guarded_test.now) role.now.value index) children.old.items children.new.items) }
 {
     if !is_sent(role, index) {
         return Ok(());
     }
-    let strand = question.skeleton.strands().len();
+    let strand = guarded_test.skeleton.strands().len();
     let node = Node { strand, index };
     let height = index + 1;
-    let grown = with_strand(alloc, question, role, height)?;
+    let grown = with_strand(alloc, guarded_test, role, height)?;
     release(
         alloc,
-        question,
+        guarded_test,
         grown,
         node,
         Made::AddedStrand(strand),
@@ -47,16 +47,16 @@ fn add_event(
 /// Appends the children for a new strand of the role, event by event.
 fn add_role(
     alloc: Global,
-    question: &Question,
+    guarded_test: &GuardedTest,
     role: &Rc<Role>,
     children: &mut Vec<Child>,
 ) -> Result<(), AllocError>
-    requires test { IsTest (question_view question.now).skeleton (question_view question.now).node (question_view question.now).critical }
-    ensures { OnOk result (PutsChildren (EachGives (AddsEvent (question_view question.now) role.now.value) (numbers_from 0 role.now.value.trace)) children.old.items children.new.items) }
+    requires test { IsTest (guarded_test_view guarded_test.now).skeleton (guarded_test_view guarded_test.now).node (guarded_test_view guarded_test.now).critical }
+    ensures { OnOk result (PutsChildren (EachGives (AddsEvent (guarded_test_view guarded_test.now) role.now.value) (numbers_from 0 role.now.value.trace)) children.old.items children.new.items) }
 {
     let events = role.trace();
     for index in 0..events.len() {
-        add_event(alloc, question, role, index, children)?;
+        add_event(alloc, guarded_test, role, index, children)?;
     }
     Ok(())
 }
@@ -65,15 +65,15 @@ fn add_role(
 pub(crate) fn add(
     alloc: Global,
     protocol: &Protocol,
-    question: &Question,
+    guarded_test: &GuardedTest,
     children: &mut Vec<Child>,
 ) -> Result<(), AllocError>
-    requires test { IsTest (question_view question.now).skeleton (question_view question.now).node (question_view question.now).critical }
-    ensures { OnOk result (PutsChildren (EachGives (λ role. EachGives (AddsEvent (question_view question.now) role) (numbers_from 0 role.trace)) protocol.now.roles) children.old.items children.new.items) }
+    requires test { IsTest (guarded_test_view guarded_test.now).skeleton (guarded_test_view guarded_test.now).node (guarded_test_view guarded_test.now).critical }
+    ensures { OnOk result (PutsChildren (EachGives (λ role. EachGives (AddsEvent (guarded_test_view guarded_test.now) role) (numbers_from 0 role.trace)) protocol.now.roles) children.old.items children.new.items) }
 {
     let all = protocol.roles();
     for role in all {
-        add_role(alloc, question, role, children)?;
+        add_role(alloc, guarded_test, role, children)?;
     }
     Ok(())
 }

@@ -2,9 +2,9 @@
 ghost use Rattle.std.specs.Prelude.{◌≡◌, ◌++◌, ◌∷◌, [], map, IfOk, OnOk};
 ghost use Rattle.cp_model.specs.Data.{SkeletonData};
 ghost use Rattle.cp_skel.specs.Trees.{operation_view};
-ghost use Rattle.cp_cohort.specs.Views.{child_view, made_view, child_of};
+ghost use Rattle.cp_cohort.specs.Views.{child_view, operation_of_made, child_of};
 
-use cp_settle::Tried;
+use crate::PartialSolution;
 use cp_skel::{Node, Operation, Skeleton};
 use cp_term::Path;
 use std::alloc::AllocError;
@@ -30,7 +30,7 @@ pub(crate) enum Made {
 impl Made {
     /// The operation, as a report names it.
     fn operation(self) -> Operation
-        ensures { operation_view result ≡ made_view self }
+        ensures { operation_view result ≡ operation_of_made self }
     {
         match self {
             Made::Contracted(node) => Operation::Contracted(node),
@@ -43,7 +43,7 @@ impl Made {
 
 /// Makes a child of a skeleton.
 fn as_child(skeleton: Skeleton, made: Made, path: &Path) -> Result<Child, AllocError>
-    ensures { IfOk result (λ c. child_view c ≡ child_of (made_view made) path.now skeleton) }
+    ensures { IfOk result (λ c. child_view c ≡ child_of (operation_of_made made) path.now skeleton) }
 {
     let path = path.copy()?;
     Ok(Child {
@@ -60,7 +60,7 @@ fn put_child(
     path: &Path,
     children: &mut Vec<Child>,
 ) -> Result<(), AllocError>
-    ensures { OnOk result (map child_view children.new.items ≡ map child_view children.old.items ++ child_of (made_view made) path.now skeleton ∷ []) }
+    ensures { OnOk result (map child_view children.new.items ≡ map child_view children.old.items ++ child_of (operation_of_made made) path.now skeleton ∷ []) }
 {
     let child = as_child(skeleton, made, path)?;
     children.push(child)?;
@@ -85,7 +85,7 @@ impl HasSkeleton for Skeleton {
     }
 }
 
-impl HasSkeleton for Tried {
+impl HasSkeleton for PartialSolution {
     ghost skeleton = { λ x. x.skeleton };
 
     fn into_skeleton(self) -> Skeleton {
@@ -101,7 +101,7 @@ pub(crate) fn put_children<T: HasSkeleton + Drop>(
     children: &mut Vec<Child>,
 ) -> Result<(), AllocError>
     ensures { OnOk result (map child_view children.new.items ≡ map child_view children.old.items
-        ++ map (λ x. child_of (made_view made) path.now (T.skeleton x)) made_of.items) }
+        ++ map (λ x. child_of (operation_of_made made) path.now (T.skeleton x)) made_of.items) }
 {
     let mut rest = made_of;
     rest.reverse();

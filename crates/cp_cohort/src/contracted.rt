@@ -1,22 +1,22 @@
 // Contracted children: a term at a position of an earlier transmission is unified with the critical term.
 ghost use Rattle.std.specs.Prelude.{◌↔◌, IsTrue, IfOk, OnOk};
-ghost use Rattle.cp_guard.specs.Inside.{IsInside};
+ghost use Rattle.cp_theory.specs.Inside.{IsInside};
 ghost use Rattle.cp_model.specs.Identity.{unchanged};
 ghost use Rattle.cp_model.specs.Skeleton.{IsNodeOf};
 ghost use Rattle.cp_model.specs.Strand.{payload};
-ghost use Rattle.cp_skel.specs.Events.{occurrence_view};
+ghost use Rattle.cp_skel.specs.Events.{located_event_view};
 ghost use Rattle.cp_skel.specs.Trees.{variables_view};
 ghost use Rattle.cp_skel.specs.View.{skeleton_view};
-ghost use Rattle.cp_covering.specs.Cohort.{Contracts, AreContracted};
-ghost use Rattle.cp_cohort.specs.Children.{AreForms, ContractsEvent, IsPosition};
-ghost use Rattle.cp_cohort.specs.Views.{question_view, made_view, KnowsWhatLeads, PutsChildren};
+ghost use Rattle.cp_cohort.specs.Cohort.{Contracts, AreContracted};
+ghost use Rattle.cp_cohort.specs.Children.{AreChildrenOfForms, ContractsEvent, IsPosition};
+ghost use Rattle.cp_cohort.specs.Views.{guarded_test_view, operation_of_made, HasPredecessors, PutsChildren};
 
 use crate::child::{Child, Made, put_children};
-use crate::question::Question;
-use cp_covering::is_sent_before;
-use cp_match::{is_inside, positions_for, unifier};
+use crate::guarded_test::GuardedTest;
+use crate::is_sent_before;
 use cp_normal::{normalise, under};
-use cp_skel::{Occurrence, Skeleton};
+use cp_pattern::{is_inside, positions_for, unifier};
+use cp_skel::{LocatedEvent, Skeleton};
 use cp_term::{Path, Term, at};
 use cp_unify::Subst;
 use std::alloc::{AllocError, Global};
@@ -29,50 +29,56 @@ pub(crate) fn put_forms(
     path: &Path,
     children: &mut Vec<Child>,
 ) -> Result<(), AllocError>
-    ensures { OnOk result (PutsChildren (AreForms (variables_view skeleton.variables) (made_view made) path.now (skeleton_view skeleton)) children.old.items children.new.items) }
+    ensures { OnOk result (PutsChildren (AreChildrenOfForms (variables_view skeleton.variables) (operation_of_made made) path.now (skeleton_view skeleton)) children.old.items children.new.items) }
 {
     let forms = normalise(alloc, skeleton)?;
     put_children(forms, made, path, children)
 }
 
-/// Whether a position of a message lies inside the question's patterns.
+/// Whether a position of a message lies inside the test's patterns.
 fn is_guarded(
     alloc: Global,
-    question: &Question,
+    guarded_test: &GuardedTest,
     message: &Term,
     path: &Path,
 ) -> Result<bool, AllocError>
-    ensures { IfOk result (λ answer. IsTrue answer ↔ IsInside (question_view question.now).patterns unchanged message.now path.now) }
+    ensures { IfOk result (λ answer. IsTrue answer ↔ IsInside (guarded_test_view guarded_test.now).patterns unchanged message.now path.now) }
 {
     let nothing = Subst::new(alloc);
-    is_inside(alloc, question.patterns, &nothing, message, path.as_slice())
+    is_inside(
+        alloc,
+        guarded_test.patterns,
+        &nothing,
+        message,
+        path.as_slice(),
+    )
 }
 
 /// Appends the children for one position of an earlier transmission.
 fn contract_at(
     alloc: Global,
-    question: &Question,
-    occurrence: &Occurrence,
+    guarded_test: &GuardedTest,
+    occurrence: &LocatedEvent,
     path: &Path,
     children: &mut Vec<Child>,
 ) -> Result<(), AllocError>
-    requires { IsPosition (payload (occurrence_view occurrence.now).event) path.now }
-    ensures { OnOk result (PutsChildren (Contracts (question_view question.now) (occurrence_view occurrence.now) path.now) children.old.items children.new.items) }
+    requires { IsPosition (payload (located_event_view occurrence.now).event) path.now }
+    ensures { OnOk result (PutsChildren (Contracts (guarded_test_view guarded_test.now) (located_event_view occurrence.now) path.now) children.old.items children.new.items) }
 {
     let message = occurrence.event.payload();
-    if is_guarded(alloc, question, message, path)? {
+    if is_guarded(alloc, guarded_test, message, path)? {
         return Ok(());
     }
     let Some(term) = at(message, path) else {
         unreachable!();
     };
-    if term.same(question.critical) {
+    if term.same(guarded_test.critical) {
         return Ok(());
     }
-    let Some(s) = unifier(alloc, term, question.critical)? else {
+    let Some(s) = unifier(alloc, term, guarded_test.critical)? else {
         return Ok(());
     };
-    let skeleton = under(alloc, question.skeleton, &s)?;
+    let skeleton = under(alloc, guarded_test.skeleton, &s)?;
     put_forms(
         alloc,
         skeleton,
@@ -85,25 +91,25 @@ fn contract_at(
 /// Appends the contracted children for one event.
 fn contract_event(
     alloc: Global,
-    question: &Question,
-    occurrence: &Occurrence,
+    guarded_test: &GuardedTest,
+    occurrence: &LocatedEvent,
     children: &mut Vec<Child>,
 ) -> Result<(), AllocError>
-    requires there { IsNodeOf (question_view question.now).skeleton.strands (question_view question.now).node }
-    requires gathered { KnowsWhatLeads question.now }
-    ensures { OnOk result (PutsChildren (ContractsEvent (question_view question.now) (occurrence_view occurrence.now)) children.old.items children.new.items) }
+    requires there { IsNodeOf (guarded_test_view guarded_test.now).skeleton.strands (guarded_test_view guarded_test.now).node }
+    requires gathered { HasPredecessors guarded_test.now }
+    ensures { OnOk result (PutsChildren (ContractsEvent (guarded_test_view guarded_test.now) (located_event_view occurrence.now)) children.old.items children.new.items) }
 {
     if !is_sent_before(
-        question.skeleton,
-        question.leading,
-        question.node,
+        guarded_test.skeleton,
+        guarded_test.leading,
+        guarded_test.node,
         occurrence,
     ) {
         return Ok(());
     }
-    let paths = positions_for(alloc, occurrence.event.payload(), question.critical)?;
+    let paths = positions_for(alloc, occurrence.event.payload(), guarded_test.critical)?;
     for path in &paths {
-        contract_at(alloc, question, occurrence, path, children)?;
+        contract_at(alloc, guarded_test, occurrence, path, children)?;
     }
     Ok(())
 }
@@ -111,16 +117,16 @@ fn contract_event(
 /// Appends all contracted children.
 pub(crate) fn contract(
     alloc: Global,
-    question: &Question,
+    guarded_test: &GuardedTest,
     children: &mut Vec<Child>,
 ) -> Result<(), AllocError>
-    requires there { IsNodeOf (question_view question.now).skeleton.strands (question_view question.now).node }
-    requires gathered { KnowsWhatLeads question.now }
-    ensures { OnOk result (PutsChildren (AreContracted (question_view question.now)) children.old.items children.new.items) }
+    requires there { IsNodeOf (guarded_test_view guarded_test.now).skeleton.strands (guarded_test_view guarded_test.now).node }
+    requires gathered { HasPredecessors guarded_test.now }
+    ensures { OnOk result (PutsChildren (AreContracted (guarded_test_view guarded_test.now)) children.old.items children.new.items) }
 {
-    let occurrences = question.skeleton.events(alloc)?;
+    let occurrences = guarded_test.skeleton.events(alloc)?;
     for occurrence in &occurrences {
-        contract_event(alloc, question, occurrence, children)?;
+        contract_event(alloc, guarded_test, occurrence, children)?;
     }
     Ok(())
 }

@@ -1,17 +1,17 @@
 // Displaced children: an event of an existing strand is put before the node and releases the critical term.
 ghost use Rattle.std.specs.Prelude.{◌≡◌, ◌≢◌, ◌<◌, Some, length, OnOk};
-ghost use Rattle.cp_guard.specs.Critical.{IsTest};
+ghost use Rattle.cp_theory.specs.Critical.{IsTest};
 ghost use Rattle.cp_model.specs.Problem.{numbers_from};
 ghost use Rattle.cp_lists.specs.Lists.{item_at};
 ghost use Rattle.cp_strand.specs.View.{strand_view};
-ghost use Rattle.cp_covering.specs.Cohort.{DisplacesEvent, DisplacesStrand};
+ghost use Rattle.cp_cohort.specs.Cohort.{DisplacesEvent, DisplacesStrand};
 ghost use Rattle.cp_cohort.specs.Children.{IsThere};
-ghost use Rattle.cp_covering.specs.GatheredLists.{EachGives};
-ghost use Rattle.cp_cohort.specs.Views.{question_view, KnowsWhatLeads, PutsChildren};
+ghost use Rattle.cp_cohort.specs.GatheredLists.{EachGives};
+ghost use Rattle.cp_cohort.specs.Views.{guarded_test_view, HasPredecessors, PutsChildren};
 
 use crate::child::{Child, Made};
 use crate::grown_skeletons::with_events;
-use crate::question::Question;
+use crate::guarded_test::GuardedTest;
 use crate::releases::release;
 use crate::transmissions::is_sent;
 use cp_skel::{Instance, Node, Strand, StrandShape, comes_before};
@@ -20,31 +20,36 @@ use std::alloc::{AllocError, Global};
 /// Appends the children for one event of the role of the instance on this strand.
 fn displace_event(
     alloc: Global,
-    question: &Question,
+    guarded_test: &GuardedTest,
     strand: usize,
     instance: &Instance,
     index: usize,
     children: &mut Vec<Child>,
 ) -> Result<(), AllocError>
-    requires test { IsTest (question_view question.now).skeleton (question_view question.now).node (question_view question.now).critical }
-    requires gathered { KnowsWhatLeads question.now }
-    requires there { IsThere (question_view question.now).skeleton strand instance.now }
-    requires other { strand ≢ (question_view question.now).node.strand }
+    requires test { IsTest (guarded_test_view guarded_test.now).skeleton (guarded_test_view guarded_test.now).node (guarded_test_view guarded_test.now).critical }
+    requires gathered { HasPredecessors guarded_test.now }
+    requires there { IsThere (guarded_test_view guarded_test.now).skeleton strand instance.now }
+    requires other { strand ≢ (guarded_test_view guarded_test.now).node.strand }
     requires reached { index < length instance.now.role.trace }
-    ensures { OnOk result (PutsChildren (DisplacesEvent (question_view question.now) strand instance.now.role instance.now.height index) children.old.items children.new.items) }
+    ensures { OnOk result (PutsChildren (DisplacesEvent (guarded_test_view guarded_test.now) strand instance.now.role instance.now.height index) children.old.items children.new.items) }
 {
     if !is_sent(instance.role(), index) {
         return Ok(());
     }
     let node = Node { strand, index };
-    if comes_before(question.skeleton, question.leading, node, question.node) {
+    if comes_before(
+        guarded_test.skeleton,
+        guarded_test.leading,
+        node,
+        guarded_test.node,
+    ) {
         return Ok(());
     }
     let height = index + 1;
-    let grown = with_events(alloc, question, strand, instance, height)?;
+    let grown = with_events(alloc, guarded_test, strand, instance, height)?;
     release(
         alloc,
-        question,
+        guarded_test,
         grown,
         node,
         Made::Displaced(node),
@@ -55,25 +60,25 @@ fn displace_event(
 /// Appends the displaced children for one strand.
 fn displace_strand(
     alloc: Global,
-    question: &Question,
+    guarded_test: &GuardedTest,
     number: usize,
     strand: &Strand,
     children: &mut Vec<Child>,
 ) -> Result<(), AllocError>
-    requires test { IsTest (question_view question.now).skeleton (question_view question.now).node (question_view question.now).critical }
-    requires gathered { KnowsWhatLeads question.now }
-    requires there { item_at (question_view question.now).skeleton.strands number ≡ Some (strand_view strand.now) }
-    ensures { OnOk result (PutsChildren (DisplacesStrand (question_view question.now) number) children.old.items children.new.items) }
+    requires test { IsTest (guarded_test_view guarded_test.now).skeleton (guarded_test_view guarded_test.now).node (guarded_test_view guarded_test.now).critical }
+    requires gathered { HasPredecessors guarded_test.now }
+    requires there { item_at (guarded_test_view guarded_test.now).skeleton.strands number ≡ Some (strand_view strand.now) }
+    ensures { OnOk result (PutsChildren (DisplacesStrand (guarded_test_view guarded_test.now) number) children.old.items children.new.items) }
 {
     let StrandShape::Instance(instance) = strand.shape() else {
         return Ok(());
     };
-    if number == question.node.strand {
+    if number == guarded_test.node.strand {
         return Ok(());
     }
     let events = instance.role().trace();
     for index in 0..events.len() {
-        displace_event(alloc, question, number, instance, index, children)?;
+        displace_event(alloc, guarded_test, number, instance, index, children)?;
     }
     Ok(())
 }
@@ -81,15 +86,15 @@ fn displace_strand(
 /// Appends all displaced children.
 pub(crate) fn displace(
     alloc: Global,
-    question: &Question,
+    guarded_test: &GuardedTest,
     children: &mut Vec<Child>,
 ) -> Result<(), AllocError>
-    requires test { IsTest (question_view question.now).skeleton (question_view question.now).node (question_view question.now).critical }
-    requires gathered { KnowsWhatLeads question.now }
-    ensures { OnOk result (PutsChildren (EachGives (DisplacesStrand (question_view question.now)) (numbers_from 0 (question_view question.now).skeleton.strands)) children.old.items children.new.items) }
+    requires test { IsTest (guarded_test_view guarded_test.now).skeleton (guarded_test_view guarded_test.now).node (guarded_test_view guarded_test.now).critical }
+    requires gathered { HasPredecessors guarded_test.now }
+    ensures { OnOk result (PutsChildren (EachGives (DisplacesStrand (guarded_test_view guarded_test.now)) (numbers_from 0 (guarded_test_view guarded_test.now).skeleton.strands)) children.old.items children.new.items) }
 {
-    for (number, strand) in question.skeleton.strands().iter().enumerate() {
-        displace_strand(alloc, question, number, strand, children)?;
+    for (number, strand) in guarded_test.skeleton.strands().iter().enumerate() {
+        displace_strand(alloc, guarded_test, number, strand, children)?;
     }
     Ok(())
 }

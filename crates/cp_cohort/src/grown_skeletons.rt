@@ -2,16 +2,16 @@
 ghost use Rattle.std.specs.Prelude.{◌≡◌, ◌++◌, ◌≤◌, ℕ, suc, length, map, IfOk, OnOk};
 ghost use Rattle.cp_model.specs.Strand.{IsHeight, variables_of_trace};
 ghost use Rattle.cp_skel.specs.Trees.{variables_view};
-ghost use Rattle.cp_skel.specs.Extensions.{AddsStrand};
+ghost use Rattle.cp_model.specs.Extensions.{AddsStrand};
 ghost use Rattle.cp_skel.specs.View.{skeleton_view};
-ghost use Rattle.cp_strand.specs.PrefixVariables.{is_added, added_variables, prefix_variables};
+ghost use Rattle.cp_model.specs.PrefixVariables.{is_added, added_variables, prefix_variables};
 ghost use Rattle.cp_strand.specs.View.{sort_view, declaration_view, event_view};
-ghost use Rattle.cp_answers.specs.Fresh.{fresh_terms};
-ghost use Rattle.cp_covering.specs.Children.{declarations_of, HasGrown};
-ghost use Rattle.cp_cohort.specs.Children.{Declares, IsThere, IsGrown, IsAdded};
-ghost use Rattle.cp_cohort.specs.Views.{question_view};
+ghost use Rattle.cp_theory.specs.Fresh.{fresh_terms};
+ghost use Rattle.cp_cohort.specs.CoveringChildren.{declarations_among, HasGrown};
+ghost use Rattle.cp_cohort.specs.Children.{Declares, IsThere, IsGrown, AddsRoleStrand};
+ghost use Rattle.cp_cohort.specs.Views.{guarded_test_view};
 
-use crate::question::Question;
+use crate::guarded_test::GuardedTest;
 use cp_skel::{Declaration, Event, Instance, Role, Skeleton, occurs, prefix_of};
 use cp_term::{Sort, Term, VarId, var};
 use std::alloc::{AllocError, Global};
@@ -50,7 +50,7 @@ fn declare_added(
     k: &mut Skeleton,
 ) -> Result<Vec<Term>, AllocError>
     ensures values { IfOk result (λ v. v.items ≡ fresh_terms (length k.old.variables) (added_variables role.now before height)) }
-    ensures declared { OnOk result (variables_view k.new.variables ≡ variables_view k.old.variables ++ declarations_of role.now (added_variables role.now before height)) }
+    ensures declared { OnOk result (variables_view k.new.variables ≡ variables_view k.old.variables ++ declarations_among role.now (added_variables role.now before height)) }
     ensures rest { OnOk result (k.new ≡ record k.old { variables = k.new.variables }) }
 {
     let earlier = prefix_of(role, before);
@@ -96,7 +96,7 @@ fn add_instance(
 ) -> Result<(), AllocError>
     requires height { IsHeight role.now.value height }
     ensures adds { OnOk result (AddsStrand role.now.value height (fresh_terms (length k.old.variables) (prefix_variables role.now.value height)) (skeleton_view k.old) (skeleton_view k.new)) }
-    ensures variables { OnOk result (variables_view k.new.variables ≡ variables_view k.old.variables ++ declarations_of role.now.value (prefix_variables role.now.value height)) }
+    ensures variables { OnOk result (variables_view k.new.variables ≡ variables_view k.old.variables ++ declarations_among role.now.value (prefix_variables role.now.value height)) }
 {
     let values = declare_added(alloc, role, 0, height, k)?;
     let _ = k.add_strand(alloc, role, height, &values)?;
@@ -120,19 +120,19 @@ fn grown_to(
     Ok(k)
 }
 
-/// The question's skeleton with the instance on this strand at least this high.
+/// The test's skeleton with the instance on this strand at least this high.
 pub(crate) fn with_events(
     alloc: Global,
-    question: &Question,
+    guarded_test: &GuardedTest,
     strand: usize,
     instance: &Instance,
     height: usize,
 ) -> Result<Skeleton, AllocError>
-    requires there { IsThere (question_view question.now).skeleton strand instance.now }
+    requires there { IsThere (guarded_test_view guarded_test.now).skeleton strand instance.now }
     requires reached { height ≤ length instance.now.role.trace }
-    ensures { IfOk result (λ k. (j : ℕ) → height ≡ suc j → IsGrown (question_view question.now) strand instance.now.role instance.now.height j k) }
+    ensures { IfOk result (λ k. (j : ℕ) → height ≡ suc j → IsGrown (guarded_test_view guarded_test.now) strand instance.now.role instance.now.height j k) }
 {
-    let copied = question.skeleton.copy(alloc)?;
+    let copied = guarded_test.skeleton.copy(alloc)?;
     grown_to(alloc, strand, instance, height, copied)
 }
 
@@ -145,22 +145,22 @@ fn with_instance(
 ) -> Result<Skeleton, AllocError>
     requires height { IsHeight role.now.value height }
     ensures { IfOk result (λ l. AddsStrand role.now.value height (fresh_terms (length k.variables) (prefix_variables role.now.value height)) (skeleton_view k) (skeleton_view l)
-        × (variables_view l.variables ≡ variables_view k.variables ++ declarations_of role.now.value (prefix_variables role.now.value height))) }
+        × (variables_view l.variables ≡ variables_view k.variables ++ declarations_among role.now.value (prefix_variables role.now.value height))) }
 {
     add_instance(alloc, role, height, &mut k)?;
     Ok(k)
 }
 
-/// The question's skeleton with one more strand of the role, of this height.
+/// The test's skeleton with one more strand of the role, of this height.
 pub(crate) fn with_strand(
     alloc: Global,
-    question: &Question,
+    guarded_test: &GuardedTest,
     role: &Rc<Role>,
     height: usize,
 ) -> Result<Skeleton, AllocError>
     requires height { IsHeight role.now.value height }
-    ensures { IfOk result (λ k. (j : ℕ) → height ≡ suc j → IsAdded (question_view question.now) role.now.value j k) }
+    ensures { IfOk result (λ k. (j : ℕ) → height ≡ suc j → AddsRoleStrand (guarded_test_view guarded_test.now) role.now.value j k) }
 {
-    let copied = question.skeleton.copy(alloc)?;
+    let copied = guarded_test.skeleton.copy(alloc)?;
     with_instance(alloc, role, height, copied)
 }

@@ -3,19 +3,19 @@ ghost use Rattle.std.specs.Prelude.{◌≡◌, Some, IfOk, OnOk};
 ghost use Rattle.cp_model.specs.Strand.{Event as PlainEvent, payload};
 ghost use Rattle.cp_model.specs.Skeleton.{IsNodeOf, IsOrderPair, term_event_at};
 ghost use Rattle.cp_model.specs.Term.{Term as Plain};
-ghost use Rattle.cp_match.specs.Candidates.{may_equal};
-ghost use Rattle.cp_term.specs.Positions.{positions_where};
+ghost use Rattle.cp_pattern.specs.Candidates.{may_equal};
+ghost use Rattle.cp_model.specs.Positions.{positions_where};
 ghost use Rattle.cp_skel.specs.Trees.{variables_view};
 ghost use Rattle.cp_skel.specs.View.{skeleton_view};
 ghost use Rattle.cp_cohort.specs.Children.{IsPosition, ReleasesPut, ReleasesEach};
-ghost use Rattle.cp_covering.specs.GatheredLists.{EachGives};
-ghost use Rattle.cp_cohort.specs.Views.{question_view, made_view, PutsChildren};
+ghost use Rattle.cp_cohort.specs.GatheredLists.{EachGives};
+ghost use Rattle.cp_cohort.specs.Views.{guarded_test_view, operation_of_made, PutsChildren};
 
 use crate::child::{Child, Made, put_children};
-use crate::question::Question;
-use cp_match::{positions_for, unifier};
+use crate::guarded_test::GuardedTest;
+use crate::{PartialSolution, Release, solve};
 use cp_normal::under;
-use cp_settle::{Release, Tried, settle};
+use cp_pattern::{positions_for, unifier};
 use cp_skel::{Node, Skeleton};
 use cp_term::{Path, Term, at};
 use std::alloc::{AllocError, Global};
@@ -34,10 +34,10 @@ fn message_at(alloc: Global, k: &Skeleton, node: Node) -> Result<Term, AllocErro
     event.payload().copy()
 }
 
-/// Appends the children for one position of the message sent at a node, which has already been put before the question's node.
+/// Appends the children for one position of the message sent at a node, which has already been put before the test's node.
 fn release_at(
     alloc: Global,
-    question: &Question,
+    guarded_test: &GuardedTest,
     put: &Skeleton,
     node: Node,
     message: &Term,
@@ -46,83 +46,92 @@ fn release_at(
     children: &mut Vec<Child>,
 ) -> Result<(), AllocError>
     requires { IsPosition message.now path.now }
-    ensures { OnOk result (PutsChildren (ReleasesPut (question_view question.now) (variables_view put.now.variables) (made_view made) node (skeleton_view put.now) message.now path.now) children.old.items children.new.items) }
+    ensures { OnOk result (PutsChildren (ReleasesPut (guarded_test_view guarded_test.now) (variables_view put.now.variables) (operation_of_made made) node (skeleton_view put.now) message.now path.now) children.old.items children.new.items) }
 {
     put.is_sound();
     let Some(term) = at(message, path) else {
         unreachable!();
     };
-    let Some(substitution) = unifier(alloc, term, question.critical)? else {
+    let Some(substitution) = unifier(alloc, term, guarded_test.critical)? else {
         return Ok(());
     };
     let skeleton = under(alloc, put, &substitution)?;
     let release = Release {
-        patterns: question.patterns,
-        critical: question.critical,
+        patterns: guarded_test.patterns,
+        critical: guarded_test.critical,
         node,
         path,
     };
-    let tried = Tried {
+    let tried = PartialSolution {
         skeleton,
         substitution,
     };
-    let settled = settle(alloc, &release, tried)?;
+    let settled = solve(alloc, &release, tried)?;
     put_children(settled, made, path, children)
 }
 
 /// Appends the children for each position of the message sent at a node at which the critical term may stand. The node has
-/// already been put before the question's node.
+/// already been put before the test's node.
 fn release_each(
     alloc: Global,
-    question: &Question,
+    guarded_test: &GuardedTest,
     put: &Skeleton,
     node: Node,
     message: &Term,
     made: Made,
     children: &mut Vec<Child>,
 ) -> Result<(), AllocError>
-    ensures { OnOk result (PutsChildren (EachGives (ReleasesPut (question_view question.now) (variables_view put.now.variables) (made_view made) node (skeleton_view put.now) message.now)
-        (positions_where (may_equal (question_view question.now).critical) message.now)) children.old.items children.new.items) }
+    ensures { OnOk result (PutsChildren (EachGives (ReleasesPut (guarded_test_view guarded_test.now) (variables_view put.now.variables) (operation_of_made made) node (skeleton_view put.now) message.now)
+        (positions_where (may_equal (guarded_test_view guarded_test.now).critical) message.now)) children.old.items children.new.items) }
 {
-    let paths = positions_for(alloc, message, question.critical)?;
+    let paths = positions_for(alloc, message, guarded_test.critical)?;
     for path in &paths {
-        release_at(alloc, question, put, node, message, path, made, children)?;
+        release_at(
+            alloc,
+            guarded_test,
+            put,
+            node,
+            message,
+            path,
+            made,
+            children,
+        )?;
     }
     Ok(())
 }
 
-/// Puts a node of the grown skeleton before the question's node and appends the children for the positions of its message.
+/// Puts a node of the grown skeleton before the test's node and appends the children for the positions of its message.
 /// Appends none if that order closes a cycle.
 fn release_before(
     alloc: Global,
-    question: &Question,
+    guarded_test: &GuardedTest,
     grown: &mut Skeleton,
     node: Node,
     made: Made,
     children: &mut Vec<Child>,
 ) -> Result<(), AllocError>
-    requires { IsOrderPair (skeleton_view grown.old) (record { earlier = node; later = (question_view question.now).node }) }
-    ensures { OnOk result (PutsChildren (ReleasesEach (question_view question.now) (variables_view grown.old.variables) (made_view made) node (skeleton_view grown.old)) children.old.items children.new.items) }
+    requires { IsOrderPair (skeleton_view grown.old) (record { earlier = node; later = (guarded_test_view guarded_test.now).node }) }
+    ensures { OnOk result (PutsChildren (ReleasesEach (guarded_test_view guarded_test.now) (variables_view grown.old.variables) (operation_of_made made) node (skeleton_view grown.old)) children.old.items children.new.items) }
 {
-    if !grown.add_order(alloc, node, question.node)? {
+    if !grown.add_order(alloc, node, guarded_test.node)? {
         return Ok(());
     }
     let message = message_at(alloc, grown, node)?;
-    release_each(alloc, question, grown, node, &message, made, children)
+    release_each(alloc, guarded_test, grown, node, &message, made, children)
 }
 
 /// Appends the children for the positions of the message sent at a node of the grown skeleton.
 pub(crate) fn release(
     alloc: Global,
-    question: &Question,
+    guarded_test: &GuardedTest,
     grown: Skeleton,
     node: Node,
     made: Made,
     children: &mut Vec<Child>,
 ) -> Result<(), AllocError>
-    requires { IsOrderPair (skeleton_view grown) (record { earlier = node; later = (question_view question.now).node }) }
-    ensures { OnOk result (PutsChildren (ReleasesEach (question_view question.now) (variables_view grown.variables) (made_view made) node (skeleton_view grown)) children.old.items children.new.items) }
+    requires { IsOrderPair (skeleton_view grown) (record { earlier = node; later = (guarded_test_view guarded_test.now).node }) }
+    ensures { OnOk result (PutsChildren (ReleasesEach (guarded_test_view guarded_test.now) (variables_view grown.variables) (operation_of_made made) node (skeleton_view grown)) children.old.items children.new.items) }
 {
     let mut put = grown;
-    release_before(alloc, question, &mut put, node, made, children)
+    release_before(alloc, guarded_test, &mut put, node, made, children)
 }

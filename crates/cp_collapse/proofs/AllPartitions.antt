@@ -7,7 +7,7 @@ use Rattle.cp_lists.proofs.Members.{in_append, only_item}
 use Rattle.cp_model.specs.Data.{SkeletonData as Program}
 use Rattle.cp_collapse.specs.Collapses.{IsCollapsed, HasNoCycle, IsImpossible, AreCollapses}
 use Rattle.cp_collapse.specs.FirstPartitions.{ArePartitionsOfFirst, AreCollapsedTo}
-use Rattle.cp_collapse.specs.Partitions.{IsPartition, finest}
+use Rattle.cp_collapse.specs.Partitions.{IsPartitionByRole, finest}
 use Rattle.cp_collapse.proofs.Collapsed.{finest_first, later_not_finest, none_collapsed, not_collapsed, one_collapsed, all_collapsed}
 use Rattle.cp_collapse.proofs.Extended.{of_all}
 
@@ -15,7 +15,7 @@ module _ (k : Skeleton) (ps : List (List ℕ)) (are : ArePartitionsOfFirst k (le
   pub first_done : (ls : List Skeleton) → ls ≡ [] → AreCollapsedTo k ps 1 ls
   first_done ls e = subst (AreCollapsedTo k ps 1) (sym e) (not_collapsed k ps 0 (finest k) (finest_first k ps are) [] (none_collapsed k ps) (λ ne. absurd (ne refl)))
 
-  pub whole : (i : ℕ) (p : List ℕ) → item_at ps i ≡ Some p → IsPartition k p
+  pub whole : (i : ℕ) (p : List ℕ) → item_at ps i ≡ Some p → IsPartitionByRole k p
   whole i p at = of_all k p (are.each p (at_place ps i _ at))
 
   module _ (i : ℕ) (p : List ℕ) (at : item_at ps i ≡ Some p) (ls : List Skeleton) (so_far : AreCollapsedTo k ps i ls) where

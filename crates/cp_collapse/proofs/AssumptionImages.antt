@@ -5,7 +5,7 @@ use Rattle.cp_lists.proofs.Members.{from_map, into_map}
 use Rattle.cp_model.specs.Term.{Substitution, apply_to_atom}
 use Rattle.cp_model.specs.Given.{listed}
 use Rattle.cp_model.specs.Skeleton.{Assumptions, Skeleton}
-use Rattle.cp_skel.specs.Given.{HasEachOnce}
+use Rattle.cp_model.specs.GivenAssumptions.{HasEachOnce}
 use Rattle.cp_skel.proofs.EachOnce.{listed-non, listed-penetrator-non, listed-unique, stays-listed}
 use Rattle.cp_model.proofs.Gathered.{IsGathering, onto-takes, onto-only, atoms, uniques}
 use Rattle.cp_collapse.specs.Collapses.{unique_in, assumptions_in, IsCollapsed}

@@ -5,7 +5,7 @@ use Rattle.cp_model.specs.Message.{atom}
 use Rattle.cp_model.specs.Term.{AtomTerm, atom_term, Assignment, value_of_atom, after, apply_to_atom}
 use Rattle.cp_model.proofs.LawTerms.{value_after}
 use Rattle.cp_unify.specs.Bindings.{Binding, Meets, as_substitution}
-use Rattle.cp_unify.specs.Unifiers.{AreLaterToEarlier, IsMostGeneral, HasNoUnifier}
+use Rattle.cp_unify.specs.Unifiers.{AreLaterToEarlier, IsMostGeneralUnifier, HasNoUnifier}
 use Rattle.cp_unify.proofs.SolvedBindings.{idempotent_term}
 use Rattle.cp_unify.proofs.Substituted.{value_met}
 use Rattle.cp_collapse.specs.Directed.{BindsLaterToEarlier, IsMostGeneralFor}
@@ -19,7 +19,7 @@ directed r met later = record {
   idempotent = idempotent_term r met;
 }
 
-pub most_general_for : (a b : AtomTerm) (r : List Binding) → IsMostGeneral (atom_term a) (atom_term b) [] r → IsMostGeneralFor a b (as_substitution r)
+pub most_general_for : (a b : AtomTerm) (r : List Binding) → IsMostGeneralUnifier (atom_term a) (atom_term b) [] r → IsMostGeneralFor a b (as_substitution r)
 most_general_for a b r m = record {
   unifies = let e : atom_term (apply_to_atom (as_substitution r) a) ≡ atom_term (apply_to_atom (as_substitution r) b) = m.unifies in cc;
   general = λ g e t. value_after g (as_substitution r) t ∙ value_met g r t (m.general g tt (ap atom e));

@@ -8,7 +8,7 @@ use Rattle.cp_model.proofs.Numbers.{numbers_length}
 use Rattle.cp_lists.proofs.Members.{in_append_left, in_append_right, in_append, only_item}
 use Rattle.cp_lists.proofs.Items.{item_below, item_before, place_of, at_place}
 use Rattle.cp_unify.proofs.Free.{free}
-use Rattle.cp_collapse.specs.Partitions.{IsPartition, finest, IdentifiesValues, IsLower, AreDescending}
+use Rattle.cp_collapse.specs.Partitions.{IsPartitionByRole, finest, IdentifiesValues, IsLower, AreDescending}
 use Rattle.cp_collapse.specs.Collapses.{IsNeverIdentified, IsImpossible, IsCollapse, AreCollapsesBy, no_collapses, collapse_by, AreCollapses}
 use Rattle.cp_collapse.specs.FirstPartitions.{ArePartitionsOfFirst, AreCollapsedTo, EqualAt}
 use Rattle.cp_collapse.proofs.Lowest.{at_numbers}
@@ -21,7 +21,7 @@ use Rattle.cp_collapse.proofs.OneStrandMore.{equal_itself}
 at_finest : (k : Skeleton) (s l : ℕ) → item_at (finest k) s ≡ Some l → (s < length k.strands) × (l ≡ s)
 at_finest k s l e = let r = at_numbers 0 k.strands s l e in let f = r.1 in (r.0, omega (arith, f))
 
-pub finest_is_partition : (k : Skeleton) → IsPartition k (finest k)
+pub finest_is_partition : (k : Skeleton) → IsPartitionByRole k (finest k)
 finest_is_partition k = record {
   each = numbers_length 0 k.strands;
   lowest = λ s l e. let r = at_finest k s l e in let f : l ≡ s = r.1 in (omega (arith, f), subst (λ (m : ℕ). item_at (finest k) m ≡ Some l) (sym f) e);

@@ -15,7 +15,7 @@ use Rattle.cp_lists.proofs.Reached.{steps_append}
 use Rattle.cp_model.proofs.LawOrigins.{never_before_itself}
 use Rattle.cp_model.proofs.LawStandings.{strand_of_event, bundle_climb}
 use Rattle.cp_model.proofs.LawMessages.{dec_list}
-use Rattle.cp_completeness.proofs.Images.{image_event_at}
+use Rattle.cp_theory.proofs.Images.{image_event_at}
 use Rattle.cp_collapse.specs.Partitions.{finest, place_in}
 use Rattle.cp_collapse.specs.Collapses.{LiesOnOne, IsImpossible, IsCollapse, AreCollapsesBy, no_collapses, collapse_by, AreCollapses, StandsThroughCollapse}
 use Rattle.cp_collapse.proofs.Lowest.{low}

@@ -12,11 +12,11 @@ use Rattle.cp_strand.specs.View.{strand_view}
 use Rattle.cp_model.specs.Data.{StrandData as Strand}
 use Rattle.cp_collapse.specs.SameSkeletons.{AreSameStrands, no_strands, same_strands}
 use Rattle.cp_collapse.specs.Collapses.{ArePairsIn, LiesOnOne, assumptions_in, IsFromProblemIn, IsCollapsed, HasNoCycle, HasPairBackward, IsImpossible}
-use Rattle.cp_collapse.specs.Cycles.{IsClosedAt}
+use Rattle.cp_collapse.specs.Cycles.{ClosesCycleAt}
 use Rattle.cp_collapse.specs.Property.{Has}
 use Rattle.cp_collapse.specs.FirstPartitions.{IsExactFor}
 use Rattle.cp_collapse.specs.MergedStrands.{AreMergedAlike}
-use Rattle.cp_collapse.specs.Partitions.{IsPartition, IdentifiesValues}
+use Rattle.cp_collapse.specs.Partitions.{IsPartitionByRole, IdentifiesValues}
 use Rattle.cp_collapse.proofs.CyclesByPairs.{closed_of_cycle, cycle_of_closed}
 use Rattle.cp_collapse.proofs.Exact.{exact_is_most_general}
 use Rattle.cp_collapse.proofs.MergedSkeletons.{merged_pairs}
@@ -39,7 +39,7 @@ like_merged k l p f ss same m = record {
   listeners = λ s t at. listener_at (all_same_back same) _ _ (m.listeners s t at);
 }
 
-alike_merged : (k l : Skeleton) (p : List ℕ) (r : List Binding) (ss : List Strand) → IsPartition k p → IsExactFor (IdentifiesValues k p) r → AreMergedAlike k p (as_substitution r) (length p) ss → l.strands ≡ map strand_view ss →
+alike_merged : (k l : Skeleton) (p : List ℕ) (r : List Binding) (ss : List Strand) → IsPartitionByRole k p → IsExactFor (IdentifiesValues k p) r → AreMergedAlike k p (as_substitution r) (length p) ss → l.strands ≡ map strand_view ss →
     HasMergedStrands k p (as_substitution r) l
 alike_merged k l p r ss part exact m views =
     like_merged k l p (as_substitution r) m.exact (subst (AreSameStrands m.exact) (sym views) m.alike) (has_merged_strands k (record l { strands = m.exact }) p r part exact m.merged)
@@ -63,7 +63,7 @@ is_collapsed k m p r exact strands pairs forward assumptions from_problem = reco
   from_problem = from_problem;
 }
 
-pub listed_collapsed : (k m l : Skeleton) (p : List ℕ) (r : List Binding) (ss : List Strand) → IsPartition k p → IsExactFor (IdentifiesValues k p) r → AreMergedAlike k p (as_substitution r) (length p) ss → m.strands ≡ map strand_view ss →
+pub listed_collapsed : (k m l : Skeleton) (p : List ℕ) (r : List Binding) (ss : List Strand) → IsPartitionByRole k p → IsExactFor (IdentifiesValues k p) r → AreMergedAlike k p (as_substitution r) (length p) ss → m.strands ≡ map strand_view ss →
     ArePairsIn p k.pairs m.pairs → ((q : OrderPair) → IsIn q k.pairs → LiesOnOne p q → q.earlier.index < q.later.index) →
     m.assumptions ≡ assumptions_in p (as_substitution r) k.assumptions → IsFromProblemIn p (as_substitution r) k.from_problem m.from_problem → l ≡ record m { assumptions = listed m } → IsCollapsed k p l
 listed_collapsed k m l p r ss part exact merged views pairs forward assumptions from_problem is =
@@ -82,10 +82,10 @@ all_forward k p none q i one = by (dec_lt q.earlier.index q.later.index)
 pub backward_impossible : (k : Skeleton) (p : List ℕ) → HasPairBackward k p → IsImpossible k p
 backward_impossible k p b = inr (inl b)
 
-pub cycle_impossible : (k l : Skeleton) (p : List ℕ) → ((q : OrderPair) → IsIn q k.pairs → IsOrderPair k q) → IsCollapsed k p l → Has (λ q. IsClosedAt l.pairs q.earlier) l.pairs → IsImpossible k p
+pub cycle_impossible : (k l : Skeleton) (p : List ℕ) → ((q : OrderPair) → IsIn q k.pairs → IsOrderPair k q) → IsCollapsed k p l → Has (λ q. ClosesCycleAt l.pairs q.earlier) l.pairs → IsImpossible k p
 cycle_impossible k l p order_pairs c h =
     let n = cycle_of_closed l (merged_pairs k l p c order_pairs) h in
     inr (inr (record { merged = l; collapsed = c; node = n.0; cycle = n.1 }))
 
-pub no_cycle_left : (l : Skeleton) → (Has (λ q. IsClosedAt l.pairs q.earlier) l.pairs → ⊥) → HasNoCycle l
+pub no_cycle_left : (l : Skeleton) → (Has (λ q. ClosesCycleAt l.pairs q.earlier) l.pairs → ⊥) → HasNoCycle l
 no_cycle_left l none n b = none (closed_of_cycle l n b)

@@ -5,11 +5,11 @@ use Rattle.cp_model.specs.Strand.{send}
 use Rattle.cp_model.specs.declared.node.Node.{Node}
 use Rattle.cp_model.specs.Skeleton.{Skeleton, OrderStep, along_strand_of, along_pair, Before, IsOrderPair}
 use Rattle.cp_model.specs.declared.node.OrderPair.{OrderPair}
-use Rattle.cp_model.specs.Order.{LeadsTo, on_strand}
+use Rattle.cp_model.specs.Order.{ReachesAlong, on_strand}
 use Rattle.cp_lists.proofs.Reached.{steps_append}
 use Rattle.cp_model.proofs.LawOrder.{before_leads, leads_before}
 use Rattle.cp_collapse.specs.Property.{Has}
-use Rattle.cp_collapse.specs.Cycles.{IsClosedAt}
+use Rattle.cp_collapse.specs.Cycles.{ClosesCycleAt}
 
 module _ (l : Skeleton) where
   abbrev Reaches : Node → Node → Type 0
@@ -47,7 +47,7 @@ module _ (l : Skeleton) where
   goes x y (one_step s) = step_goes s
   goes x z (more_steps {y = y} s b) = goes_both x y z s b (step_goes s) (goes y z b)
 
-  reaches_leads : (x y : Node) → Reaches x y → LeadsTo l.pairs x y
+  reaches_leads : (x y : Node) → Reaches x y → ReachesAlong l.pairs x y
   reaches_leads x y (inl e) = on_strand (ap (λ (n : Node). n.strand) e, let i = ap (λ (n : Node). n.index) e in omega (arith, i))
   reaches_leads x y (inr b) = before_leads l x y b
 
@@ -55,19 +55,19 @@ module _ (l : Skeleton) where
   reaches_both {z = z} (inl e) r = subst (λ (w : Node). Reaches w z) (sym e) r
   reaches_both (inr a) r = then_reaches a r
 
-  closed_at : (n : Node) → Goes n n → Has (λ q. IsClosedAt l.pairs q.earlier) l.pairs
+  closed_at : (n : Node) → Goes n n → Has (λ q. ClosesCycleAt l.pairs q.earlier) l.pairs
   closed_at n (inl r) = absurd (let m = r.1 in omega (arith, m))
   closed_at n (inr o) = (o.pair, o.listed, (o.pair, o.listed, (refl, reaches_leads o.pair.later o.pair.earlier (reaches_both o.to o.from))))
 
-  pub closed_of_cycle : (n : Node) → Before l n n → Has (λ q. IsClosedAt l.pairs q.earlier) l.pairs
+  pub closed_of_cycle : (n : Node) → Before l n n → Has (λ q. ClosesCycleAt l.pairs q.earlier) l.pairs
   closed_of_cycle n b = closed_at n (goes n n b)
 
   module _ (order_pairs : (q : OrderPair) → IsIn q l.pairs → IsOrderPair l q) where
-    pub cycle_of_closed : Has (λ q. IsClosedAt l.pairs q.earlier) l.pairs → (n : Node) × Before l n n
+    pub cycle_of_closed : Has (λ q. ClosesCycleAt l.pairs q.earlier) l.pairs → (n : Node) × Before l n n
     cycle_of_closed h =
         let q = h.0 in
         let o = order_pairs q h.1 in
-        let c : IsClosedAt l.pairs q.earlier = h.2 in
+        let c : ClosesCycleAt l.pairs q.earlier = h.2 in
         let back = leads_before l order_pairs c.0.later q.earlier (send o.sent, o.transmission) c.2.1 in
         (q.earlier, subst (λ (m : Node). Before l m q.earlier) c.2.0 (closes c.0 c.1 q.earlier c.2.0 back))
       where

@@ -10,7 +10,7 @@ use Rattle.cp_model.specs.Skeleton.{SkeletonStrand, instance, listener, skeleton
 use Rattle.cp_model.proofs.LawTerms.{atom_after, atom_composed}
 use Rattle.cp_model.proofs.LawStandings.{strand_of_event, event_of_instance, event_of_higher}
 use Rattle.cp_unify.proofs.Free.{free}
-use Rattle.cp_collapse.specs.Partitions.{IsPartition, place_in, IdentifiesValues, IsLower, AreDescending}
+use Rattle.cp_collapse.specs.Partitions.{IsPartitionByRole, place_in, IdentifiesValues, IsLower, AreDescending}
 use Rattle.cp_collapse.specs.Collapses.{IsCollapsed, IsImpossible, IsCollapse, AreCollapsesBy, no_collapses, collapse_by, AreCollapses}
 use Rattle.cp_collapse.proofs.DescendingLists.{never_lower}
 use Rattle.cp_collapse.proofs.OneUnifier.{one_unifier}
@@ -34,7 +34,7 @@ one_substitution k l m p c d =
 
 -- ---- all ways of merging have one order
 
-module _ (k m l : Skeleton) (p : List ℕ) (part : IsPartition k p) (c : IsCollapsed k p m) (d : IsCollapsed k p l) where
+module _ (k m l : Skeleton) (p : List ℕ) (part : IsPartitionByRole k p) (c : IsCollapsed k p m) (d : IsCollapsed k p l) where
   -- A listener comes from a listener.
   listener_too : (place s : ℕ) (t : Term) (st : SkeletonStrand) → item_at m.strands place ≡ Some (listener t) → place_in p s ≡ place → item_at k.strands s ≡ Some st → (u : Term) × (item_at l.strands place ≡ Some (listener u))
   listener_too place s t (instance role height terms) at there_is own =

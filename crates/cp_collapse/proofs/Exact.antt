@@ -9,7 +9,7 @@ use Rattle.cp_lists.proofs.Members.{in_append_left, in_append_right, in_append, 
 use Rattle.cp_model.proofs.LawPrefixes.{variables_of_higher}
 use Rattle.cp_model.proofs.LawTerms.{atom_after, value_after, atom_composed}
 use Rattle.cp_unify.specs.Bindings.{Binding, variable_of, Meets, as_substitution}
-use Rattle.cp_unify.specs.Unifiers.{Solves, IsMostGeneral, HasNoUnifier}
+use Rattle.cp_unify.specs.Unifiers.{Solves, IsMostGeneralUnifier, HasNoUnifier}
 use Rattle.cp_unify.proofs.Free.{free}
 use Rattle.cp_unify.proofs.SolvedBindings.{unified}
 use Rattle.cp_unify.proofs.Substituted.{after_met}
@@ -33,7 +33,7 @@ meets_after g s [] h = tt
 meets_after g s (b ∷ bs) h =
     (atom_after g s (atom_of_variable (variable_of b)) ∙ ap (value_of_atom g) h.0 ∙ sym (atom_after g s b.term), meets_after g s bs h.1)
 
-pub exact_unified : (e : Assignment → Type 0) (a b : Term) (r q : List Binding) → IsExactFor e r → IsMostGeneral a b r q → IsExactFor (λ g. e g × (value_of g a ≡ value_of g b)) q
+pub exact_unified : (e : Assignment → Type 0) (a b : Term) (r q : List Binding) → IsExactFor e r → IsMostGeneralUnifier a b r q → IsExactFor (λ g. e g × (value_of g a ≡ value_of g b)) q
 exact_unified e a b r q x m = record {
   met = λ g. m.general (after g (as_substitution q)) (meets_after g (as_substitution q) r m.solves_given) (value_after g (as_substitution q) a ∙ ap (value_of g) m.unifies ∙ sym (value_after g (as_substitution q) b));
   sound = λ g h. let s = m.sound g h in (x.sound g s.0, s.1);
@@ -72,7 +72,7 @@ module _ (e : Assignment → Type 0) (s t : Substitution) where
   one_more xs y g a f x (inr i) = subst (λ (z : Variable). value_of_atom (after g s) (atom_of_variable z) ≡ value_of_atom (after g t) (atom_of_variable z)) (sym (only_item i)) f
 
   pub agree_on_more : (xs : List Variable) (y : Variable) (r q : List Binding) → IsExactFor (AlsoAgree xs) r →
-      IsMostGeneral (atom_term (apply_to_atom s (atom_of_variable y))) (atom_term (apply_to_atom t (atom_of_variable y))) r q → IsExactFor (AlsoAgree (xs ++ (y ∷ []))) q
+      IsMostGeneralUnifier (atom_term (apply_to_atom s (atom_of_variable y))) (atom_term (apply_to_atom t (atom_of_variable y))) r q → IsExactFor (AlsoAgree (xs ++ (y ∷ []))) q
   agree_on_more xs y r q x m =
       let a = atom_term (apply_to_atom s (atom_of_variable y)) in
       let b = atom_term (apply_to_atom t (atom_of_variable y)) in

@@ -8,9 +8,9 @@ use Rattle.cp_lists.proofs.Members.{in_append_left, in_append_right, in_append, 
 use Rattle.cp_lists.proofs.Items.{item_below, place_of, at_place, item_in_front, item_last, end_cases}
 use Rattle.cp_lists.proofs.Appended.{length_pushed}
 use Rattle.cp_lists.proofs.Fronts.{split_end}
-use Rattle.cp_collapse.specs.Partitions.{AreOfOneRole, IsPartition, AreTogether, IdentifiesValues, IsLower, AreDescending}
+use Rattle.cp_collapse.specs.Partitions.{AreOfOneRole, IsPartitionByRole, AreTogether, IdentifiesValues, IsLower, AreDescending}
 use Rattle.cp_collapse.specs.Collapses.{IsNeverIdentified}
-use Rattle.cp_collapse.specs.FirstPartitions.{IsPartitionOfFirst, ArePartitionsOfFirst, MayHave, IsBehind, IsOneBehind, AreExtendedTo}
+use Rattle.cp_collapse.specs.FirstPartitions.{IsPartitionOfFirst, ArePartitionsOfFirst, MayHave, IsLaterEntry, IsOneBehind, AreExtendedTo}
 use Rattle.cp_collapse.proofs.DescendingLists.{lower_with, lower_last, descending_at, descending_with}
 
 -- ---- blocks that never have equal values
@@ -143,7 +143,7 @@ module _ (k : Skeleton) (n : ℕ) where
         descending = so_far.descending;
       }
         where
-          by : (r : List ℕ) (l : ℕ) (b : IsBehind ps i m r l) → MayHave k r n l → ((b.0 < i) ⊎ ((b.0 ≡ i) × (suc m ≤ l))) ⊎ ((b.0 ≡ i) × (m ≡ l)) → Listed new r l
+          by : (r : List ℕ) (l : ℕ) (b : IsLaterEntry ps i m r l) → MayHave k r n l → ((b.0 < i) ⊎ ((b.0 ≡ i) × (suc m ≤ l))) ⊎ ((b.0 ≡ i) × (m ≡ l)) → Listed new r l
           by r l b may (inl before) = so_far.all r l (b.0, b.1, before) may
           by r l b may (inr now) =
               let e = same_partition i b.0 p r at b.1 now.0 in
@@ -173,7 +173,7 @@ module _ (k : Skeleton) (n : ℕ) where
           more r l (inl listed) = inl (in_append_left ((p ++ (m ∷ [])) ∷ []) listed)
           more r l (inr never) = inr never
 
-          by : (r : List ℕ) (l : ℕ) (b : IsBehind ps i m r l) → MayHave k r n l → ((b.0 < i) ⊎ ((b.0 ≡ i) × (suc m ≤ l))) ⊎ ((b.0 ≡ i) × (m ≡ l)) → Listed (new ++ ((p ++ (m ∷ [])) ∷ [])) r l
+          by : (r : List ℕ) (l : ℕ) (b : IsLaterEntry ps i m r l) → MayHave k r n l → ((b.0 < i) ⊎ ((b.0 ≡ i) × (suc m ≤ l))) ⊎ ((b.0 ≡ i) × (m ≡ l)) → Listed (new ++ ((p ++ (m ∷ [])) ∷ [])) r l
           by r l b allowed (inl before) = more r l (so_far.all r l (b.0, b.1, before) allowed)
           by r l b allowed (inr now) =
               inl (subst₂ (λ (s : List ℕ) (t : ℕ). IsIn (s ++ (t ∷ [])) (new ++ ((p ++ (m ∷ [])) ∷ []))) (same_partition i b.0 p r at b.1 now.0) now.1 (in_append_right new here))
@@ -224,8 +224,8 @@ first_partition k = record {
 }
 
 -- A partition of all strands.
-pub of_all : (k : Skeleton) (p : List ℕ) → IsPartitionOfFirst k (length k.strands) p → IsPartition k p
+pub of_all : (k : Skeleton) (p : List ℕ) → IsPartitionOfFirst k (length k.strands) p → IsPartitionByRole k p
 of_all k p part = record { each = part.each; lowest = part.lowest; alike = part.alike }
 
-pub of_first_all : (k : Skeleton) (p : List ℕ) → IsPartition k p → IsPartitionOfFirst k (length k.strands) p
+pub of_first_all : (k : Skeleton) (p : List ℕ) → IsPartitionByRole k p → IsPartitionOfFirst k (length k.strands) p
 of_first_all k p part = record { each = part.each; lowest = part.lowest; alike = part.alike }

@@ -4,7 +4,7 @@ use Rattle.std.proofs.lemmas.List.{take_all}
 use Rattle.cp_lists.specs.Lists.{item_at, IsIn}
 use Rattle.cp_lists.proofs.Fronts.{take_next}
 use Rattle.cp_model.specs.declared.node.OrderPair.{OrderPair}
-use Rattle.cp_collapse.specs.Collapses.{pair_in, LiesOnOne, ArePairsIn}
+use Rattle.cp_collapse.specs.Collapses.{collapsed_pair, LiesOnOne, ArePairsIn}
 use Rattle.cp_collapse.specs.Property.{Has}
 use Rattle.cp_collapse.specs.MergedStrands.{IsPutOnce}
 use Rattle.cp_collapse.proofs.PairImages.{pairs_none, pairs_more, pairs_again, pairs_dropped}
@@ -21,7 +21,7 @@ module _ (p : List ℕ) (qs : List OrderPair) where
     pub pair_dropped : LiesOnOne p q → ArePairsIn p (take (i + 1) qs) rs
     pair_dropped one = subst (λ zs. ArePairsIn p zs rs) (take_next qs i q at) (pairs_dropped p (take i qs) rs q so_far one)
 
-    pub pair_put : (r : OrderPair) (new : List OrderPair) → r ≡ pair_in p q → (LiesOnOne p q → ⊥) → IsPutOnce r rs new → ArePairsIn p (take (i + 1) qs) new
+    pub pair_put : (r : OrderPair) (new : List OrderPair) → r ≡ collapsed_pair p q → (LiesOnOne p q → ⊥) → IsPutOnce r rs new → ArePairsIn p (take (i + 1) qs) new
     pair_put r new e apart (inl put) = subst (λ zs. ArePairsIn p zs new) (take_next qs i q at) (subst (ArePairsIn p (take i qs ++ (q ∷ []))) (ap (λ z. rs ++ (z ∷ [])) (sym e) ∙ sym put) (pairs_more p (take i qs) rs q so_far apart))
     pair_put r new e apart (inr again) = subst (λ zs. ArePairsIn p zs new) (take_next qs i q at) (subst (ArePairsIn p (take i qs ++ (q ∷ []))) (sym again.0) (pairs_again p (take i qs) rs q so_far (subst (λ z. IsIn z rs) e again.1)))
 

@@ -8,13 +8,13 @@ use Rattle.cp_model.specs.Homomorphism.{substitution_by}
 use Rattle.cp_model.specs.Skeleton.{SkeletonStrand, instance, Skeleton}
 use Rattle.cp_lists.proofs.Items.{item_below, map_of_item}
 use Rattle.cp_unify.specs.Bindings.{Binding, Meets}
-use Rattle.cp_skel.specs.Extensions.{IsClosedPrefix}
+use Rattle.cp_model.specs.Extensions.{IsClosedPrefix}
 use Rattle.cp_skel.specs.DeclaredPrefixes.{HasDeclaredPrefixes}
 use Rattle.cp_strand.specs.View.{instance_view, instance_as_data, strand_view}
 use Rattle.cp_skel.specs.View.{skeleton_view}
 use Rattle.cp_model.specs.Data.{InstanceData, StrandData as Strand, SkeletonData as Program}
 use Rattle.cp_collapse.specs.FirstPartitions.{IsPartitionOfFirst, IsExactFor, EqualAt, EqualsBlock}
-use Rattle.cp_collapse.specs.Partials.{AlsoEqual, IsNever, MayNotJoin}
+use Rattle.cp_collapse.specs.Partials.{AlsoEqual, IsOfNoAssignment, MayNotJoin}
 use Rattle.cp_collapse.specs.Partitions.{AreOfOneRole, IdentifiesValues}
 use Rattle.cp_collapse.specs.Collapses.{IsNeverIdentified}
 use Rattle.cp_collapse.proofs.Exact.{exact_same}
@@ -72,7 +72,7 @@ module _ (ss : List Strand) (s t : ℕ) (a b : InstanceData) (at : item_at ss s 
     of_strands : (g : Assignment) → Meets g given × EqualAt k s t g → AlsoEqual given a b g
     of_strands g f = (f.0, f.1 a.role a.height (substitution_by a.values) b.height (substitution_by b.values) first_in second_in)
 
-    pub never_strands : IsNever (AlsoEqual given a b) → IsNever (λ g. Meets g given × EqualAt k s t g)
+    pub never_strands : IsOfNoAssignment (AlsoEqual given a b) → IsOfNoAssignment (λ g. Meets g given × EqualAt k s t g)
     never_strands never g f = never g (of_strands g f)
 
     pub exact_strands : (r : List Binding) → IsExactFor (AlsoEqual given a b) r → IsExactFor (λ g. Meets g given × EqualAt k s t g) r
@@ -105,7 +105,7 @@ module _ (k : Skeleton) (n : ℕ) (p : List ℕ) (part : IsPartitionOfFirst k n 
         (λ g f. (so_far.general g (block_before k n p part l g i (suc i) (omega arith) f), block_has k n p part l g i own f))
         x)
 
-    pub block_never : IsNever (λ g. Meets g r × EqualAt k i n g) → IsNeverIdentified k (p ++ (l ∷ []))
+    pub block_never : IsOfNoAssignment (λ g. Meets g r × EqualAt k i n g) → IsNeverIdentified k (p ++ (l ∷ []))
     block_never never = never_joined k n p part l i own (λ g f a. never g (so_far.general g f, a))
 
   -- All strands are tried.

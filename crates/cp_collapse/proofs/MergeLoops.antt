@@ -6,7 +6,7 @@ use Rattle.cp_lists.proofs.Appended.{length_pushed}
 use Rattle.cp_model.specs.Term.{Substitution}
 use Rattle.cp_model.specs.Strand.{Role}
 use Rattle.cp_model.specs.Skeleton.{SkeletonStrand, instance, Skeleton}
-use Rattle.cp_completeness.specs.Normal.{strand_under}
+use Rattle.cp_theory.specs.Normal.{strand_under}
 use Rattle.cp_collapse.specs.Partitions.{lowest_before}
 use Rattle.cp_collapse.specs.MergedStrands.{IsAsTall, IsTallestTo, IsMergedAt, AreMergedTo}
 use Rattle.cp_collapse.proofs.Places.{own_entry, stays_other, rises}

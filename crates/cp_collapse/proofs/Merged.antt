@@ -16,7 +16,7 @@ use Rattle.cp_model.proofs.LawStandings.{strand_of_event, event_of_higher, skele
 use Rattle.cp_model.proofs.LawPrefixes.{in_trace}
 use Rattle.cp_model.proofs.LawAgreement.{agree_term}
 use Rattle.cp_collapse.specs.Partitions.{place_in, node_in}
-use Rattle.cp_collapse.specs.Collapses.{onto_blocks, unique_in, pair_in, IsCollapsed}
+use Rattle.cp_collapse.specs.Collapses.{onto_blocks, unique_in, collapsed_pair, IsCollapsed}
 use Rattle.cp_collapse.proofs.AssumptionImages.{assumptions_are}
 
 -- An event under two substitutions one after the other, and under one that agrees.
@@ -60,7 +60,7 @@ module _ (k l : Skeleton) (p : List ℕ) (c : IsCollapsed k p l) where
     -- A pair of the skeleton is before there: it is a pair, or goes forward on one strand.
     pair_before : (q : OrderPair) → IsIn q k.pairs → Dec (place_in p q.earlier.strand ≡ place_in p q.later.strand) → Before l (node_in p q.earlier) (node_in p q.later)
     pair_before q inq (yes same) = climbs_in q inq same
-    pair_before q inq (no other) = one_step (along_pair {p = pair_in p q} ((c.pairs (pair_in p q)).1 ((q, inq, refl), other)))
+    pair_before q inq (no other) = one_step (along_pair {p = collapsed_pair p q} ((c.pairs (collapsed_pair p q)).1 ((q, inq, refl), other)))
 
     step_in : {x y : Node} → OrderStep k x y → Before l (node_in p x) (node_in p y)
     step_in (along_strand_of {s = s} {i = i} {e = e} ev) = one_step (along_strand_of (event_in (node_at s (suc i)) e ev))

@@ -9,13 +9,13 @@ use Rattle.cp_model.specs.declared.node.OrderPair.{OrderPair}
 use Rattle.cp_model.proofs.LawTerms.{atom_composed, carried_under}
 use Rattle.cp_model.proofs.LawAgreement.{agree_atom}
 use Rattle.cp_collapse.specs.Partitions.{place_in}
-use Rattle.cp_collapse.specs.Collapses.{unique_in, pair_in, HasInstance, IsCollapsed, HasNoCycle}
+use Rattle.cp_collapse.specs.Collapses.{unique_in, collapsed_pair, HasInstance, IsCollapsed, HasNoCycle}
 use Rattle.cp_collapse.proofs.AssumptionImages.{assumptions_are}
-use Rattle.cp_skel.proofs.UnderVariables.{applies_at}
+use Rattle.cp_model.proofs.UnderVariables.{applies_at}
 use Rattle.cp_collapse.proofs.Merged.{event_in}
 
 module _ (k l : Skeleton) (p : List ℕ) (c : IsCollapsed k p l) where
-  pair_goes : (q : OrderPair) → IsOrderPair k q → place_in p q.earlier.strand ≢ place_in p q.later.strand → IsOrderPair l (pair_in p q)
+  pair_goes : (q : OrderPair) → IsOrderPair k q → place_in p q.earlier.strand ≢ place_in p q.later.strand → IsOrderPair l (collapsed_pair p q)
   pair_goes q o other = record {
     sent = apply_to c.unifier o.sent;
     received = apply_to c.unifier o.received;

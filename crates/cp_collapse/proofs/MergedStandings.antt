@@ -14,7 +14,7 @@ use Rattle.cp_model.specs.Homomorphism.{FactorsThrough}
 use Rattle.cp_lists.proofs.Items.{item_below}
 use Rattle.cp_model.proofs.LawTerms.{atom_after, value_after, atom_composed}
 use Rattle.cp_model.proofs.LawStandings.{strand_of_event}
-use Rattle.cp_completeness.proofs.Pairs.{ordered, no_cycle}
+use Rattle.cp_theory.proofs.Pairs.{ordered, no_cycle}
 use Rattle.cp_collapse.specs.Partitions.{lowest_before, place_in, node_in}
 use Rattle.cp_collapse.specs.Collapses.{IsCollapsed}
 use Rattle.cp_collapse.proofs.AssumptionImages.{assumptions_are}

@@ -8,8 +8,8 @@ use Rattle.cp_model.specs.Skeleton.{SkeletonStrand, instance, listener, Skeleton
 use Rattle.cp_model.specs.Homomorphism.{GoesToInstance}
 use Rattle.cp_lists.proofs.Items.{item_below, item_there}
 use Rattle.cp_model.proofs.LawPrefixes.{variables_of_higher}
-use Rattle.cp_completeness.specs.Normal.{strand_under}
-use Rattle.cp_collapse.specs.Partitions.{IsPartition, blocks, place_in, Identifies, IdentifiesValues}
+use Rattle.cp_theory.specs.Normal.{strand_under}
+use Rattle.cp_collapse.specs.Partitions.{IsPartitionByRole, block_count, place_in, Identifies, IdentifiesValues}
 use Rattle.cp_collapse.specs.Collapses.{onto_blocks, HasInstance}
 use Rattle.cp_collapse.specs.FirstPartitions.{IsExactFor}
 use Rattle.cp_collapse.specs.MergedStrands.{IsMergedAt, AreMergedTo}
@@ -26,7 +26,7 @@ instance_under f ks t (instance role' height' own) role height terms at e =
     (own, cc)
 instance_under f ks t (listener u) role height terms at e = absurd (cc)
 
-module _ (k l : Skeleton) (p : List ℕ) (f : Substitution) (part : IsPartition k p) (merged : AreMergedTo k p f (length p) l.strands) where
+module _ (k l : Skeleton) (p : List ℕ) (f : Substitution) (part : IsPartitionByRole k p) (merged : AreMergedTo k p f (length p) l.strands) where
   entry_of : (s : ℕ) (st : SkeletonStrand) → item_at k.strands s ≡ Some st → (m : ℕ) × (item_at p s ≡ Some m)
   entry_of s st at = let below = item_below k.strands s st at in let e = part.each in item_there p s (omega (arith, below, e))
 
@@ -89,12 +89,12 @@ module _ (k l : Skeleton) (p : List ℕ) (f : Substitution) (part : IsPartition 
 
 -- The strands of l are those of k merged by the partition, under the substitution.
 pub record HasMergedStrands (k : Skeleton) (p : List ℕ) (f : Substitution) (l : Skeleton) : Type 0 where
-  pub count : length l.strands ≡ blocks p
+  pub count : length l.strands ≡ block_count p
   pub instances : (s : ℕ) (role : Role) (height : ℕ) (terms : Substitution) → item_at k.strands s ≡ Some (instance role height terms) → GoesToInstance l (onto_blocks p f) s role height terms
   pub tallest : (place : ℕ) (role : Role) (height : ℕ) (terms : Substitution) → item_at l.strands place ≡ Some (instance role height terms) → HasInstance k p place role height
   pub listeners : (s : ℕ) (t : Term) → item_at k.strands s ≡ Some (listener t) → item_at l.strands (place_in p s) ≡ Some (listener (apply_to f t))
 
-pub has_merged_strands : (k l : Skeleton) (p : List ℕ) (r : List Binding) → IsPartition k p → IsExactFor (IdentifiesValues k p) r → AreMergedTo k p (as_substitution r) (length p) l.strands →
+pub has_merged_strands : (k l : Skeleton) (p : List ℕ) (r : List Binding) → IsPartitionByRole k p → IsExactFor (IdentifiesValues k p) r → AreMergedTo k p (as_substitution r) (length p) l.strands →
     HasMergedStrands k p (as_substitution r) l
 has_merged_strands k l p r part exact merged = record {
   count = merged.count;

@@ -8,9 +8,9 @@ use Rattle.cp_model.specs.Strand.{Role}
 use Rattle.cp_model.specs.declared.node.Node.{Node}
 use Rattle.cp_model.specs.Skeleton.{SkeletonStrand, instance, listener, OrderStep, along_strand_of, along_pair, Before}
 use Rattle.cp_model.specs.Homomorphism.{GoesToInstance}
-use Rattle.cp_completeness.specs.Example.{repeater}
+use Rattle.cp_theory.specs.RepeatedText.{repeater}
 use Rattle.cp_unify.specs.Bindings.{Binding, Meets}
-use Rattle.cp_collapse.specs.Partitions.{AreOfOneRole, IsPartition, finest, HaveEqualValues, IdentifiesValues}
+use Rattle.cp_collapse.specs.Partitions.{AreOfOneRole, IsPartitionByRole, finest, HaveEqualValues, IdentifiesValues}
 use Rattle.cp_collapse.specs.Collapses.{IsMostGeneralOn, onto_blocks, ArePairsIn, HasInstance, IsCollapsed, no_collapses, collapse_by, AreCollapses}
 use Rattle.cp_collapse.specs.FirstPartitions.{IsPartitionOfFirst, IsExactFor}
 use Rattle.cp_collapse.specs.CollapseExample.{other_texts, two_repeaters, same_heard, one_repeater}
@@ -54,7 +54,7 @@ of_one_role = record { role = repeater; height = 2; terms = other_texts; first =
 both_together : IsPartitionOfFirst two_repeaters 2 together
 both_together = extended_is_partition two_repeaters 1 (0 ∷ []) first_alone 0 (inr (omega arith, refl, of_one_role))
 
-is_partition : IsPartition two_repeaters together
+is_partition : IsPartitionByRole two_repeaters together
 is_partition = record { each = both_together.each; lowest = both_together.lowest; alike = both_together.alike }
 
 -- It is the only_item one but the finest.
@@ -62,7 +62,7 @@ second_entry : (p : List ℕ) → p ≢ finest two_repeaters → (a b : ℕ) →
 second_entry p ne a b e l (inl f) = let g : a ≡ 0 = omega (arith, l) in absurd (ne (e ∙ ap₂ (λ (x y : ℕ). x ∷ y ∷ []) g f))
 second_entry p ne a b e l (inr m) = let g : a ≡ 0 = omega (arith, l) in let f : b ≡ 0 = omega (arith, m) in e ∙ ap₂ (λ (x y : ℕ). x ∷ y ∷ []) g f
 
-only_partition : (p : List ℕ) → IsPartition two_repeaters p → p ≢ finest two_repeaters → p ≡ together
+only_partition : (p : List ℕ) → IsPartitionByRole two_repeaters p → p ≢ finest two_repeaters → p ≡ together
 only_partition [] part ne = absurd (let e = part.each in omega (arith, e))
 only_partition (a ∷ []) part ne = absurd (let e = part.each in omega (arith, e))
 only_partition (a ∷ b ∷ []) part ne = second_entry (a ∷ b ∷ []) ne a b refl (part.lowest 0 a refl).0 (eq-or-lt_of_le (part.lowest 1 b refl).0)

@@ -5,7 +5,7 @@ use Rattle.cp_lists.specs.Lists.{IsIn, here}
 use Rattle.cp_model.specs.declared.node.OrderPair.{OrderPair}
 use Rattle.cp_lists.proofs.Members.{in_append_left, in_append_right, in_append, only_item}
 use Rattle.cp_collapse.specs.Property.{Has}
-use Rattle.cp_collapse.specs.Collapses.{pair_in, LiesOnOne, ArePairsIn}
+use Rattle.cp_collapse.specs.Collapses.{collapsed_pair, LiesOnOne, ArePairsIn}
 
 module _ {A B : Type 0} (f : A → B) where
   has_more : (xs : List A) (x : A) (y : B) → Has (λ z. f z ≡ y) xs → Has (λ z. f z ≡ y) (xs ++ (x ∷ []))
@@ -23,33 +23,33 @@ module _ (p : List ℕ) where
   pairs_none r = (λ i. elim i [ ], λ h. elim h.0.1 [ ])
 
   module _ (qs rs : List OrderPair) (q : OrderPair) (so_far : ArePairsIn p qs rs) where
-    old_pair : (r : OrderPair) → IsIn r rs → Has (λ z. pair_in p z ≡ r) (qs ++ (q ∷ [])) × (r.earlier.strand ≢ r.later.strand)
-    old_pair r i = let h = (so_far r).0 i in (has_more (pair_in p) qs q r h.0, h.1)
+    old_pair : (r : OrderPair) → IsIn r rs → Has (λ z. collapsed_pair p z ≡ r) (qs ++ (q ∷ [])) × (r.earlier.strand ≢ r.later.strand)
+    old_pair r i = let h = (so_far r).0 i in (has_more (collapsed_pair p) qs q r h.0, h.1)
 
     -- The pair lies between different strands, and its image is put.
-    pub pairs_more : (LiesOnOne p q → ⊥) → ArePairsIn p (qs ++ (q ∷ [])) (rs ++ (pair_in p q ∷ []))
-    pairs_more apart r = (λ i. from (in_append rs (pair_in p q ∷ []) i), λ h. into h.1 (has_cases (pair_in p) qs q r h.0))
+    pub pairs_more : (LiesOnOne p q → ⊥) → ArePairsIn p (qs ++ (q ∷ [])) (rs ++ (collapsed_pair p q ∷ []))
+    pairs_more apart r = (λ i. from (in_append rs (collapsed_pair p q ∷ []) i), λ h. into h.1 (has_cases (collapsed_pair p) qs q r h.0))
       where
-        from : IsIn r rs ⊎ IsIn r (pair_in p q ∷ []) → Has (λ z. pair_in p z ≡ r) (qs ++ (q ∷ [])) × (r.earlier.strand ≢ r.later.strand)
+        from : IsIn r rs ⊎ IsIn r (collapsed_pair p q ∷ []) → Has (λ z. collapsed_pair p z ≡ r) (qs ++ (q ∷ [])) × (r.earlier.strand ≢ r.later.strand)
         from (inl i) = old_pair r i
         from (inr i) = ((q, in_append_right qs here, sym (only_item i)), subst (λ (z : OrderPair). z.earlier.strand ≢ z.later.strand) (sym (only_item i)) apart)
 
-        into : r.earlier.strand ≢ r.later.strand → Has (λ z. pair_in p z ≡ r) qs ⊎ (pair_in p q ≡ r) → IsIn r (rs ++ (pair_in p q ∷ []))
-        into ne (inl h) = in_append_left (pair_in p q ∷ []) ((so_far r).1 (h, ne))
-        into ne (inr e) = in_append_right rs (subst (λ (z : OrderPair). IsIn z (pair_in p q ∷ [])) e here)
+        into : r.earlier.strand ≢ r.later.strand → Has (λ z. collapsed_pair p z ≡ r) qs ⊎ (collapsed_pair p q ≡ r) → IsIn r (rs ++ (collapsed_pair p q ∷ []))
+        into ne (inl h) = in_append_left (collapsed_pair p q ∷ []) ((so_far r).1 (h, ne))
+        into ne (inr e) = in_append_right rs (subst (λ (z : OrderPair). IsIn z (collapsed_pair p q ∷ [])) e here)
 
     -- The image is there already.
-    pub pairs_again : IsIn (pair_in p q) rs → ArePairsIn p (qs ++ (q ∷ [])) rs
-    pairs_again listed r = (λ i. old_pair r i, λ h. into h.1 (has_cases (pair_in p) qs q r h.0))
+    pub pairs_again : IsIn (collapsed_pair p q) rs → ArePairsIn p (qs ++ (q ∷ [])) rs
+    pairs_again listed r = (λ i. old_pair r i, λ h. into h.1 (has_cases (collapsed_pair p) qs q r h.0))
       where
-        into : r.earlier.strand ≢ r.later.strand → Has (λ z. pair_in p z ≡ r) qs ⊎ (pair_in p q ≡ r) → IsIn r rs
+        into : r.earlier.strand ≢ r.later.strand → Has (λ z. collapsed_pair p z ≡ r) qs ⊎ (collapsed_pair p q ≡ r) → IsIn r rs
         into ne (inl h) = (so_far r).1 (h, ne)
         into ne (inr e) = subst (λ (z : OrderPair). IsIn z rs) e listed
 
     -- The pair comes to lie on one strand, and is dropped.
     pub pairs_dropped : LiesOnOne p q → ArePairsIn p (qs ++ (q ∷ [])) rs
-    pairs_dropped one r = (λ i. old_pair r i, λ h. into h.1 (has_cases (pair_in p) qs q r h.0))
+    pairs_dropped one r = (λ i. old_pair r i, λ h. into h.1 (has_cases (collapsed_pair p) qs q r h.0))
       where
-        into : r.earlier.strand ≢ r.later.strand → Has (λ z. pair_in p z ≡ r) qs ⊎ (pair_in p q ≡ r) → IsIn r rs
+        into : r.earlier.strand ≢ r.later.strand → Has (λ z. collapsed_pair p z ≡ r) qs ⊎ (collapsed_pair p q ≡ r) → IsIn r rs
         into ne (inl h) = (so_far r).1 (h, ne)
         into ne (inr e) = absurd (subst (λ (z : OrderPair). z.earlier.strand ≢ z.later.strand) (sym e) ne one)

@@ -4,7 +4,7 @@ use native.Mathlib.Decide.{dec_lt}
 use Rattle.cp_lists.specs.Lists.{item_at}
 use Rattle.cp_model.specs.Homomorphism.{number_or}
 use Rattle.cp_lists.proofs.Items.{item_there, item_past, item_below, other_entry}
-use Rattle.cp_collapse.specs.Partitions.{is_own, lowest_before, blocks, place_in}
+use Rattle.cp_collapse.specs.Partitions.{is_own, lowest_before, block_count, place_in}
 use Rattle.cp_collapse.proofs.Lowest.{both, least, least_is}
 
 -- The strand is the lowest of its block.
@@ -112,7 +112,7 @@ pub place_of_own : (p : List ℕ) (s place : ℕ) → IsOwn p s → lowest_befor
 place_of_own p s place own e = elim (entry_of_own p s own) [ inl none ↦ place_beyond p s none ∙ e | inr some ↦ place_of_entry p s s some ∙ e ]
 
 -- Past the list the places go on from the count of the blocks.
-pub count_beyond : (p : List ℕ) (j : ℕ) → lowest_before p (length p + j) ≡ blocks p + j
+pub count_beyond : (p : List ℕ) (j : ℕ) → lowest_before p (length p + j) ≡ block_count p + j
 count_beyond p zero = let e : length p + 0 ≡ length p = omega arith in ap (lowest_before p) e ∙ omega arith
 count_beyond p (suc j) =
     let e = count_beyond p j in
@@ -120,7 +120,7 @@ count_beyond p (suc j) =
     let next : length p + suc j ≡ suc (length p + j) = omega arith in
     ap (lowest_before p) next ∙ r ∙ omega (arith, e)
 
-pub place_past : (p : List ℕ) (s : ℕ) → length p ≤ s → place_in p s ≡ blocks p + (s - length p)
+pub place_past : (p : List ℕ) (s : ℕ) → length p ≤ s → place_in p s ≡ block_count p + (s - length p)
 place_past p s le =
     let e : s ≡ length p + (s - length p) = omega (arith, le) in
     place_beyond p s (item_past p s le) ∙ ap (lowest_before p) e ∙ count_beyond p (s - length p)
@@ -144,7 +144,7 @@ count_past p n m le e =
     ap (λ (x : ℕ). x + (n - length p)) e ∙ sym (count_beyond p (n - length p)) ∙ ap (lowest_before p) f
 
 -- At each place of merged strands one of the block that has the place stood before.
-pub strand_at_place : {A : Type 0} (strands merged : List A) (p : List ℕ) → length p ≡ length strands → length merged ≡ blocks p → (place : ℕ) (x : A) → item_at merged place ≡ Some x →
+pub strand_at_place : {A : Type 0} (strands merged : List A) (p : List ℕ) → length p ≡ length strands → length merged ≡ block_count p → (place : ℕ) (x : A) → item_at merged place ≡ Some x →
     (s : ℕ) × (own : A) × (place_in p s ≡ place) × (item_at strands s ≡ Some own)
 strand_at_place strands merged p each count place x at =
     let below = item_below merged place x at in

@@ -8,8 +8,8 @@ use Rattle.cp_model.specs.Problem.{declared_sort, IsDeclared}
 use Rattle.cp_model.proofs.LawPrefixes.{variables_of_higher}
 use Rattle.cp_lists.proofs.Items.{map_of_item, item_of_read}
 use Rattle.cp_unify.specs.Bindings.{Binding, Meets}
-use Rattle.cp_unify.specs.Unifiers.{IsMostGeneral, HasNoUnifier}
-use Rattle.cp_skel.specs.Extensions.{IsClosedPrefix}
+use Rattle.cp_unify.specs.Unifiers.{IsMostGeneralUnifier, HasNoUnifier}
+use Rattle.cp_model.specs.Extensions.{IsClosedPrefix}
 use Rattle.cp_model.specs.Same.{has_variable}
 use Rattle.cp_model.proofs.SameTests.{variable_in, in_has_variable}
 use Rattle.cp_model.proofs.DeclaredVariables.{declared_below}
@@ -18,7 +18,7 @@ use Rattle.cp_strand.specs.declared.protocol.Declaration.{Declaration as Declare
 use Rattle.cp_collapse.specs.FirstPartitions.{IsExactFor}
 use Rattle.cp_collapse.specs.Partials.{AreSolved}
 use Rattle.cp_collapse.specs.Partitions.{HaveEqualValues}
-use Rattle.cp_collapse.specs.Values.{term_of_variable}
+use Rattle.cp_collapse.specs.Values.{image_of_variable}
 use Rattle.cp_collapse.proofs.Exact.{exact_same, exact_unified, never_unified, equal_terms, terms_equal}
 
 -- ---- the variable that is declared at a number
@@ -91,14 +91,14 @@ module _ (e : Assignment → Type 0) (role : Role) (height : ℕ) (s t : Substit
           missing x i e = let q : true ≡ false = sym (in_has_variable (variables_of_prefix role height) y (subst (λ (z : Variable). IsIn z (variables_of_prefix role height)) (sym (only x i e)) i)) ∙ none in cc
 
       -- It does, and its terms are unified, or have no unifier.
-      module _ (there : has_variable (variables_of_prefix role height) y ≡ true) (a b : Term) (first : a ≡ term_of_variable s y) (second : b ≡ term_of_variable t y) where
+      module _ (there : has_variable (variables_of_prefix role height) y ≡ true) (a b : Term) (first : a ≡ image_of_variable s y) (second : b ≡ image_of_variable t y) where
         equal : (g : Assignment) → AgreeBelow (n + 1) g → value_of g a ≡ value_of g b
         equal g f = ap (value_of g) first ∙ terms_equal g s t y (f.1 y (variable_in (variables_of_prefix role height) y there) (omega (arith, number))) ∙ ap (value_of g) (sym second)
 
         agrees : (g : Assignment) → value_of g a ≡ value_of g b → (x : Variable) → IsIn x (variables_of_prefix role height) → x.number ≡ n → Agree g x
         agrees g same x i e = subst (Agree g) (only x i e) (equal_terms g s t y (ap (value_of g) (sym first) ∙ same ∙ ap (value_of g) second))
 
-        pub below_takes : (q : List Binding) → IsMostGeneral a b r q → IsExactFor (AgreeBelow (n + 1)) q
+        pub below_takes : (q : List Binding) → IsMostGeneralUnifier a b r q → IsExactFor (AgreeBelow (n + 1)) q
         below_takes q m =
             exact_same (λ g. AgreeBelow n g × (value_of g a ≡ value_of g b)) (AgreeBelow (n + 1)) q
             (λ g f. one_more g f.0 (agrees g f.1))
@@ -137,5 +137,5 @@ at_declaration role role' height n id ds d es b less is are prefix same numbered
     (subst (λ vs. IsDeclared vs (variable_at d n)) are (declared_there ds n d (variable_at d n) less is refl), test_there role role' height (variable_at d id) (variable_at d n) es b prefix same (ap (variable_at d) numbered) test)
 
 -- The term of a variable in a list.
-pub term_there : (ts us : List Term) (x y : Variable) (t : Term) → us ≡ ts → x ≡ y → t ≡ term_of_variable (substitution_by us) x → t ≡ term_of_variable (substitution_by ts) y
-term_there ts us x y t list is e = e ∙ ap (λ vs. term_of_variable (substitution_by vs) x) list ∙ ap (term_of_variable (substitution_by ts)) is
+pub term_there : (ts us : List Term) (x y : Variable) (t : Term) → us ≡ ts → x ≡ y → t ≡ image_of_variable (substitution_by us) x → t ≡ image_of_variable (substitution_by ts) y
+term_there ts us x y t list is e = e ∙ ap (λ vs. image_of_variable (substitution_by vs) x) list ∙ ap (image_of_variable (substitution_by ts)) is

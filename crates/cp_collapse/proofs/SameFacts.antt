@@ -9,7 +9,7 @@ use Rattle.cp_model.specs.Skeleton.{UniqueAt, Assumptions, Skeleton, term_event_
 use Rattle.cp_model.specs.declared.node.OrderPair.{OrderPair}
 use Rattle.cp_model.specs.Derivable.{IsOnInstance}
 use Rattle.cp_model.specs.Realisation.{OriginatesAtTerm}
-use Rattle.cp_completeness.specs.Normal.{IsCarriedAt, with_pairs, skeleton_under, assumptions_under, from_problem_under}
+use Rattle.cp_theory.specs.Normal.{IsCarriedAt, with_pairs, skeleton_under, assumptions_under, from_problem_under}
 use Rattle.cp_model.proofs.StatedStays.{HasAssumptionsOf}
 use Rattle.cp_collapse.specs.SameSkeletons.{SaysTheSame}
 use Rattle.cp_collapse.proofs.SameStrands.{all_same_itself, all_same_back, instance_at, same_trace_at, same_event_at, all_same_under, all_same_then}

@@ -8,7 +8,7 @@ use Rattle.cp_model.specs.declared.node.Node.{Node}
 use Rattle.cp_model.specs.Skeleton.{UniqueAt, Assumptions, Skeleton, Before, IsOrderPair, IsOrigin, GivesAssumptions, IsSkeleton}
 use Rattle.cp_model.specs.declared.node.OrderPair.{OrderPair}
 use Rattle.cp_model.proofs.LawAgreement.{agree_atom}
-use Rattle.cp_skel.proofs.UnderVariables.{applies_at}
+use Rattle.cp_model.proofs.UnderVariables.{applies_at}
 use Rattle.cp_collapse.specs.SameSkeletons.{SaysTheSame}
 use Rattle.cp_collapse.proofs.SameStrands.{all_same_back, instance_at}
 use Rattle.cp_collapse.proofs.SameFacts.{says_back, same_event, same_before}

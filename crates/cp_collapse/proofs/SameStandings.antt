@@ -10,8 +10,8 @@ use Rattle.cp_model.specs.Skeleton.{instance, UniqueAt, Assumptions, FromProblem
 use Rattle.cp_model.specs.Standing.{Standing, image_of, StandsOnRegular, StandsIn, StandsApart}
 use Rattle.cp_model.specs.Homomorphism.{FactorsThrough}
 use Rattle.cp_model.proofs.LawTerms.{atom_after}
-use Rattle.cp_completeness.specs.Normal.{LosesNoStanding}
-use Rattle.cp_completeness.proofs.Under.{stands_on_equal, factors_then}
+use Rattle.cp_theory.specs.Normal.{LosesNoStanding}
+use Rattle.cp_theory.proofs.Under.{stands_on_equal, factors_then}
 use Rattle.cp_collapse.specs.SameSkeletons.{SaysTheSame}
 use Rattle.cp_collapse.proofs.SameStrands.{instance_at, listener_at, same_image_at}
 use Rattle.cp_collapse.proofs.SameFacts.{says_back, same_before}

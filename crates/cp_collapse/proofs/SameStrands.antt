@@ -8,7 +8,7 @@ use Rattle.cp_model.specs.Skeleton.{SkeletonStrand, instance, listener, skeleton
 use Rattle.cp_model.specs.Standing.{image_on}
 use Rattle.cp_lists.proofs.Members.{in_append_left, in_append_right}
 use Rattle.cp_model.proofs.LawTerms.{atom_composed}
-use Rattle.cp_completeness.specs.Normal.{strand_under}
+use Rattle.cp_theory.specs.Normal.{strand_under}
 use Rattle.cp_model.proofs.LawAgreement.{agree_event}
 use Rattle.cp_collapse.specs.SameSkeletons.{IsSameStrand, same_instance, same_listener, AreSameStrands, no_strands, same_strands}
 

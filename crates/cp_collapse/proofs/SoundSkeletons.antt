@@ -9,10 +9,10 @@ use Rattle.cp_model.specs.Skeleton.{UniqueAt, FromProblem, Skeleton, Before, IsO
 use Rattle.cp_model.specs.declared.node.OrderPair.{OrderPair}
 use Rattle.cp_model.specs.Stated.{HasOwnAssumptions}
 use Rattle.cp_model.proofs.StatedStays.{own_stays}
-use Rattle.cp_completeness.specs.Normal.{strand_under, skeleton_under}
-use Rattle.cp_completeness.proofs.Mapped.{before_under}
-use Rattle.cp_completeness.proofs.Skeletons.{skeleton_under_is_skeleton}
-use Rattle.cp_completeness.proofs.StatedSteps.{assumed_under}
+use Rattle.cp_theory.specs.Normal.{strand_under, skeleton_under}
+use Rattle.cp_theory.proofs.Mapped.{before_under}
+use Rattle.cp_theory.proofs.Skeletons.{skeleton_under_is_skeleton}
+use Rattle.cp_theory.proofs.StatedSteps.{assumed_under}
 use Rattle.cp_skel.specs.Sound.{IsSound}
 use Rattle.cp_skel.proofs.CarriedHomomorphisms.{before_too}
 use Rattle.cp_skel.proofs.EachOnce.{listed-non, listed-penetrator-non, listed-unique}

@@ -9,10 +9,10 @@ use Rattle.cp_model.specs.Skeleton.{SkeletonStrand, instance, listener, Skeleton
 use Rattle.cp_model.specs.Standing.{Standing, StandsIn, StandsApart}
 use Rattle.cp_model.proofs.Numbers.{numbers_length}
 use Rattle.cp_lists.proofs.Items.{item_of_map, map_of_item, item_below}
-use Rattle.cp_collapse.specs.Partitions.{is_instance, AreOfOneRole, IsPartition, finest, AreTogether, IdentifiesValues}
+use Rattle.cp_collapse.specs.Partitions.{is_some_instance, AreOfOneRole, IsPartitionByRole, finest, AreTogether, IdentifiesValues}
 use Rattle.cp_collapse.proofs.Lowest.{both, low, low_below, low_with, low_same, low_of_low, numbers_at, at_numbers}
 
-pub instance_of : (o : Option SkeletonStrand) → is_instance o ≡ true → (role : Role) × (height : ℕ) × (terms : Substitution) × (o ≡ Some (instance role height terms))
+pub instance_of : (o : Option SkeletonStrand) → is_some_instance o ≡ true → (role : Role) × (height : ℕ) × (terms : Substitution) × (o ≡ Some (instance role height terms))
 instance_of None e = absurd (cc)
 instance_of (Some (listener t)) e = absurd (cc)
 instance_of (Some (instance role height terms)) e = (role, height, terms, refl)
@@ -26,18 +26,18 @@ regulars_at {role = role} {role' = role'} {height = height} {height' = height'} 
 module _ (k : Skeleton) (h : Standing) where
   -- Two role strands go to one strand.
   abbrev pub together : ℕ → ℕ → Bool
-  together s t = (is_instance (item_at k.strands s) && is_instance (item_at k.strands t)) && nat_eq (h.nodes s).strand (h.nodes t).strand
+  together s t = (is_some_instance (item_at k.strands s) && is_some_instance (item_at k.strands t)) && nat_eq (h.nodes s).strand (h.nodes t).strand
 
   abbrev pub partition : List ℕ
   partition = map (low together) (finest k)
 
-  together_tells : (s t : ℕ) → together s t ≡ true → (is_instance (item_at k.strands s) ≡ true) × (is_instance (item_at k.strands t) ≡ true) × ((h.nodes s).strand ≡ (h.nodes t).strand)
+  together_tells : (s t : ℕ) → together s t ≡ true → (is_some_instance (item_at k.strands s) ≡ true) × (is_some_instance (item_at k.strands t) ≡ true) × ((h.nodes s).strand ≡ (h.nodes t).strand)
   together_tells s t e =
-      let a = both (is_instance (item_at k.strands s) && is_instance (item_at k.strands t)) (nat_eq (h.nodes s).strand (h.nodes t).strand) e in
-      let b = both (is_instance (item_at k.strands s)) (is_instance (item_at k.strands t)) a.0 in
+      let a = both (is_some_instance (item_at k.strands s) && is_some_instance (item_at k.strands t)) (nat_eq (h.nodes s).strand (h.nodes t).strand) e in
+      let b = both (is_some_instance (item_at k.strands s)) (is_some_instance (item_at k.strands t)) a.0 in
       (b.0, b.1, eqb-true (h.nodes s).strand (h.nodes t).strand a.1)
 
-  are_together : (s t : ℕ) → is_instance (item_at k.strands s) ≡ true → is_instance (item_at k.strands t) ≡ true → (h.nodes s).strand ≡ (h.nodes t).strand → together s t ≡ true
+  are_together : (s t : ℕ) → is_some_instance (item_at k.strands s) ≡ true → is_some_instance (item_at k.strands t) ≡ true → (h.nodes s).strand ≡ (h.nodes t).strand → together s t ≡ true
   are_together s t a b e = rw (a, b) (eq-eqb (h.nodes s).strand (h.nodes t).strand e)
 
   back : (s t : ℕ) → together s t ≡ true → together t s ≡ true
@@ -63,7 +63,7 @@ module _ (k : Skeleton) (h : Standing) where
   pub one_entry : (s t : ℕ) (role : Role) (height : ℕ) (terms : Substitution) (role' : Role) (height' : ℕ) (terms' : Substitution) →
       item_at k.strands s ≡ Some (instance role height terms) → item_at k.strands t ≡ Some (instance role' height' terms') →
       (h.nodes s).strand ≡ (h.nodes t).strand → low together s ≡ low together t
-  one_entry s t role height terms role' height' terms' at au e = low_same together back then s t (are_together s t (ap is_instance at) (ap is_instance au) e)
+  one_entry s t role height terms role' height' terms' at au e = low_same together back then s t (are_together s t (ap is_some_instance at) (ap is_some_instance au) e)
 
   pub goes_where_low_goes : (s : ℕ) → (h.nodes (low together s)).strand ≡ (h.nodes s).strand
   goes_where_low_goes s = elim (low_with together s) [ inl e ↦ ap (λ (t : ℕ). (h.nodes t).strand) e | inr e ↦ (together_tells (low together s) s e).2 ]
@@ -95,7 +95,7 @@ module _ (k : Skeleton) (h : Standing) where
     pub alike_or_same : (s : ℕ) → s ≢ low together s → AreOfOneRole k.strands s (low together s)
     alike_or_same s ne = elim (low_with together s) [ inl e ↦ absurd (ne (sym e)) | inr e ↦ alike_at s (low together s) e ]
 
-    pub is_partition : IsPartition k partition
+    pub is_partition : IsPartitionByRole k partition
     is_partition = record {
       each = partition_length;
       lowest = λ s l e.

@@ -14,9 +14,9 @@ use Rattle.cp_model.specs.Stated.{unique_image, pair_image, IsImageOfOne, KeepsS
 use Rattle.cp_lists.proofs.Items.{item_below, map_of_item}
 use Rattle.cp_model.proofs.LawStandings.{strand_of_event}
 use Rattle.cp_model.proofs.Images.{images_then}
-use Rattle.cp_completeness.proofs.StatedSteps.{non_declared, penetrator_non_declared, unique_declared, value_under}
+use Rattle.cp_theory.proofs.StatedSteps.{non_declared, penetrator_non_declared, unique_declared, value_under}
 use Rattle.cp_collapse.specs.Partitions.{place_in}
-use Rattle.cp_collapse.specs.Collapses.{unique_in, pair_in, IsCollapsed}
+use Rattle.cp_collapse.specs.Collapses.{unique_in, collapsed_pair, IsCollapsed}
 use Rattle.cp_collapse.proofs.CollapsedFromProblem.{own_of, in_range_in, own_non, own_penetrator_non, own_unique, assumed_in, ordered_in}
 use Rattle.cp_collapse.proofs.Lowest.{numbers_at}
 
@@ -63,7 +63,7 @@ module _ (protocol : Protocol) (variables : List Declaration) (problem k l : Ske
     origin = node_at (goes u.origin.strand (origin_below protocol variables problem sp own u i) j) u.origin.index;
   }
 
-  pair_goes : (q : OrderPair) → IsIn q problem.from_problem.pairs → pair_image last q ≡ pair_in p (pair_image first q)
+  pair_goes : (q : OrderPair) → IsIn q problem.from_problem.pairs → pair_image last q ≡ collapsed_pair p (pair_image first q)
   pair_goes q i = λ j. record {
     earlier = node_at (goes q.earlier.strand (pair_below protocol variables problem sp own q i).0 j) q.earlier.index;
     later = node_at (goes q.later.strand (pair_below protocol variables problem sp own q i).1 j) q.later.index;
@@ -71,17 +71,17 @@ module _ (protocol : Protocol) (variables : List Declaration) (problem k l : Ske
 
   -- ---- the pairs
 
-  was_between : (q r : OrderPair) → pair_in p q ≡ r → (r.earlier.strand ≡ r.later.strand → ⊥) → q.earlier.strand ≡ q.later.strand → ⊥
+  was_between : (q r : OrderPair) → collapsed_pair p q ≡ r → (r.earlier.strand ≡ r.later.strand → ⊥) → q.earlier.strand ≡ q.later.strand → ⊥
   was_between q r e other same = other (sym (ap (λ (d : OrderPair). d.earlier.strand) e) ∙ ap (place_in p) same ∙ ap (λ (d : OrderPair). d.later.strand) e)
 
   own_pairs : (r : OrderPair) → IsIn r l.from_problem.pairs ↔ (IsImageOfOne (pair_image last) problem.from_problem.pairs r × (r.earlier.strand ≡ r.later.strand → ⊥))
   own_pairs r = (
     λ i. let h = (c.from_problem.pairs r).0 i in
         let o = ((keeps.pairs h.0.0).0 h.0.1).0 in
-        (record { item = o.item; listed = o.listed; image = pair_goes o.item o.listed ∙ ap (pair_in p) o.image ∙ h.0.2 }, h.1),
+        (record { item = o.item; listed = o.listed; image = pair_goes o.item o.listed ∙ ap (collapsed_pair p) o.image ∙ h.0.2 }, h.1),
     λ h. let o = h.0 in
         let q = pair_image first o.item in
-        let e : pair_in p q ≡ r = sym (pair_goes o.item o.listed) ∙ o.image in
+        let e : collapsed_pair p q ≡ r = sym (pair_goes o.item o.listed) ∙ o.image in
         (c.from_problem.pairs r).1 ((q, (keeps.pairs q).1 (record { item = o.item; listed = o.listed; image = λ j. q }, was_between q r e h.1), e), h.1),
   )
 

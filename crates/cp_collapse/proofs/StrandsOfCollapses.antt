@@ -4,12 +4,12 @@ use Rattle.cp_lists.specs.Lists.{item_at}
 use Rattle.cp_model.specs.Term.{Term, AgreeOnTerms, Substitution, apply_to, composed}
 use Rattle.cp_model.specs.Strand.{Role, variables_of_prefix}
 use Rattle.cp_model.specs.Skeleton.{SkeletonStrand, instance, listener, Skeleton}
-use Rattle.cp_collapse.specs.Partitions.{IsPartition, place_in}
+use Rattle.cp_collapse.specs.Partitions.{IsPartitionByRole, place_in}
 use Rattle.cp_collapse.specs.Collapses.{IsCollapsed}
 use Rattle.cp_collapse.proofs.Places.{strand_at_place}
 
 -- A property of strands holds of what each instance and each listener of the skeleton is under the unifier.
-module _ (k l : Skeleton) (p : List ℕ) (part : IsPartition k p) (collapsed : IsCollapsed k p l) (P : SkeletonStrand → Type 0)
+module _ (k l : Skeleton) (p : List ℕ) (part : IsPartitionByRole k p) (collapsed : IsCollapsed k p l) (P : SkeletonStrand → Type 0)
     (of_instance : (n : ℕ) (role : Role) (height : ℕ) (terms to : Substitution) → item_at k.strands n ≡ Some (instance role height terms) → AgreeOnTerms (variables_of_prefix role height) (composed terms collapsed.unifier) to → P (instance role height to))
     (of_listener : (n : ℕ) (t : Term) → item_at k.strands n ≡ Some (listener t) → P (listener (apply_to collapsed.unifier t))) where
   abbrev f : Substitution

@@ -7,18 +7,18 @@ use Rattle.cp_model.specs.Strand.{Role}
 use Rattle.cp_model.specs.Term.{Substitution}
 use Rattle.cp_model.specs.Skeleton.{SkeletonStrand, instance, Skeleton}
 use Rattle.cp_lists.proofs.Items.{item_below, item_there, map_of_item}
-use Rattle.cp_completeness.specs.Normal.{strand_under}
+use Rattle.cp_theory.specs.Normal.{strand_under}
 use Rattle.cp_skel.specs.DeclaredPrefixes.{HasDeclaredPrefixes}
 use Rattle.cp_strand.specs.View.{strand_view}
 use Rattle.cp_model.specs.Data.{StrandData as Strand}
 use Rattle.cp_collapse.specs.SameSkeletons.{IsSameStrand, AreSameStrands, no_strands, same_strands}
 use Rattle.cp_collapse.specs.MergedStrands.{height_of, IsAsTall, IsTallestTo, AreMergedTo, AreMergedAlike, IsUnder}
-use Rattle.cp_collapse.specs.Partitions.{AreOfOneRole, IsPartition}
+use Rattle.cp_collapse.specs.Partitions.{AreOfOneRole, IsPartitionByRole}
 use Rattle.cp_collapse.proofs.Joined.{alike_back, alike_then}
 use Rattle.cp_collapse.proofs.MergeLoops.{tallest_keeps, tallest_changes, none_merged, passes_on, puts_next}
 use Rattle.cp_collapse.proofs.Values.{same_under}
 
-module _ (k : Skeleton) (p : List ℕ) (part : IsPartition k p) (l : ℕ) where
+module _ (k : Skeleton) (p : List ℕ) (part : IsPartitionByRole k p) (l : ℕ) where
   both_alike : (i t : ℕ) → item_at p i ≡ Some l → item_at p t ≡ Some l → i ≢ t → Dec (i ≡ l) → Dec (t ≡ l) → AreOfOneRole k.strands i t
   both_alike i t e f ne (yes a) (yes b) = absurd (ne (a ∙ sym b))
   both_alike i t e f ne (yes a) (no b) = subst (λ (m : ℕ). AreOfOneRole k.strands m t) (sym a) (alike_back k.strands t l (part.alike t l f b))

@@ -8,16 +8,16 @@ use Rattle.cp_model.specs.declared.node.OrderPair.{OrderPair}
 use Rattle.cp_model.specs.Homomorphism.{text_in, datum_in, name_in, skey_in, akey_in, substitution_by}
 use Rattle.cp_model.specs.Problem.{declared_sort, IsDeclared}
 use Rattle.cp_lists.proofs.Items.{map_of_item}
-use Rattle.cp_completeness.specs.Normal.{strand_under, assumptions_under, from_problem_under, skeleton_under}
+use Rattle.cp_theory.specs.Normal.{strand_under, assumptions_under, from_problem_under, skeleton_under}
 use Rattle.cp_unify.specs.Bindings.{sort_of}
-use Rattle.cp_skel.specs.Extensions.{IsClosedPrefix}
+use Rattle.cp_model.specs.Extensions.{IsClosedPrefix}
 use Rattle.cp_model.specs.Data.{Declared, InstanceData, StrandData, SkeletonData, skeleton_of}
 use Rattle.cp_strand.specs.View.{instance_as_data, strand_view}
 use Rattle.cp_skel.specs.View.{skeleton_view}
 use Rattle.cp_skel.specs.DeclaredPrefixes.{HasDeclaredPrefixes}
-use Rattle.cp_strand.specs.PrefixVariables.{declared_variables, terms_of}
+use Rattle.cp_model.specs.PrefixVariables.{declared_variables, terms_of}
 use Rattle.cp_collapse.specs.SameSkeletons.{IsSameStrand, same_instance, same_listener, AreSameStrands, no_strands, same_strands, SaysTheSame}
-use Rattle.cp_collapse.specs.Values.{term_of_variable, on_declared, declared_under}
+use Rattle.cp_collapse.specs.Values.{image_of_variable, on_declared, declared_under}
 
 -- ---- sorts
 
@@ -62,7 +62,7 @@ declared_item m (suc n) k (d ∷ ds) sort e at = let next : k ≡ suc m + n = om
 pub declared_kept : (role : Role) (s : Substitution) (x : Variable) → IsDeclared role.variables x → apply_to_atom s (atom_of_variable x) ≡ apply_to_atom (on_declared role s) (atom_of_variable x)
 declared_kept role s x declared =
     sym (value_is (terms_of s (declared_variables 0 role.variables)) x.number (apply_to_atom s (atom_of_variable x)) x.sort (sort_kept s (atom_of_variable x) ∙ sort_of_variable x.sort x.number)
-    (map_of_item (term_of_variable s) (declared_variables 0 role.variables) x.number x (declared_item 0 x.number x.number role.variables x.sort (omega arith) declared)))
+    (map_of_item (image_of_variable s) (declared_variables 0 role.variables) x.number x (declared_item 0 x.number x.number role.variables x.sort (omega arith) declared)))
 
 -- ---- strands
 

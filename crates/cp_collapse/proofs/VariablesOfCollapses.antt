@@ -10,10 +10,10 @@ use Rattle.cp_lists.proofs.Members.{in_append, in_append_left, in_append_right, 
 use Rattle.cp_model.proofs.LawTerms.{atom_after, atom_composed}
 use Rattle.cp_model.proofs.LawAgreement.{agree_atom}
 use Rattle.cp_model.proofs.OccurringVariables.{in_trace_under, in_strands, in_atoms, in_uniques, strand_with, atom_with, unique_with}
-use Rattle.cp_completeness.proofs.Under.{trace_under}
+use Rattle.cp_theory.proofs.Under.{trace_under}
 use Rattle.cp_unify.proofs.Free.{free}
 use Rattle.cp_collapse.specs.SameSkeletons.{same_instance}
-use Rattle.cp_collapse.specs.Partitions.{IsPartition, IdentifiesValues}
+use Rattle.cp_collapse.specs.Partitions.{IsPartitionByRole, IdentifiesValues}
 use Rattle.cp_collapse.specs.Collapses.{IsCollapsed, AreCollapsesBy, no_collapses, collapse_by}
 use Rattle.cp_collapse.proofs.AssumptionImages.{assumptions_are}
 use Rattle.cp_collapse.proofs.SameStrands.{same_trace}
@@ -85,7 +85,7 @@ value_composed t d x =
     ∙ atom_after free t (apply_to_atom d (atom_of_variable x))
     ∙ ap (value_of_atom free) (sym (atom_composed d t (atom_of_variable x)))
 
-module _ (variables : List Declaration) (k : Skeleton) (h : HasDeclaredVariables variables k) (p : List ℕ) (l : Skeleton) (part : IsPartition k p) (collapsed : IsCollapsed k p l) where
+module _ (variables : List Declaration) (k : Skeleton) (h : HasDeclaredVariables variables k) (p : List ℕ) (l : Skeleton) (part : IsPartitionByRole k p) (collapsed : IsCollapsed k p l) where
   abbrev f : Substitution
   f = collapsed.unifier
 

@@ -4,8 +4,8 @@ use Rattle.cp_model.specs.Term.{Substitution, composed}
 use Rattle.cp_model.specs.Identity.{unchanged}
 use Rattle.cp_model.specs.Skeleton.{instance, Assumptions, FromProblem, Skeleton}
 use Rattle.cp_model.specs.Problem.{variable_terms}
-use Rattle.cp_completeness.specs.Normal.{from_problem_under}
-use Rattle.cp_completeness.specs.Example.{said, heard, repeater}
+use Rattle.cp_theory.specs.Normal.{from_problem_under}
+use Rattle.cp_theory.specs.RepeatedText.{said, heard_declaration, repeater}
 
 abbrev pub no_assumptions : Assumptions
 no_assumptions = record { non_originating = []; penetrator_non_originating = []; uniquely_originating = [] }
@@ -20,7 +20,7 @@ two_repeaters = record {
   strands = instance repeater 1 unchanged ∷ instance repeater 2 other_texts ∷ [];
   pairs = [];
   assumptions = no_assumptions;
-  from_problem = record { strands = 0 ∷ 1 ∷ []; values = variable_terms 0 (said ∷ heard ∷ said ∷ heard ∷ []); assumptions = no_assumptions; pairs = [] };
+  from_problem = record { strands = 0 ∷ 1 ∷ []; values = variable_terms 0 (said ∷ heard_declaration ∷ said ∷ heard_declaration ∷ []); assumptions = no_assumptions; pairs = [] };
 }
 
 -- Both heard one text.

@@ -12,7 +12,7 @@ use Rattle.cp_model.specs.Given.{atoms_onto, uniques_onto, listed}
 use Rattle.cp_model.specs.Standing.{Standing, StandsIn, StandsApart}
 use Rattle.cp_collapse.specs.Directed.{BindsLaterToEarlier}
 use Rattle.cp_collapse.specs.Property.{Has}
-use Rattle.cp_collapse.specs.Partitions.{IsPartition, finest, blocks, place_in, node_in, Identifies, IdentifiesValues, AreDescending}
+use Rattle.cp_collapse.specs.Partitions.{IsPartitionByRole, finest, block_count, place_in, node_in, Identifies, IdentifiesValues, AreDescending}
 
 -- f is the most general substitution that identifies the strands of each block and binds later variables to earlier ones:
 -- every assignment that gives them equal values gives each term the value of that term under f.
@@ -30,12 +30,12 @@ abbrev pub unique_in : List ℕ → Substitution → UniqueAt → UniqueAt
 unique_in p f u = record { value = apply_to_atom f u.value; origin = node_in p u.origin }
 
 -- A pair between the places of its strands' blocks.
-abbrev pub pair_in : List ℕ → OrderPair → OrderPair
-pair_in p q = record { earlier = node_in p q.earlier; later = node_in p q.later }
+abbrev pub collapsed_pair : List ℕ → OrderPair → OrderPair
+collapsed_pair p q = record { earlier = node_in p q.earlier; later = node_in p q.later }
 
 -- The pairs are exactly the images of the others that lie between different strands.
 abbrev pub ArePairsIn : List ℕ → List OrderPair → List OrderPair → Type 0
-ArePairsIn p qs rs = (r : OrderPair) → IsIn r rs ↔ (Has (λ q. pair_in p q ≡ r) qs × (r.earlier.strand ≢ r.later.strand))
+ArePairsIn p qs rs = (r : OrderPair) → IsIn r rs ↔ (Has (λ q. collapsed_pair p q ≡ r) qs × (r.earlier.strand ≢ r.later.strand))
 
 -- The assumptions under a substitution, with each recorded origin at the place of its strand's block, in their order, each
 -- once.
@@ -71,7 +71,7 @@ pub record HasInstance (k : Skeleton) (p : List ℕ) (place : ℕ) (role : Role)
 pub record IsCollapsed (k : Skeleton) (p : List ℕ) (l : Skeleton) : Type 0 where
   pub unifier : Substitution
   pub most_general : IsMostGeneralOn k p unifier
-  pub count : length l.strands ≡ blocks p
+  pub count : length l.strands ≡ block_count p
   pub instances : (s : ℕ) (role : Role) (height : ℕ) (terms : Substitution) → item_at k.strands s ≡ Some (instance role height terms) → GoesToInstance l (onto_blocks p unifier) s role height terms
   pub tallest : (place : ℕ) (role : Role) (height : ℕ) (terms : Substitution) → item_at l.strands place ≡ Some (instance role height terms) → HasInstance k p place role height
   pub listeners : (s : ℕ) (t : Term) → item_at k.strands s ≡ Some (listener t) → item_at l.strands (place_in p s) ≡ Some (listener (apply_to unifier t))
@@ -105,7 +105,7 @@ IsImpossible k p = IsNeverIdentified k p ⊎ (HasPairBackward k p ⊎ HasCycleMe
 
 -- l is the collapse of k by a partition, which is not the finest.
 pub record IsCollapse (k : Skeleton) (p : List ℕ) (l : Skeleton) : Type 0 where
-  pub partition : IsPartition k p
+  pub partition : IsPartitionByRole k p
   pub not_finest : p ≢ finest k
   pub collapsed : IsCollapsed k p l
   pub no_cycle : HasNoCycle l
@@ -121,11 +121,11 @@ pub record AreCollapses (k : Skeleton) (ls : List Skeleton) : Type 0 where
   pub partitions : List (List ℕ)
   pub each : AreCollapsesBy k partitions ls
   pub descending : AreDescending partitions
-  pub all : (p : List ℕ) → IsPartition k p → p ≢ finest k → IsIn p partitions ⊎ IsImpossible k p
+  pub all : (p : List ℕ) → IsPartitionByRole k p → p ≢ finest k → IsIn p partitions ⊎ IsImpossible k p
 
 -- The standing h goes through one of l that stands apart: each strand stands where its block does, and each term has the
 -- value of the term under the substitution.
-pub record StandsThrough (p : List ℕ) (f : Substitution) (l : Skeleton) (b : Bundle) (h : Standing) : Type 0 where
+pub record StandsByCollapse (p : List ℕ) (f : Substitution) (l : Skeleton) (b : Bundle) (h : Standing) : Type 0 where
   pub standing : Standing
   pub stands : StandsIn l b standing
   pub apart : StandsApart l standing
@@ -138,4 +138,4 @@ pub record StandsThroughCollapse (k : Skeleton) (ls : List Skeleton) (b : Bundle
   pub skeleton : Skeleton
   pub listed : IsIn skeleton ls
   pub collapse : IsCollapse k partition skeleton
-  pub through : StandsThrough partition collapse.collapsed.unifier skeleton b h
+  pub through : StandsByCollapse partition collapse.collapsed.unifier skeleton b h

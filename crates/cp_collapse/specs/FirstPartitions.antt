@@ -28,22 +28,22 @@ abbrev pub MayHave : Skeleton → List ℕ → ℕ → ℕ → Type 0
 MayHave k p n l = (l ≡ n) ⊎ ((l < n) × (item_at p l ≡ Some l) × AreOfOneRole k.strands n l)
 
 -- The entry l beside the partition p is behind: p is listed before number i, or is number i and l is m at least.
-abbrev pub IsBehind : List (List ℕ) → ℕ → ℕ → List ℕ → ℕ → Type 0
-IsBehind ps i m p l = (j : ℕ) × (item_at ps j ≡ Some p) × ((j < i) ⊎ ((j ≡ i) × (m ≤ l)))
+abbrev pub IsLaterEntry : List (List ℕ) → ℕ → ℕ → List ℕ → ℕ → Type 0
+IsLaterEntry ps i m p l = (j : ℕ) × (item_at ps j ≡ Some p) × ((j < i) ⊎ ((j ≡ i) × (m ≤ l)))
 
 -- The partition is one of those that are behind, with its entry.
 pub record IsOneBehind (k : Skeleton) (n : ℕ) (ps : List (List ℕ)) (i m : ℕ) (q : List ℕ) : Type 0 where
   pub partition : List ℕ
   pub entry : ℕ
   pub extended : q ≡ partition ++ (entry ∷ [])
-  pub behind : IsBehind ps i m partition entry
+  pub behind : IsLaterEntry ps i m partition entry
   pub may_have : MayHave k partition n entry
 
 -- Of the partitions ps of the first n strands those before number i are extended by each entry of strand n, and number i by
 -- each from m on, in descending order, all but some whose blocks never have equal values.
 pub record AreExtendedTo (k : Skeleton) (n : ℕ) (ps : List (List ℕ)) (i m : ℕ) (extended : List (List ℕ)) : Type 0 where
   pub each : (q : List ℕ) → IsIn q extended → IsOneBehind k n ps i m q
-  pub all : (p : List ℕ) (l : ℕ) → IsBehind ps i m p l → MayHave k p n l → IsIn (p ++ (l ∷ [])) extended ⊎ IsNeverIdentified k (p ++ (l ∷ []))
+  pub all : (p : List ℕ) (l : ℕ) → IsLaterEntry ps i m p l → MayHave k p n l → IsIn (p ++ (l ∷ [])) extended ⊎ IsNeverIdentified k (p ++ (l ∷ []))
   pub descending : AreDescending extended
 
 -- The bindings are met by exactly the assignments of which the fact is true; each is of a later variable to an earlier one;

@@ -4,7 +4,7 @@ use Rattle.cp_lists.specs.Lists.{item_at, IsIn}
 use Rattle.cp_model.specs.Term.{Substitution}
 use Rattle.cp_model.specs.Strand.{Role}
 use Rattle.cp_model.specs.Skeleton.{SkeletonStrand, instance, listener, Skeleton}
-use Rattle.cp_completeness.specs.Normal.{strand_under}
+use Rattle.cp_theory.specs.Normal.{strand_under}
 use Rattle.cp_strand.specs.View.{strand_view}
 use Rattle.cp_model.specs.Data.{StrandData as Strand}
 use Rattle.cp_collapse.specs.SameSkeletons.{AreSameStrands}

@@ -23,8 +23,8 @@ abbrev pub AlsoEqual : List Binding → InstanceData → InstanceData → Assign
 AlsoEqual given a b g = Meets g given × HaveEqualValues a.role a.height (substitution_by a.values) b.height (substitution_by b.values) g
 
 -- The fact is true of no assignment.
-abbrev pub IsNever : (Assignment → Type 0) → Type 0
-IsNever fact = (g : Assignment) → fact g → ⊥
+abbrev pub IsOfNoAssignment : (Assignment → Type 0) → Type 0
+IsOfNoAssignment fact = (g : Assignment) → fact g → ⊥
 
 -- The partitions of partial ones.
 abbrev pub lists : List Partial → List (List ℕ)

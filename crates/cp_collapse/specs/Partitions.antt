@@ -10,10 +10,10 @@ use Rattle.cp_model.specs.Homomorphism.{strand_in}
 use Rattle.cp_model.specs.Problem.{numbers_from}
 
 -- There is a strand, and it is an instance of a role.
-abbrev pub is_instance : Option SkeletonStrand → Bool
-is_instance None = false
-is_instance (Some (instance role height terms)) = true
-is_instance (Some (listener t)) = false
+abbrev pub is_some_instance : Option SkeletonStrand → Bool
+is_some_instance None = false
+is_some_instance (Some (instance role height terms)) = true
+is_some_instance (Some (listener t)) = false
 
 -- Two strands are instances of one role.
 pub record AreOfOneRole (strands : List SkeletonStrand) (s t : ℕ) : Type 0 where
@@ -27,7 +27,7 @@ pub record AreOfOneRole (strands : List SkeletonStrand) (s t : ℕ) : Type 0 whe
 
 -- A partition of the strands into blocks of instances of one role, written as the list that gives each strand the lowest
 -- strand of its block. A listener is alone in its block.
-pub record IsPartition (k : Skeleton) (p : List ℕ) : Type 0 where
+pub record IsPartitionByRole (k : Skeleton) (p : List ℕ) : Type 0 where
   pub each : length p ≡ length k.strands
   pub lowest : (s l : ℕ) → item_at p s ≡ Some l → (l ≤ s) × (item_at p l ≡ Some l)
   pub alike : (s l : ℕ) → item_at p s ≡ Some l → s ≢ l → AreOfOneRole k.strands s l
@@ -47,8 +47,8 @@ lowest_before p zero = 0
 lowest_before p (suc n) = lowest_before p n + (if is_own n (item_at p n) then 1 else 0)
 
 -- How many blocks there are.
-abbrev pub blocks : List ℕ → ℕ
-blocks p = lowest_before p (length p)
+abbrev pub block_count : List ℕ → ℕ
+block_count p = lowest_before p (length p)
 
 -- The place of the block of strand s: how many lowest strands there are before its own.
 abbrev pub place_in : List ℕ → ℕ → ℕ

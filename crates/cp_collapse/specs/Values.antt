@@ -3,11 +3,11 @@ use Rattle.cp_model.specs.Term.{Variable, Term, atom_term, atom_of_variable, Sub
 use Rattle.cp_model.specs.Strand.{Role}
 use Rattle.cp_model.specs.Skeleton.{SkeletonStrand, instance, listener}
 use Rattle.cp_model.specs.Homomorphism.{substitution_by}
-use Rattle.cp_strand.specs.PrefixVariables.{declared_variables, terms_of}
+use Rattle.cp_model.specs.PrefixVariables.{declared_variables, terms_of}
 
 -- What a substitution gives a variable, as a term.
-abbrev pub term_of_variable : Substitution → Variable → Term
-term_of_variable s x = atom_term (apply_to_atom s (atom_of_variable x))
+abbrev pub image_of_variable : Substitution → Variable → Term
+image_of_variable s x = atom_term (apply_to_atom s (atom_of_variable x))
 
 -- The substitution that gives a role's variables what s gives them, and leaves all others.
 abbrev pub on_declared : Role → Substitution → Substitution

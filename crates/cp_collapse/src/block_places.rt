@@ -2,7 +2,7 @@
 ghost use Rattle.std.specs.Prelude.{◌≡◌, ◌↔◌, ◌≤◌, Some, length, IsTrue};
 ghost use Rattle.cp_model.specs.Homomorphism.{strand_in};
 ghost use Rattle.cp_lists.specs.Lists.{item_at};
-ghost use Rattle.cp_collapse.specs.Collapses.{pair_in};
+ghost use Rattle.cp_collapse.specs.Collapses.{collapsed_pair};
 ghost use Rattle.cp_collapse.specs.Partitions.{lowest_before, place_in, node_in};
 
 use cp_skel::{Node, OrderPair};
@@ -74,7 +74,7 @@ pub(crate) fn node_in(lowest: &[usize], node: Node) -> Node
 
 /// The pair, with both nodes moved to the places of their strands' blocks.
 pub(crate) fn pair_in(lowest: &[usize], pair: &OrderPair) -> OrderPair
-    ensures { result ≡ pair_in lowest.now pair.now }
+    ensures { result ≡ collapsed_pair lowest.now pair.now }
 {
     OrderPair {
         earlier: node_in(lowest, pair.earlier),

@@ -11,7 +11,7 @@ ghost use Rattle.cp_model.specs.Homomorphism.{CarriesHomomorphism, IsHomomorphis
 ghost use Rattle.cp_model.specs.PointOfView.{StatesItself, HasDeclaredVariables};
 ghost use Rattle.cp_model.specs.Stated.{KeepsStated};
 ghost use Rattle.cp_collapse.specs.Collapses.{onto_blocks, IsCollapsed, HasNoCycle, IsImpossible, IsCollapse, AreCollapses, StandsThroughCollapse};
-ghost use Rattle.cp_collapse.specs.Partitions.{IsPartition};
+ghost use Rattle.cp_collapse.specs.Partitions.{IsPartitionByRole};
 
 /// A skeleton whose strands are merged by a partition lists its assumptions in report order.
 pub fn collapses_are_listed()
@@ -45,6 +45,6 @@ pub fn collapses_keep_what_is_stated()
 
 /// Collapses bring in no new variables.
 pub fn collapses_have_declared_variables()
-    ensures one { (variables : List Declaration) (k l : Skeleton) (p : List ℕ) → IsPartition k p → IsCollapsed k p l → HasDeclaredVariables variables k → HasDeclaredVariables variables l }
+    ensures one { (variables : List Declaration) (k l : Skeleton) (p : List ℕ) → IsPartitionByRole k p → IsCollapsed k p l → HasDeclaredVariables variables k → HasDeclaredVariables variables l }
     ensures all { (variables : List Declaration) (k l : Skeleton) (ls : List Skeleton) → AreCollapses k ls → HasDeclaredVariables variables k → IsIn l ls → HasDeclaredVariables variables l }
 {}

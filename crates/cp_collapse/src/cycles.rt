@@ -1,21 +1,21 @@
 // Tests whether pairs close a cycle.
 ghost use Rattle.std.specs.Prelude.{◌↔◌, map, IsTrue, IfOk};
 ghost use Rattle.cp_collapse.specs.Property.{Has};
-ghost use Rattle.cp_collapse.specs.Cycles.{LeadsOn, IsClosedAt};
+ghost use Rattle.cp_collapse.specs.Cycles.{StartsPath, ClosesCycleAt};
 
-use cp_skel::{Leading, Node, OrderPair, UniqueAt};
+use cp_skel::{Node, OrderPair, Predecessors, UniqueAt};
 use std::alloc::{AllocError, Global};
 
-/// Whether the pair goes from `node` to one that leads to the node of `leading`.
-fn leads_on(leading: &Leading<'_>, node: Node, pair: &OrderPair) -> bool
-    ensures { IsTrue result ↔ LeadsOn leading.now.pairs node leading.now.node pair.now }
+/// Whether the pair goes from `node` to one that reaches the node of `leading`.
+fn leads_on(leading: &Predecessors<'_>, node: Node, pair: &OrderPair) -> bool
+    ensures { IsTrue result ↔ StartsPath leading.now.pairs node leading.now.node pair.now }
 {
     pair.earlier == node && leading.has(pair.later)
 }
 
-/// Whether some pair goes from `node` to one that leads to the node of `leading`.
-fn some_leads_on(leading: &Leading<'_>, node: Node, pairs: &[OrderPair]) -> bool
-    ensures { IsTrue result ↔ Has (λ p. LeadsOn leading.now.pairs node leading.now.node p) pairs.now }
+/// Whether some pair goes from `node` to one that reaches the node of `leading`.
+fn some_leads_on(leading: &Predecessors<'_>, node: Node, pairs: &[OrderPair]) -> bool
+    ensures { IsTrue result ↔ Has (λ p. StartsPath leading.now.pairs node leading.now.node p) pairs.now }
 {
     for pair in pairs {
         if leads_on(leading, node, pair) {
@@ -27,9 +27,9 @@ fn some_leads_on(leading: &Leading<'_>, node: Node, pairs: &[OrderPair]) -> bool
 
 /// Whether some pair from the node closes a cycle with these pairs.
 fn is_closed_at(alloc: Global, pairs: &[OrderPair], node: Node) -> Result<bool, AllocError>
-    ensures { IfOk result (λ found. IsTrue found ↔ IsClosedAt pairs.now node) }
+    ensures { IfOk result (λ found. IsTrue found ↔ ClosesCycleAt pairs.now node) }
 {
-    let leading = Leading::new(alloc, pairs, node)?;
+    let leading = Predecessors::new(alloc, pairs, node)?;
     Ok(some_leads_on(&leading, node, pairs))
 }
 
@@ -39,7 +39,7 @@ pub fn some_is_closed(
     pairs: &[OrderPair],
     uniques: &[UniqueAt],
 ) -> Result<bool, AllocError>
-    ensures { IfOk result (λ found. IsTrue found ↔ Has (λ u. IsClosedAt pairs.now u.origin) uniques.now) }
+    ensures { IfOk result (λ found. IsTrue found ↔ Has (λ u. ClosesCycleAt pairs.now u.origin) uniques.now) }
 {
     for unique in uniques {
         if is_closed_at(alloc, pairs, unique.origin())? {
@@ -51,7 +51,7 @@ pub fn some_is_closed(
 
 /// Whether one of these pairs closes a cycle with the others.
 pub(crate) fn some_closes(alloc: Global, pairs: &[OrderPair]) -> Result<bool, AllocError>
-    ensures { IfOk result (λ found. IsTrue found ↔ Has (λ q. IsClosedAt pairs.now q.earlier) pairs.now) }
+    ensures { IfOk result (λ found. IsTrue found ↔ Has (λ q. ClosesCycleAt pairs.now q.earlier) pairs.now) }
 {
     for pair in pairs {
         if is_closed_at(alloc, pairs, pair.earlier)? {

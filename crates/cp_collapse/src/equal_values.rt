@@ -1,8 +1,8 @@
 // Unifies the values of two instances of one role.
 ghost use Rattle.std.specs.Prelude.{IfOk, MatchOption};
-ghost use Rattle.cp_skel.specs.Extensions.{IsClosedPrefix};
+ghost use Rattle.cp_model.specs.Extensions.{IsClosedPrefix};
 ghost use Rattle.cp_collapse.specs.FirstPartitions.{IsExactFor};
-ghost use Rattle.cp_collapse.specs.Partials.{AreSolved, AlsoEqual, IsNever};
+ghost use Rattle.cp_collapse.specs.Partials.{AreSolved, AlsoEqual, IsOfNoAssignment};
 
 use crate::variable_terms::term_of_variable;
 use cp_skel::{Instance, occurs, prefix_of};
@@ -22,7 +22,7 @@ pub(crate) fn unify_instances(
     requires declared { IsClosedPrefix a.now.role a.now.height }
     requires solved { AreSolved given.now.value }
     ensures { IfOk result (λ found. MatchOption found
-        (IsNever (AlsoEqual given.now.value a.now b.now))
+        (IsOfNoAssignment (AlsoEqual given.now.value a.now b.now))
         (λ r. IsExactFor (AlsoEqual given.now.value a.now b.now) r.value)) }
 {
     let events = prefix_of(a.role(), a.height().min(b.height()));

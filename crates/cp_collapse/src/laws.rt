@@ -5,7 +5,7 @@ ghost use Rattle.cp_model.specs.Strand.{Protocol};
 ghost use Rattle.cp_model.specs.Bundle.{Bundle};
 ghost use Rattle.cp_model.specs.Skeleton.{Skeleton, IsSkeleton};
 ghost use Rattle.cp_model.specs.Standing.{Standing, StandsIn};
-ghost use Rattle.cp_completeness.specs.Normal.{LosesNoStanding};
+ghost use Rattle.cp_theory.specs.Normal.{LosesNoStanding};
 ghost use Rattle.cp_collapse.specs.SameSkeletons.{SaysTheSame};
 ghost use Rattle.cp_collapse.specs.Directed.{IsMostGeneralFor};
 

@@ -14,7 +14,7 @@ ghost use Rattle.cp_skel.specs.Sound.{IsSound};
 ghost use Rattle.cp_collapse.specs.Collapses.{LiesOnOne, IsCollapsed, HasNoCycle, IsImpossible, AreCollapses, StandsThroughCollapse};
 ghost use Rattle.cp_collapse.specs.MergedParts.{parts_view, with_listed};
 ghost use Rattle.cp_collapse.specs.Partials.{IsExact};
-ghost use Rattle.cp_collapse.specs.Partitions.{IsPartition};
+ghost use Rattle.cp_collapse.specs.Partitions.{IsPartitionByRole};
 
 use crate::cycles::some_closes;
 use crate::images::{Way, assumption_images, from_problem_image, pair_images, some_lies_backward};
@@ -36,7 +36,7 @@ pub(crate) struct Parts {
 /// report order, it is the collapsed skeleton.
 fn merged(alloc: Global, k: &Skeleton, partial: &Partial) -> Result<Parts, AllocError>
     requires declared { HasDeclaredPrefixes (skeleton_view k.now) }
-    requires partition { IsPartition (skeleton_view k.now) partial.now.lowest.items }
+    requires partition { IsPartitionByRole (skeleton_view k.now) partial.now.lowest.items }
     requires exact { IsExact (skeleton_view k.now) partial.now }
     requires forward { (q : Pair) → IsIn q (skeleton_view k.now).pairs → LiesOnOne partial.now.lowest.items q → q.earlier.index < q.later.index }
     ensures { IfOk result (λ m. IsCollapsed (skeleton_view k.now) partial.now.lowest.items (with_listed (parts_view m))) }
@@ -82,7 +82,7 @@ fn of_parts(alloc: Global, k: &Skeleton, parts: Parts) -> Result<Skeleton, Alloc
 /// The collapse by a partition; `None` if a pair comes to lie backward or the merged order has a cycle.
 fn collapse(alloc: Global, k: &Skeleton, partial: &Partial) -> Result<Option<Skeleton>, AllocError>
     requires declared { HasDeclaredPrefixes (skeleton_view k.now) }
-    requires partition { IsPartition (skeleton_view k.now) partial.now.lowest.items }
+    requires partition { IsPartitionByRole (skeleton_view k.now) partial.now.lowest.items }
     requires exact { IsExact (skeleton_view k.now) partial.now }
     ensures { IfOk result (λ found. MatchOption found
         (IsImpossible (skeleton_view k.now) partial.now.lowest.items)

@@ -6,7 +6,7 @@ ghost use Rattle.cp_skel.specs.DeclaredPrefixes.{HasDeclaredPrefixes};
 ghost use Rattle.cp_strand.specs.View.{strand_view};
 ghost use Rattle.cp_skel.specs.View.{skeleton_view};
 ghost use Rattle.cp_collapse.specs.MergedStrands.{height_of, IsTallestTo, IsUnder, AreMergedAlike};
-ghost use Rattle.cp_collapse.specs.Partitions.{IsPartition};
+ghost use Rattle.cp_collapse.specs.Partitions.{IsPartitionByRole};
 
 use crate::partitions::{Partial, is_in_block};
 use crate::substituted::strand_under;
@@ -29,7 +29,7 @@ fn height_at(strands: &[Strand], number: usize) -> usize
 
 /// The tallest strand of a block; of several, the first.
 fn tallest(k: &Skeleton, partial: &Partial, block: usize) -> usize
-    requires partition { IsPartition (skeleton_view k.now) partial.now.lowest.items }
+    requires partition { IsPartitionByRole (skeleton_view k.now) partial.now.lowest.items }
     requires own { item_at partial.now.lowest.items block ≡ Some block }
     ensures { IsTallestTo (skeleton_view k.now) partial.now.lowest.items block (length partial.now.lowest.items) result }
 {
@@ -66,7 +66,7 @@ pub(crate) fn merged_strands(
     partial: &Partial,
 ) -> Result<Vec<Strand>, AllocError>
     requires declared { HasDeclaredPrefixes (skeleton_view k.now) }
-    requires partition { IsPartition (skeleton_view k.now) partial.now.lowest.items }
+    requires partition { IsPartitionByRole (skeleton_view k.now) partial.now.lowest.items }
     ensures { IfOk result (λ v. AreMergedAlike (skeleton_view k.now) partial.now.lowest.items (as_substitution partial.now.bindings.value) (length partial.now.lowest.items) v.items) }
 {
     let mut strands = Vec::new(alloc);

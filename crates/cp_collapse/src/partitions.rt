@@ -9,7 +9,7 @@ ghost use Rattle.cp_skel.specs.DeclaredPrefixes.{HasDeclaredPrefixes};
 ghost use Rattle.cp_strand.specs.View.{instance_as_data, strand_view};
 ghost use Rattle.cp_skel.specs.View.{skeleton_view};
 ghost use Rattle.cp_collapse.specs.FirstPartitions.{IsPartitionOfFirst, IsExactFor, EqualAt};
-ghost use Rattle.cp_collapse.specs.Partials.{AreSolved, IsNever, IsExact, lists, ArePartials, ArePartlyExtended, Joins, MayNotJoin};
+ghost use Rattle.cp_collapse.specs.Partials.{AreSolved, IsOfNoAssignment, IsExact, lists, ArePartials, ArePartlyExtended, Joins, MayNotJoin};
 ghost use Rattle.cp_collapse.specs.Partitions.{AreOfOneRole, IdentifiesValues, AreDescending};
 ghost use Rattle.cp_collapse.specs.Collapses.{IsNeverIdentified};
 
@@ -67,7 +67,7 @@ fn unify_strands(
     requires alike { AreOfOneRole (skeleton_view k.now).strands s t }
     requires solved { AreSolved given.now.value }
     ensures { IfOk result (λ found. MatchOption found
-        (IsNever (λ g. Meets g given.now.value × EqualAt (skeleton_view k.now) s t g))
+        (IsOfNoAssignment (λ g. Meets g given.now.value × EqualAt (skeleton_view k.now) s t g))
         (λ r. IsExactFor (λ g. Meets g given.now.value × EqualAt (skeleton_view k.now) s t g) r.value)) }
 {
     let Some(first) = instance_at(k.strands(), s) else {

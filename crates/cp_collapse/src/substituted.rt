@@ -1,7 +1,7 @@
 // Skeletons under substitutions.
 ghost use Rattle.std.specs.Prelude.{◌≡◌, ◌↔◌, map, IsTrue, IfOk};
 ghost use Rattle.cp_model.specs.Term.{Substitution, apply_to, apply_to_atom};
-ghost use Rattle.cp_completeness.specs.Normal.{unique_under, assumptions_under, from_problem_under, skeleton_under};
+ghost use Rattle.cp_theory.specs.Normal.{unique_under, assumptions_under, from_problem_under, skeleton_under};
 ghost use Rattle.cp_unify.specs.Bindings.{as_substitution};
 ghost use Rattle.cp_strand.specs.View.{instance_as_data, strand_view};
 ghost use Rattle.cp_skel.specs.View.{skeleton_view};

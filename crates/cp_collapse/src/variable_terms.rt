@@ -2,10 +2,10 @@
 ghost use Rattle.std.specs.Prelude.{◌≡◌, map, IfOk};
 ghost use Rattle.cp_model.specs.Homomorphism.{substitution_by};
 ghost use Rattle.cp_model.specs.Term.{composed};
-ghost use Rattle.cp_strand.specs.PrefixVariables.{declared_variables, terms_of};
+ghost use Rattle.cp_model.specs.PrefixVariables.{declared_variables, terms_of};
 ghost use Rattle.cp_strand.specs.View.{sort_view, declaration_view};
 ghost use Rattle.cp_unify.specs.Bindings.{as_substitution};
-ghost use Rattle.cp_collapse.specs.Values.{term_of_variable};
+ghost use Rattle.cp_collapse.specs.Values.{image_of_variable};
 
 use cp_skel::{Declaration, value_of_variable};
 use cp_term::{Sort, Term, VarId};
@@ -20,7 +20,7 @@ pub(crate) fn term_of_variable(
     id: VarId,
     sort: Sort,
 ) -> Result<Term, AllocError>
-    ensures { IfOk result (λ t. t ≡ term_of_variable (substitution_by terms.now) (record { sort = sort_view sort; number = id })) }
+    ensures { IfOk result (λ t. t ≡ image_of_variable (substitution_by terms.now) (record { sort = sort_view sort; number = id })) }
 {
     value_of_variable(alloc, terms, id, sort)
 }

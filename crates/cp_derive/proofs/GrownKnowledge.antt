@@ -9,41 +9,41 @@ use Rattle.cp_model.specs.declared.node.Node.{Node}
 use Rattle.cp_model.specs.declared.node.OrderPair.{OrderPair}
 use Rattle.cp_derive.specs.Transmissions.{Transmission}
 use Rattle.cp_derive.specs.Before.{ArePlacesBefore}
-use Rattle.cp_derive.specs.Places.{AreSamePlaces, marked, are_marked, unmarked_behind}
+use Rattle.cp_derive.specs.Places.{AreSamePlaces, flagged_places, are_flagged, unflagged_behind}
 
--- ---- marks
+-- ---- flags
 
-none_marked : (n p : ℕ) → get_or (replicate n false) p false ≡ false
-none_marked zero zero = refl
-none_marked zero (suc p) = refl
-none_marked (suc n) zero = refl
-none_marked (suc n) (suc p) = none_marked n p
+none_flagged : (n p : ℕ) → get_or (replicate n false) p false ≡ false
+none_flagged zero zero = refl
+none_flagged zero (suc p) = refl
+none_flagged (suc n) zero = refl
+none_flagged (suc n) (suc p) = none_flagged n p
 
--- a mark was there before, or is of one of the places
-marked_only : (ps : List ℕ) (marks : List Bool) (p : ℕ) → get_or (marked ps marks) p false ≡ true → (get_or marks p false ≡ true) ⊎ IsIn p ps
-marked_only [] marks p h = inl h
-marked_only (q ∷ qs) marks p h =
-    elim (marked_only qs (set marks q true) p h) [
+-- a flag was there before, or is of one of the places
+flagged_only : (ps : List ℕ) (flags : List Bool) (p : ℕ) → get_or (flagged_places ps flags) p false ≡ true → (get_or flags p false ≡ true) ⊎ IsIn p ps
+flagged_only [] flags p h = inl h
+flagged_only (q ∷ qs) flags p h =
+    elim (flagged_only qs (set flags q true) p h) [
       | inl e ↦
-          elim (eqb_tells q p) [ inl w ↦ inr (subst (λ x. IsIn x (q ∷ qs)) w.1 here) | inr w ↦ inl (sym (get_or-set_other marks q p true false (λ e. w.1 (sym e))) ∙ e) ]
+          elim (eqb_tells q p) [ inl w ↦ inr (subst (λ x. IsIn x (q ∷ qs)) w.1 here) | inr w ↦ inl (sym (get_or-set_other flags q p true false (λ e. w.1 (sym e))) ∙ e) ]
       | inr i ↦ inr (there i)
     ]
 
-marked_in : (ps : List ℕ) (n p : ℕ) → get_or (marked ps (replicate n false)) p false ≡ true → IsIn p ps
-marked_in ps n p h =
-    elim (marked_only ps (replicate n false) p h) [ inl e ↦ let none : get_or (replicate n false) p false ≡ false = none_marked n p in absurd (cc) | inr i ↦ i ]
+flagged_in : (ps : List ℕ) (n p : ℕ) → get_or (flagged_places ps (replicate n false)) p false ≡ true → IsIn p ps
+flagged_in ps n p h =
+    elim (flagged_only ps (replicate n false) p h) [ inl e ↦ let none : get_or (replicate n false) p false ≡ false = none_flagged n p in absurd (cc) | inr i ↦ i ]
 
 first_and_rest : (b c : Bool) → (if b then c else false) ≡ true → (b ≡ true) × (c ≡ true)
 first_and_rest true c h = (refl, h)
 first_and_rest false c h = absurd (cc)
 
-all_marked : (marks : List Bool) (ps : List ℕ) → are_marked marks ps ≡ true → (p : ℕ) → IsIn p ps → get_or marks p false ≡ true
-all_marked marks [] h p i = elim i [ ]
-all_marked marks (q ∷ qs) h p i =
-    let both = first_and_rest (get_or marks q false) (are_marked marks qs) h in
-    elim (in_cases i) [ inl e ↦ subst (λ x. get_or marks x false ≡ true) e both.0 | inr j ↦ all_marked marks qs both.1 p j ]
+all_flagged : (flags : List Bool) (ps : List ℕ) → are_flagged flags ps ≡ true → (p : ℕ) → IsIn p ps → get_or flags p false ≡ true
+all_flagged flags [] h p i = elim i [ ]
+all_flagged flags (q ∷ qs) h p i =
+    let both = first_and_rest (get_or flags q false) (are_flagged flags qs) h in
+    elim (in_cases i) [ inl e ↦ subst (λ x. get_or flags x false ≡ true) e both.0 | inr j ↦ all_flagged flags qs both.1 p j ]
 
--- ---- places without a mark
+-- ---- places without a flag
 
 one_more : (b : Bool) (done : List ℕ) (q p : ℕ) → IsIn p (if b then done else done ++ (q ∷ [])) → IsIn p done ⊎ (q ≡ p)
 one_more true done q p i = inl i
@@ -57,47 +57,47 @@ one_there : (b : Bool) (done : List ℕ) (q : ℕ) → IsIn q (if b then done el
 one_there true done q = inr refl
 one_there false done q = inl (in_last done q)
 
-unmarked_kept : (done : List ℕ) (marks : List Bool) (ps : List ℕ) (p : ℕ) → IsIn p done → IsIn p (unmarked_behind done marks ps)
-unmarked_kept done marks [] p i = i
-unmarked_kept done marks (q ∷ qs) p i =
-    unmarked_kept (if get_or marks q false then done else done ++ (q ∷ [])) marks qs p (one_kept (get_or marks q false) done q p i)
+unflagged_kept : (done : List ℕ) (flags : List Bool) (ps : List ℕ) (p : ℕ) → IsIn p done → IsIn p (unflagged_behind done flags ps)
+unflagged_kept done flags [] p i = i
+unflagged_kept done flags (q ∷ qs) p i =
+    unflagged_kept (if get_or flags q false then done else done ++ (q ∷ [])) flags qs p (one_kept (get_or flags q false) done q p i)
 
-unmarked_only : (done : List ℕ) (marks : List Bool) (ps : List ℕ) (p : ℕ) → IsIn p (unmarked_behind done marks ps) → IsIn p done ⊎ IsIn p ps
-unmarked_only done marks [] p i = inl i
-unmarked_only done marks (q ∷ qs) p i =
-    elim (unmarked_only (if get_or marks q false then done else done ++ (q ∷ [])) marks qs p i) [
-      | inl j ↦ elim (one_more (get_or marks q false) done q p j) [ inl old ↦ inl old | inr e ↦ inr (subst (λ x. IsIn x (q ∷ qs)) e here) ]
+unflagged_only : (done : List ℕ) (flags : List Bool) (ps : List ℕ) (p : ℕ) → IsIn p (unflagged_behind done flags ps) → IsIn p done ⊎ IsIn p ps
+unflagged_only done flags [] p i = inl i
+unflagged_only done flags (q ∷ qs) p i =
+    elim (unflagged_only (if get_or flags q false then done else done ++ (q ∷ [])) flags qs p i) [
+      | inl j ↦ elim (one_more (get_or flags q false) done q p j) [ inl old ↦ inl old | inr e ↦ inr (subst (λ x. IsIn x (q ∷ qs)) e here) ]
       | inr j ↦ inr (there j)
     ]
 
-unmarked_all : (done : List ℕ) (marks : List Bool) (ps : List ℕ) (p : ℕ) → IsIn p ps → IsIn p (unmarked_behind done marks ps) ⊎ (get_or marks p false ≡ true)
-unmarked_all done marks [] p i = elim i [ ]
-unmarked_all done marks (q ∷ qs) p i =
-    let next : List ℕ = if get_or marks q false then done else done ++ (q ∷ []) in
+unflagged_all : (done : List ℕ) (flags : List Bool) (ps : List ℕ) (p : ℕ) → IsIn p ps → IsIn p (unflagged_behind done flags ps) ⊎ (get_or flags p false ≡ true)
+unflagged_all done flags [] p i = elim i [ ]
+unflagged_all done flags (q ∷ qs) p i =
+    let next : List ℕ = if get_or flags q false then done else done ++ (q ∷ []) in
     elim (in_cases i) [
       | inl e ↦
-          elim (one_there (get_or marks q false) done q) [
-            | inl j ↦ inl (unmarked_kept next marks qs p (subst (λ x. IsIn x next) e j))
-            | inr m ↦ inr (subst (λ x. get_or marks x false ≡ true) e m)
+          elim (one_there (get_or flags q false) done q) [
+            | inl j ↦ inl (unflagged_kept next flags qs p (subst (λ x. IsIn x next) e j))
+            | inr m ↦ inr (subst (λ x. get_or flags x false ≡ true) e m)
           ]
-      | inr j ↦ unmarked_all next marks qs p j
+      | inr j ↦ unflagged_all next flags qs p j
     ]
 
 -- ---- together
 
--- Where all the last places are among these, they and those that they do not mark are these.
-pub same_places : (n : ℕ) (last places more : List ℕ) (at before : List Bool) → at ≡ marked places (replicate n false) → are_marked at last ≡ true →
-    before ≡ marked last (replicate n false) → more ≡ unmarked_behind [] before places → AreSamePlaces places (last ++ more)
-same_places n last places more at before there_is all marks rest p = (
+-- Where all the last places are among these, they and those that they do not flag are these.
+pub same_places : (n : ℕ) (last places more : List ℕ) (at before : List Bool) → at ≡ flagged_places places (replicate n false) → are_flagged at last ≡ true →
+    before ≡ flagged_places last (replicate n false) → more ≡ unflagged_behind [] before places → AreSamePlaces places (last ++ more)
+same_places n last places more at before there_is all flags rest p = (
   λ i.
-      elim (unmarked_all [] before places p i) [
+      elim (unflagged_all [] before places p i) [
         | inl j ↦ in_append_right last (subst (IsIn p) (sym rest) j)
-        | inr m ↦ in_append_left more (marked_in last n p (subst (λ ms. get_or ms p false ≡ true) marks m))
+        | inr m ↦ in_append_left more (flagged_in last n p (subst (λ ms. get_or ms p false ≡ true) flags m))
       ],
   λ i.
       elim (in_append last more i) [
-        | inl j ↦ marked_in places n p (subst (λ ms. get_or ms p false ≡ true) there_is (all_marked at last all p j))
-        | inr j ↦ elim (unmarked_only [] before places p (subst (IsIn p) rest j)) [ inl none ↦ elim none [ ] | inr k ↦ k ]
+        | inl j ↦ flagged_in places n p (subst (λ ms. get_or ms p false ≡ true) there_is (all_flagged at last all p j))
+        | inr j ↦ elim (unflagged_only [] before places p (subst (IsIn p) rest j)) [ inl none ↦ elim none [ ] | inr k ↦ k ]
       ],
 )
 

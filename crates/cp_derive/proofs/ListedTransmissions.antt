@@ -12,47 +12,47 @@ use Rattle.cp_model.specs.Derivable.{IsOnInstance}
 use Rattle.cp_strand.specs.View.{event_view}
 use Rattle.cp_strand.specs.declared.protocol.Event.{Event as ProgramEvent}
 use Rattle.cp_strand.specs.declared.protocol.Event.TheVariants.{Send, Receive}
-use Rattle.cp_skel.specs.declared.events.Occurrence as program
-use Rattle.cp_skel.specs.Events.{Occurrence, occurrence_view, is_role_strand, events_of}
+use Rattle.cp_skel.specs.declared.events.LocatedEvent as program
+use Rattle.cp_skel.specs.Events.{LocatedEvent, located_event_view, is_role_strand, events_of}
 use Rattle.cp_skel.proofs.EventLists.{listed_event, listed_role, event_listed}
 use Rattle.cp_derive.specs.Transmissions.{Transmission, if_sent, transmissions_among}
 
 -- What is sent among the events from a place on.
-sent_from : (os : List program.Occurrence) (i : ℕ) (o : program.Occurrence) → i < length os → o ≡ get_or os i o →
-    transmissions_among (map occurrence_view (drop i os)) ≡ if_sent o.node (event_view o.event) o.by_role (transmissions_among (map occurrence_view (drop (suc i) os)))
+sent_from : (os : List program.LocatedEvent) (i : ℕ) (o : program.LocatedEvent) → i < length os → o ≡ get_or os i o →
+    transmissions_among (map located_event_view (drop i os)) ≡ if_sent o.node (event_view o.event) o.by_role (transmissions_among (map located_event_view (drop (suc i) os)))
 sent_from os i o h is =
-    ap (λ xs. transmissions_among (map occurrence_view xs)) (drop-cons os i o h)
-    ∙ ap (λ (x : program.Occurrence). if_sent x.node (event_view x.event) x.by_role (transmissions_among (map occurrence_view (drop (suc i) os)))) (sym is)
+    ap (λ xs. transmissions_among (map located_event_view xs)) (drop-cons os i o h)
+    ∙ ap (λ (x : program.LocatedEvent). if_sent x.node (event_view x.event) x.by_role (transmissions_among (map located_event_view (drop (suc i) os)))) (sym is)
 
-module _ (os : List program.Occurrence) (i : ℕ) (o : program.Occurrence) (old new whole : List Transmission) (h : i < length os) (is : o ≡ get_or os i o)
-    (all : old ++ transmissions_among (map occurrence_view (drop i os)) ≡ whole) where
+module _ (os : List program.LocatedEvent) (i : ℕ) (o : program.LocatedEvent) (old new whole : List Transmission) (h : i < length os) (is : o ≡ get_or os i o)
+    (all : old ++ transmissions_among (map located_event_view (drop i os)) ≡ whole) where
   pub transmission_added : (t : Term) → o.event ≡ Send t → o.by_role ≡ true → new ≡ old ++ (record { node = o.node; message = t } ∷ []) →
-      new ++ transmissions_among (map occurrence_view (drop (i + 1) os)) ≡ whole
+      new ++ transmissions_among (map located_event_view (drop (i + 1) os)) ≡ whole
   transmission_added t e r n =
-      let rest : List Transmission = transmissions_among (map occurrence_view (drop (suc i) os)) in
-      let step : transmissions_among (map occurrence_view (drop i os)) ≡ record { node = o.node; message = t } ∷ rest =
+      let rest : List Transmission = transmissions_among (map located_event_view (drop (suc i) os)) in
+      let step : transmissions_among (map located_event_view (drop i os)) ≡ record { node = o.node; message = t } ∷ rest =
       sent_from os i o h is ∙ ap (λ v. if_sent o.node (event_view v) o.by_role rest) e ∙ ap (λ b. if_sent o.node (send t) b rest) r in
-      rw add-one (moved_behind old new (transmissions_among (map occurrence_view (drop i os))) rest whole (record { node = o.node; message = t }) n step all)
+      rw add-one (moved_behind old new (transmissions_among (map located_event_view (drop i os))) rest whole (record { node = o.node; message = t }) n step all)
 
   not_sent : (e : ProgramEvent) (ts : List Transmission) → ((t : Term) → e ≡ Send t → ⊥) → if_sent o.node (event_view e) o.by_role ts ≡ ts
   not_sent (Send t) ts other = absurd (other t refl)
   not_sent (Receive t) ts other = refl
 
-  pub reception_passed : ((t : Term) → o.event ≡ Send t → ⊥) → new ≡ old → new ++ transmissions_among (map occurrence_view (drop (i + 1) os)) ≡ whole
+  pub reception_passed : ((t : Term) → o.event ≡ Send t → ⊥) → new ≡ old → new ++ transmissions_among (map located_event_view (drop (i + 1) os)) ≡ whole
   reception_passed other n =
-      let rest : List Transmission = transmissions_among (map occurrence_view (drop (suc i) os)) in
+      let rest : List Transmission = transmissions_among (map located_event_view (drop (suc i) os)) in
       rw add-one (ap (λ ys. ys ++ rest) n ∙ sym (ap (λ ys. old ++ ys) (sent_from os i o h is ∙ not_sent o.event rest other)) ∙ all)
 
 -- ---- which they are
 
 sent_first : (n : Node) (e : Event Term) (r : Bool) (ts : List Transmission) (t : Transmission) → IsIn t (if_sent n e r ts) →
-    (◌≡◌ {A = Occurrence} (record { node = n; event = e; by_role = r }) (record { node = t.node; event = send t.message; by_role = true })) ⊎ IsIn t ts
+    (◌≡◌ {A = LocatedEvent} (record { node = n; event = e; by_role = r }) (record { node = t.node; event = send t.message; by_role = true })) ⊎ IsIn t ts
 sent_first n (send m) true ts t h =
-    elim (in_cases h) [ inl same ↦ inl (ap (λ (x : Transmission). let o : Occurrence = record { node = x.node; event = send x.message; by_role = true } in o) same) | inr i ↦ inr i ]
+    elim (in_cases h) [ inl same ↦ inl (ap (λ (x : Transmission). let o : LocatedEvent = record { node = x.node; event = send x.message; by_role = true } in o) same) | inr i ↦ inr i ]
 sent_first n (send m) false ts t h = inr h
 sent_first n (recv m) r ts t h = inr h
 
-pub sent_listed : (os : List Occurrence) (t : Transmission) → IsIn t (transmissions_among os) → IsIn (record { node = t.node; event = send t.message; by_role = true }) os
+pub sent_listed : (os : List LocatedEvent) (t : Transmission) → IsIn t (transmissions_among os) → IsIn (record { node = t.node; event = send t.message; by_role = true }) os
 sent_listed [] t h = elim h [ ]
 sent_listed (o ∷ os) t h =
     elim (sent_first o.node o.event o.by_role (transmissions_among os) t h) [
@@ -65,11 +65,11 @@ sent_passed n (send m) true ts t h = there h
 sent_passed n (send m) false ts t h = h
 sent_passed n (recv m) r ts t h = h
 
-pub listed_sent : (os : List Occurrence) (t : Transmission) → IsIn (record { node = t.node; event = send t.message; by_role = true }) os → IsIn t (transmissions_among os)
+pub listed_sent : (os : List LocatedEvent) (t : Transmission) → IsIn (record { node = t.node; event = send t.message; by_role = true }) os → IsIn t (transmissions_among os)
 listed_sent [] t h = elim h [ ]
 listed_sent (o ∷ os) t h =
     elim (in_cases h) [
-      | inl same ↦ subst (λ (x : Occurrence). IsIn t (if_sent x.node x.event x.by_role (transmissions_among os))) (sym same) here
+      | inl same ↦ subst (λ (x : LocatedEvent). IsIn t (if_sent x.node x.event x.by_role (transmissions_among os))) (sym same) here
       | inr i ↦ sent_passed o.node o.event o.by_role (transmissions_among os) t (listed_sent os t i)
     ]
 

@@ -10,7 +10,7 @@ use Rattle.cp_lists.specs.Lists.{IsIn, here, there}
 use Rattle.cp_model.specs.Term.{KeyTerm, Term, enc_term}
 use Rattle.cp_derive.specs.Given.{Given}
 use Rattle.cp_derive.specs.Buildable.{Builds}
-use Rattle.cp_derive.specs.OpenedTerms.{weight_of, locked_of, IsOpenOrLocked, Takes, Advances}
+use Rattle.cp_derive.specs.OpenedTerms.{weight_of, locked_of, IsOpenOrLocked, TakesApart, Advances}
 use Rattle.cp_derive.specs.declared.opened_terms.Locked.{Locked}
 use Rattle.cp_derive.specs.declared.opened_terms.Opening.{Opening}
 use Rattle.cp_derive.proofs.Built.{built_derivable}
@@ -37,7 +37,7 @@ length_weight [] = omega arith
 length_weight (x ∷ xs) = omega (arith, length_weight xs, sum_by-cons weight_of x xs)
 
 module _ (secrets : List Term) (o m n : Opening) (l : Locked) (out : IsTakenOut o.locked.items l m.locked.items) (same : m.held.items ≡ o.held.items)
-    (key : Builds secrets o.held.items l.inverse) (takes : Takes secrets l.body m n) where
+    (key : Builds secrets o.held.items l.inverse) (takes : TakesApart secrets l.body m n) where
   held_on : (x : Term) → IsIn x o.held.items → IsIn x n.held.items
   held_on x h = takes.held_more x (subst (IsIn x) (sym same) h)
 

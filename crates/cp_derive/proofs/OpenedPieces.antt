@@ -5,14 +5,14 @@ use Rattle.cp_lists.specs.Lists.{IsIn}
 use Rattle.cp_model.specs.Term.{Term, enc_term}
 use Rattle.cp_derive.specs.From.{was_sent}
 use Rattle.cp_derive.specs.Given.{Given}
-use Rattle.cp_derive.specs.Buildable.{Builds, IsClosed}
-use Rattle.cp_derive.specs.OpenedTerms.{locked_of, IsSound, AreOpenOrLocked, Takes, Advances, IsCovered, IsOpened}
+use Rattle.cp_derive.specs.Buildable.{Builds, IsClosedUnderParts}
+use Rattle.cp_derive.specs.OpenedTerms.{locked_of, IsSoundOpening, AreOpenOrLocked, TakesApart, Advances, IsCovered, IsOpened}
 use Rattle.cp_derive.specs.declared.opened_terms.Opening.{Opening}
 use Rattle.cp_derive.proofs.TermParts.{builds_more, taken_open, covers_next}
 
 -- What was sent before is covered, and so is as much of what was sent too as was taken.
 pub record IsOpening (sent more secrets : List Term) (i : ℕ) (o : Opening) : Type 0 where
-  pub sound : (whole : List Term) → ((t : Term) → IsIn t (sent ++ more) → IsIn t whole) → IsSound (record { sent = whole; secrets = secrets }) o
+  pub sound : (whole : List Term) → ((t : Term) → IsIn t (sent ++ more) → IsIn t whole) → IsSoundOpening (record { sent = whole; secrets = secrets }) o
   pub opened : AreOpenOrLocked secrets o
   pub builds : (t : Term) → IsIn t (sent ++ more) → IsIn t (drop i more) ⊎ Builds secrets o.held.items t
 
@@ -23,7 +23,7 @@ begun sent more secrets o h = record {
   builds = λ t i. elim (in_append sent more i) [ inl j ↦ inr (h.covered.builds t j) | inr j ↦ inl j ];
 }
 
-pub one_taken : (sent more secrets : List Term) (i : ℕ) (x : Term) (o n : Opening) → i < length more → x ≡ get_or more i x → Takes secrets x o n → IsOpening sent more secrets i o →
+pub one_taken : (sent more secrets : List Term) (i : ℕ) (x : Term) (o n : Opening) → i < length more → x ≡ get_or more i x → TakesApart secrets x o n → IsOpening sent more secrets i o →
     IsOpening sent more secrets (i + 1) n
 one_taken sent more secrets i x o n within is takes h = record {
   sound = λ whole all. takes.sound whole (h.sound whole all) (was_sent (all x (in_append_right sent (item_is_in more i x within is))));
@@ -46,7 +46,7 @@ advanced sent secrets o n a h = record {
 }
 
 -- Where what was sent is opened, what is held is all that is needed.
-pub closed : (g : Given) (o : Opening) → IsOpened g.sent g.secrets o → IsClosed g o.held.items
+pub closed : (g : Given) (o : Opening) → IsOpened g.sent g.secrets o → IsClosedUnderParts g o.held.items
 closed g o h = record {
   derivable = (h.covered.sound g.sent (λ t i. i)).held;
   sent = h.covered.builds;

@@ -10,7 +10,7 @@ use Rattle.cp_term.specs.Size.{term_size}
 use Rattle.cp_derive.specs.From.{left_of, right_of, decrypted}
 use Rattle.cp_derive.specs.Given.{Given, IsDerivable}
 use Rattle.cp_derive.specs.Buildable.{IsAtHand, Builds}
-use Rattle.cp_derive.specs.OpenedTerms.{weight_of, weight, locked_of, IsOpenOrLocked, AreOpenOrLocked, Takes}
+use Rattle.cp_derive.specs.OpenedTerms.{weight_of, weight, locked_of, IsOpenOrLocked, AreOpenOrLocked, TakesApart}
 use Rattle.cp_derive.specs.declared.opened_terms.Locked.{Locked}
 use Rattle.cp_derive.specs.declared.opened_terms.Opening.{Opening}
 use Rattle.cp_derive.proofs.Listed.{IsPushed}
@@ -33,7 +33,7 @@ open_more secrets o n held locked a k (inl b) = inl (builds_more secrets o.held.
 open_more secrets o n held locked a k (inr i) = inr (locked (locked_of a k) i)
 
 -- Where the term can be built already, nothing is to be done.
-pub takes_nothing : (secrets : List Term) (t : Term) (o : Opening) → Builds secrets o.held.items t → Takes secrets t o o
+pub takes_nothing : (secrets : List Term) (t : Term) (o : Opening) → Builds secrets o.held.items t → TakesApart secrets t o o
 takes_nothing secrets t o b = record {
   builds = b;
   held_more = λ x h. h;
@@ -44,7 +44,7 @@ takes_nothing secrets t o b = record {
 }
 
 module _ (secrets : List Term) (t : Term) (o n : Opening) (p : IsPushed o.held.items t n.held.items) where
-  pub takes_atom : (a : AtomTerm) → t ≡ atom_term a → n.locked.items ≡ o.locked.items → Takes secrets t o n
+  pub takes_atom : (a : AtomTerm) → t ≡ atom_term a → n.locked.items ≡ o.locked.items → TakesApart secrets t o n
   takes_atom a e l = record {
     builds = subst (Builds secrets n.held.items) (sym e) (inl (subst (λ x. IsIn x n.held.items) e p.itself));
     held_more = p.more;
@@ -57,7 +57,7 @@ module _ (secrets : List Term) (t : Term) (o n : Opening) (p : IsPushed o.held.i
     weighs = let same : weight n ≡ weight o = ap (sum_by weight_of) l in omega arith;
   }
 
-  pub takes_encryption : (a : Term) (k : KeyTerm) → t ≡ enc_term a k → IsPushed o.locked.items (locked_of a k) n.locked.items → n.locked.items ≡ o.locked.items ++ (locked_of a k ∷ []) → Takes secrets t o n
+  pub takes_encryption : (a : Term) (k : KeyTerm) → t ≡ enc_term a k → IsPushed o.locked.items (locked_of a k) n.locked.items → n.locked.items ≡ o.locked.items ++ (locked_of a k ∷ []) → TakesApart secrets t o n
   takes_encryption a k e q l = record {
     builds = subst (Builds secrets n.held.items) (sym e) (inl (subst (λ x. IsIn x n.held.items) e p.itself));
     held_more = p.more;
@@ -87,7 +87,7 @@ module _ (secrets : List Term) (t : Term) (o n : Opening) (p : IsPushed o.held.i
   }
 
 -- First the left part of a pair, and then the right one.
-pub takes_pair : (secrets : List Term) (t a b : Term) (o m n : Opening) → t ≡ pair_term a b → Takes secrets a o m → Takes secrets b m n → Takes secrets t o n
+pub takes_pair : (secrets : List Term) (t a b : Term) (o m n : Opening) → t ≡ pair_term a b → TakesApart secrets a o m → TakesApart secrets b m n → TakesApart secrets t o n
 takes_pair secrets t a b o m n e first second = record {
   builds = subst (Builds secrets n.held.items) (sym e) (builds_more secrets m.held.items n.held.items second.held_more a first.builds, second.builds);
   held_more = λ x h. second.held_more x (first.held_more x h);
@@ -105,17 +105,17 @@ takes_pair secrets t a b o m n e first second = record {
       omega (arith, first.weighs, second.weighs);
 }
 
-pub taken_open : (secrets : List Term) (t : Term) (o n : Opening) → Takes secrets t o n → AreOpenOrLocked secrets o → AreOpenOrLocked secrets n
+pub taken_open : (secrets : List Term) (t : Term) (o n : Opening) → TakesApart secrets t o n → AreOpenOrLocked secrets o → AreOpenOrLocked secrets n
 taken_open secrets t o n takes all a k h =
     elim (takes.opened a k h) [ inl i ↦ open_more secrets o n takes.held_more takes.locked_more a k (all a k i) | inr w ↦ w ]
 
-built_or_left : (secrets sent : List Term) (i : ℕ) (x : Term) (o n : Opening) → Takes secrets x o n → (t : Term) →
+built_or_left : (secrets sent : List Term) (i : ℕ) (x : Term) (o n : Opening) → TakesApart secrets x o n → (t : Term) →
     (x ≡ t) ⊎ IsIn t (drop (i + 1) sent) → IsIn t (drop (i + 1) sent) ⊎ Builds secrets n.held.items t
 built_or_left secrets sent i x o n takes t (inl e) = inr (subst (Builds secrets n.held.items) e takes.builds)
 built_or_left secrets sent i x o n takes t (inr h) = inl h
 
 -- Each term is left to be taken or can be built.
-pub covers_next : (secrets sent : List Term) (i : ℕ) (x : Term) (o n : Opening) → i < length sent → x ≡ get_or sent i x → Takes secrets x o n → (t : Term) →
+pub covers_next : (secrets sent : List Term) (i : ℕ) (x : Term) (o n : Opening) → i < length sent → x ≡ get_or sent i x → TakesApart secrets x o n → (t : Term) →
     IsIn t (drop i sent) ⊎ Builds secrets o.held.items t → IsIn t (drop (i + 1) sent) ⊎ Builds secrets n.held.items t
 covers_next secrets sent i x o n h e takes t (inl there_is) = built_or_left secrets sent i x o n takes t (next_or_rest sent i t x h e there_is)
 covers_next secrets sent i x o n h e takes t (inr b) = inr (builds_more secrets o.held.items n.held.items takes.held_more t b)

@@ -5,17 +5,17 @@ use Rattle.cp_model.specs.Term.{Term}
 use Rattle.cp_model.specs.declared.node.Node.{Node}
 use Rattle.cp_model.specs.Skeleton.{Skeleton}
 use Rattle.cp_model.specs.declared.node.OrderPair.{OrderPair}
-use Rattle.cp_model.specs.Order.{LeadsTo}
+use Rattle.cp_model.specs.Order.{ReachesAlong}
 use Rattle.cp_derive.specs.Given.{Given}
 use Rattle.cp_skel.specs.Events.{events_of}
 use Rattle.cp_derive.specs.Transmissions.{Transmission, transmissions_among}
 use Rattle.cp_derive.specs.Assumed.{assumed_values}
 
--- Node m leads to another one, n.
+-- Node m reaches another one, n.
 abbrev pub LeadsToOther : List OrderPair → Node → Node → Type 0
-LeadsToOther pairs m n = LeadsTo pairs m n × (m ≡ n → ⊥)
+LeadsToOther pairs m n = ReachesAlong pairs m n × (m ≡ n → ⊥)
 
--- These are the places of the transmissions that lead to another node, n.
+-- These are the places of the transmissions that reach another node, n.
 pub record ArePlacesBefore (pairs : List OrderPair) (n : Node) (ts : List Transmission) (places : List ℕ) : Type 0 where
   pub each : (p : ℕ) (t : Transmission) → item_at ts p ≡ Some t → LeadsToOther pairs t.node n → IsIn p places
   pub only : (p : ℕ) (t : Transmission) → item_at ts p ≡ Some t → IsIn p places → LeadsToOther pairs t.node n

@@ -21,7 +21,7 @@ Builds secrets held (enc_term a k) = IsIn (enc_term a k) held ⊎ (Builds secret
 
 -- What is held is all that is needed: it can be derived, what was sent can be built from it, and so can the plaintext
 -- of each encryption in it whose inverse key can be built.
-pub record IsClosed (g : Given) (held : List Term) : Type 0 where
+pub record IsClosedUnderParts (g : Given) (held : List Term) : Type 0 where
   pub derivable : (t : Term) → IsIn t held → IsDerivable g t
   pub sent : (t : Term) → IsIn t g.sent → Builds g.secrets held t
   pub opened : (a : Term) (k : KeyTerm) → IsIn (enc_term a k) held → BuildsAtom g.secrets held (key_term (inverse_term k)) → Builds g.secrets held a

@@ -6,8 +6,8 @@ use Rattle.cp_derive.specs.declared.form.Form.{Form}
 use Rattle.cp_derive.specs.declared.form.Form.TheVariants.{Tag, Atom, Pair, Encryption}
 
 -- The term is of this form, with these parts.
-abbrev pub IsFormOf : Form → Term → Type 0
-IsFormOf Tag t = (bytes : List ℕ) × (t ≡ tag_term bytes)
-IsFormOf Atom t = (a : AtomTerm) × (t ≡ atom_term a)
-IsFormOf (Pair left right) t = t ≡ pair_term left.now right.now
-IsFormOf (Encryption body key) t = (k : KeyTerm) × (key.now ≡ key_as_term k) × (t ≡ enc_term body.now k)
+abbrev pub HasForm : Form → Term → Type 0
+HasForm Tag t = (bytes : List ℕ) × (t ≡ tag_term bytes)
+HasForm Atom t = (a : AtomTerm) × (t ≡ atom_term a)
+HasForm (Pair left right) t = t ≡ pair_term left.now right.now
+HasForm (Encryption body key) t = (k : KeyTerm) × (key.now ≡ key_as_term k) × (t ≡ enc_term body.now k)

@@ -22,7 +22,7 @@ abbrev pub locked_of : Term → KeyTerm → Locked
 locked_of a k = record { body = a; inverse = key_as_term (inverse_term k) }
 
 -- All that is held can be derived, and what is locked where its key can be.
-pub record IsSound (g : Given) (o : Opening) : Type 0 where
+pub record IsSoundOpening (g : Given) (o : Opening) : Type 0 where
   pub held : (t : Term) → IsIn t o.held.items → IsDerivable g t
   pub locked : (l : Locked) → IsIn l o.locked.items → IsDerivable g l.inverse → IsDerivable g l.body
 
@@ -36,18 +36,18 @@ AreOpenOrLocked secrets o = (a : Term) (k : KeyTerm) → IsIn (enc_term a k) o.h
 
 -- A term is taken apart: then it can be built, nothing is lost, what is new can be derived from it, and each new
 -- encryption is open or locked.
-pub record Takes (secrets : List Term) (t : Term) (old new : Opening) : Type 0 where
+pub record TakesApart (secrets : List Term) (t : Term) (old new : Opening) : Type 0 where
   pub builds : Builds secrets new.held.items t
   pub held_more : (x : Term) → IsIn x old.held.items → IsIn x new.held.items
   pub locked_more : (l : Locked) → IsIn l old.locked.items → IsIn l new.locked.items
-  pub sound : (sent : List Term) → IsSound (record { sent = sent; secrets = secrets }) old → IsDerivable (record { sent = sent; secrets = secrets }) t → IsSound (record { sent = sent; secrets = secrets }) new
+  pub sound : (sent : List Term) → IsSoundOpening (record { sent = sent; secrets = secrets }) old → IsDerivable (record { sent = sent; secrets = secrets }) t → IsSoundOpening (record { sent = sent; secrets = secrets }) new
   pub opened : (a : Term) (k : KeyTerm) → IsIn (enc_term a k) new.held.items → IsIn (enc_term a k) old.held.items ⊎ IsOpenOrLocked secrets new a k
   pub weighs : weight new ≤ weight old + term_size t
 
 -- What was locked is opened: nothing held is lost, what is new can be derived, and each encryption stays open or locked.
 pub record Advances (secrets : List Term) (old new : Opening) : Type 0 where
   pub held_more : (x : Term) → IsIn x old.held.items → IsIn x new.held.items
-  pub sound : (sent : List Term) → IsSound (record { sent = sent; secrets = secrets }) old → IsSound (record { sent = sent; secrets = secrets }) new
+  pub sound : (sent : List Term) → IsSoundOpening (record { sent = sent; secrets = secrets }) old → IsSoundOpening (record { sent = sent; secrets = secrets }) new
   pub opened : AreOpenOrLocked secrets old → AreOpenOrLocked secrets new
 
 -- Nothing that is locked has a key that can be built.
@@ -57,7 +57,7 @@ AreLocked secrets o = (l : Locked) → IsIn l o.locked.items → Builds secrets 
 -- All that is held can be derived from whatever lists hold what was sent, each encryption is open or locked, and what
 -- was sent can be built.
 pub record IsCovered (sent secrets : List Term) (o : Opening) : Type 0 where
-  pub sound : (whole : List Term) → ((t : Term) → IsIn t sent → IsIn t whole) → IsSound (record { sent = whole; secrets = secrets }) o
+  pub sound : (whole : List Term) → ((t : Term) → IsIn t sent → IsIn t whole) → IsSoundOpening (record { sent = whole; secrets = secrets }) o
   pub opened : AreOpenOrLocked secrets o
   pub builds : (t : Term) → IsIn t sent → Builds secrets o.held.items t
 

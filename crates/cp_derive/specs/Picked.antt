@@ -3,15 +3,15 @@ use Rattle.std.specs.Prelude.{List, [], ◌∷◌}
 use Rattle.cp_lists.specs.Lists.{IsIn}
 use Rattle.cp_model.specs.declared.node.Node.{Node}
 use Rattle.cp_model.specs.Skeleton.{Skeleton}
-use Rattle.cp_skel.specs.Events.{Occurrence}
+use Rattle.cp_skel.specs.Events.{LocatedEvent}
 use Rattle.cp_derive.specs.Unrealised.{IsUnrealisedAt, IsRealisedAt}
 
 -- The nodes are those of the events that are unrealised receptions, in their order.
-pub data Picks (k : Skeleton) : List Occurrence → List Node → Type 0 where
+pub data Picks (k : Skeleton) : List LocatedEvent → List Node → Type 0 where
   no_more : Picks k [] []
-  picks : {o : Occurrence} {os : List Occurrence} {ns : List Node} → IsUnrealisedAt k o.node → Picks k os ns → Picks k (o ∷ os) (o.node ∷ ns)
-  passes : {o : Occurrence} {os : List Occurrence} {ns : List Node} → IsRealisedAt k o.node → Picks k os ns → Picks k (o ∷ os) ns
+  picks : {o : LocatedEvent} {os : List LocatedEvent} {ns : List Node} → IsUnrealisedAt k o.node → Picks k os ns → Picks k (o ∷ os) (o.node ∷ ns)
+  passes : {o : LocatedEvent} {os : List LocatedEvent} {ns : List Node} → IsRealisedAt k o.node → Picks k os ns → Picks k (o ∷ os) ns
 
 -- All of the first events are among the second.
-abbrev pub AreAmong : List Occurrence → List Occurrence → Type 0
-AreAmong os ps = (o : Occurrence) → IsIn o os → IsIn o ps
+abbrev pub AreEventsAmong : List LocatedEvent → List LocatedEvent → Type 0
+AreEventsAmong os ps = (o : LocatedEvent) → IsIn o os → IsIn o ps

@@ -1,4 +1,4 @@
--- Places, and which of them are marked.
+-- Places, and which of them are flagged.
 use Rattle.std.specs.Prelude.{◌↔◌, ℕ, List, [], ◌∷◌, ◌++◌, get_or, set, Bool, true, false, if◌then◌else◌}
 use Rattle.cp_lists.specs.Lists.{IsIn}
 
@@ -6,17 +6,17 @@ use Rattle.cp_lists.specs.Lists.{IsIn}
 abbrev pub AreSamePlaces : List ℕ → List ℕ → Type 0
 AreSamePlaces ps qs = (p : ℕ) → IsIn p ps ↔ IsIn p qs
 
--- A mark at each of these places.
-abbrev pub marked : List ℕ → List Bool → List Bool
-marked [] marks = marks
-marked (p ∷ ps) marks = marked ps (set marks p true)
+-- A flag at each of these places.
+abbrev pub flagged_places : List ℕ → List Bool → List Bool
+flagged_places [] flags = flags
+flagged_places (p ∷ ps) flags = flagged_places ps (set flags p true)
 
--- There is a mark at each of these places.
-abbrev pub are_marked : List Bool → List ℕ → Bool
-are_marked marks [] = true
-are_marked marks (p ∷ ps) = if get_or marks p false then are_marked marks ps else false
+-- There is a flag at each of these places.
+abbrev pub are_flagged : List Bool → List ℕ → Bool
+are_flagged flags [] = true
+are_flagged flags (p ∷ ps) = if get_or flags p false then are_flagged flags ps else false
 
--- Those of these places where there is no mark, behind others.
-abbrev pub unmarked_behind : List ℕ → List Bool → List ℕ → List ℕ
-unmarked_behind done marks [] = done
-unmarked_behind done marks (p ∷ ps) = unmarked_behind (if get_or marks p false then done else done ++ (p ∷ [])) marks ps
+-- Those of these places where there is no flag, behind others.
+abbrev pub unflagged_behind : List ℕ → List Bool → List ℕ → List ℕ
+unflagged_behind done flags [] = done
+unflagged_behind done flags (p ∷ ps) = unflagged_behind (if get_or flags p false then done else done ++ (p ∷ [])) flags ps

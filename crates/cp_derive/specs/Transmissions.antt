@@ -3,7 +3,7 @@ use Rattle.std.specs.Prelude.{Bool, true, false, List, [], ◌∷◌}
 use Rattle.cp_model.specs.Term.{Term}
 use Rattle.cp_model.specs.Strand.{Event, send, recv}
 use Rattle.cp_model.specs.declared.node.Node.{Node}
-use Rattle.cp_skel.specs.Events.{Occurrence}
+use Rattle.cp_skel.specs.Events.{LocatedEvent}
 use Rattle.cp_derive.specs.declared.transmission.Transmission as sending
 
 -- A message that a role strand sends at a node.
@@ -20,6 +20,6 @@ if_sent n (send t) true ts = record { node = n; message = t } ∷ ts
 if_sent n (send t) false ts = ts
 if_sent n (recv t) r ts = ts
 
-abbrev pub transmissions_among : List Occurrence → List Transmission
+abbrev pub transmissions_among : List LocatedEvent → List Transmission
 transmissions_among [] = []
 transmissions_among (o ∷ os) = if_sent o.node o.event o.by_role (transmissions_among os)

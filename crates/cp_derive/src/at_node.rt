@@ -5,7 +5,7 @@ ghost use Rattle.cp_model.specs.Skeleton.{IsNodeOf, term_event_at};
 ghost use Rattle.cp_model.specs.Strand.{Event as PlainEvent, payload};
 ghost use Rattle.cp_model.specs.Term.{Term as Plain};
 ghost use Rattle.cp_skel.specs.View.{skeleton_view};
-ghost use Rattle.cp_term.specs.Positions.{term_at};
+ghost use Rattle.cp_model.specs.Positions.{term_at};
 ghost use Rattle.cp_derive.specs.Before.{transmissions_of};
 ghost use Rattle.cp_derive.specs.Components.{IsFirstUnderivable};
 ghost use Rattle.cp_derive.specs.Given.{IsDerivable};

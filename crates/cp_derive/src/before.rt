@@ -9,7 +9,7 @@ use cp_skel::{Node, SortedPairs};
 use cp_term::Term;
 use std::alloc::{AllocError, Global};
 
-/// The places, in the list of transmissions, of those at other nodes that lead to this one.
+/// The places, in the list of transmissions, of those at other nodes that reach this one.
 pub(crate) fn places_before(
     alloc: Global,
     sorted: &SortedPairs<'_>,
@@ -18,7 +18,7 @@ pub(crate) fn places_before(
 ) -> Result<Vec<usize>, AllocError>
     ensures { IfOk result (λ ps. ArePlacesBefore sorted.now node (map transmission_view transmissions.now) ps.items) }
 {
-    let leading = sorted.leading_to(alloc, node)?;
+    let leading = sorted.predecessors_of(alloc, node)?;
     let mut places = Vec::new(alloc);
     for (place, transmission) in transmissions.iter().enumerate() {
         if leading.has(transmission.node) && transmission.node != node {

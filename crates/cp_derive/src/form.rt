@@ -1,5 +1,5 @@
 // The outermost form of a term.
-ghost use Rattle.cp_derive.specs.Forms.{IsFormOf};
+ghost use Rattle.cp_derive.specs.Forms.{HasForm};
 
 use cp_term::{Shape, Term};
 
@@ -15,7 +15,7 @@ pub(crate) enum Form<'a> {
 
 /// The outermost form of a term.
 pub(crate) fn form_of(term: &Term) -> Form<'_>
-    ensures { IsFormOf result term.now }
+    ensures { HasForm result term.now }
 {
     match term.shape() {
         Shape::Tag(_) => Form::Tag,

@@ -4,7 +4,7 @@ ghost use Rattle.cp_model.specs.Term.{AtomTerm, KeyTerm, Term as Plain, atom_ter
 ghost use Rattle.cp_term.specs.Keys.{key_as_term};
 ghost use Rattle.cp_derive.specs.Buildable.{Builds};
 ghost use Rattle.cp_derive.specs.declared.opened_terms.Locked.{Locked as LockedData};
-ghost use Rattle.cp_derive.specs.OpenedTerms.{weight, Takes, Advances, AreLocked, IsOpened};
+ghost use Rattle.cp_derive.specs.OpenedTerms.{weight, TakesApart, Advances, AreLocked, IsOpened};
 
 use crate::built_terms::{builds, is_among, is_at_hand};
 use crate::form::{Form, form_of};
@@ -28,7 +28,7 @@ pub(crate) struct Opening {
 /// Holds an atom, unless it is at hand already.
 fn hold(secrets: &[Term], atom: &Term, opening: &mut Opening) -> Result<(), AllocError>
     requires { (a : AtomTerm) × (atom.now ≡ atom_term a) }
-    ensures { OnOk result (Takes secrets.now atom.now opening.old opening.new) }
+    ensures { OnOk result (TakesApart secrets.now atom.now opening.old opening.new) }
 {
     if !is_at_hand(secrets, &opening.held, atom) {
         let atom = atom.copy()?;
@@ -46,7 +46,7 @@ fn lock(
     opening: &mut Opening,
 ) -> Result<(), AllocError>
     requires { (k : KeyTerm) × (key.now ≡ key_as_term k) × (encryption.now ≡ enc_term body.now k) }
-    ensures { OnOk result ((secrets : List Plain) → Takes secrets encryption.now opening.old opening.new) }
+    ensures { OnOk result ((secrets : List Plain) → TakesApart secrets encryption.now opening.old opening.new) }
 {
     if !is_among(&opening.held, encryption) {
         let body = body.copy()?;
@@ -65,7 +65,7 @@ fn take_apart(
     term: &Term,
     opening: &mut Opening,
 ) -> Result<(), AllocError>
-    ensures { OnOk result (Takes secrets.now term.now opening.old opening.new) }
+    ensures { OnOk result (TakesApart secrets.now term.now opening.old opening.new) }
 {
     let mut rest = term;
     loop {

@@ -3,33 +3,33 @@ ghost use Rattle.std.specs.Prelude.{◌≡◌, ◌<◌, map, length, IfOk};
 ghost use Rattle.cp_skel.specs.Ordered.{IsOrdered};
 ghost use Rattle.cp_skel.specs.View.{skeleton_view};
 ghost use Rattle.cp_derive.specs.Before.{transmissions_of, given_by};
-ghost use Rattle.cp_skel.specs.Events.{occurrence_view, events_of};
+ghost use Rattle.cp_skel.specs.Events.{located_event_view, events_of};
 ghost use Rattle.cp_derive.specs.Transmissions.{transmission_view};
-ghost use Rattle.cp_derive.specs.Picked.{AreAmong, Picks};
+ghost use Rattle.cp_derive.specs.Picked.{AreEventsAmong, Picks};
 ghost use Rattle.cp_derive.specs.Unrealised.{ListsUnrealised};
 
 use crate::assumed::assumed_values;
-use crate::front::{Front, front_at};
 use crate::knowledge::{Known, buildable};
+use crate::known_before::{KnownBefore, known_before_at};
 use crate::transmission::{Transmission, transmissions};
-use cp_skel::{Event, Node, Occurrence, OrderPair, Skeleton, SortedPairs};
+use cp_skel::{Event, LocatedEvent, Node, OrderPair, Skeleton, SortedPairs};
 use std::alloc::{AllocError, Global};
 
-/// The receptions among these events whose messages are not derivable there, in order, and the front after the events.
+/// The receptions among these events whose messages are not derivable there, in order, and what is known after the events.
 fn unrealised_among(
     alloc: Global,
     k: &Skeleton,
     sorted: &SortedPairs<'_>,
     transmissions: &[Transmission],
-    occurrences: &[Occurrence],
-    mut front: Front,
-) -> Result<(Vec<Node>, Front), AllocError>
+    occurrences: &[LocatedEvent],
+    mut known_before: KnownBefore,
+) -> Result<(Vec<Node>, KnownBefore), AllocError>
     requires ordered { IsOrdered (skeleton_view k.now) }
     requires pairs { sorted.now ≡ k.now.order }
     requires all { map transmission_view transmissions.now ≡ transmissions_of (skeleton_view k.now) }
-    requires among { AreAmong (map occurrence_view occurrences.now) (events_of (skeleton_view k.now)) }
-    requires given { front.known ≡ given_by (skeleton_view k.now) front.places.items }
-    ensures picks { IfOk result (λ r. Picks (skeleton_view k.now) (map occurrence_view occurrences.now) r.0.items) }
+    requires among { AreEventsAmong (map located_event_view occurrences.now) (events_of (skeleton_view k.now)) }
+    requires given { known_before.known ≡ given_by (skeleton_view k.now) known_before.places.items }
+    ensures picks { IfOk result (λ r. Picks (skeleton_view k.now) (map located_event_view occurrences.now) r.0.items) }
     ensures given { IfOk result (λ r. r.1.known ≡ given_by (skeleton_view k.now) r.1.places.items) }
 {
     let mut nodes = Vec::new(alloc);
@@ -37,17 +37,24 @@ fn unrealised_among(
         let Event::Receive(message) = &occurrence.event else {
             continue;
         };
-        front = front_at(alloc, k, sorted, transmissions, occurrence.node, front)?;
-        if buildable(&front.known, message) {
+        known_before = known_before_at(
+            alloc,
+            k,
+            sorted,
+            transmissions,
+            occurrence.node,
+            known_before,
+        )?;
+        if buildable(&known_before.known, message) {
             continue;
         }
         nodes.push(occurrence.node)?;
     }
-    Ok((nodes, front))
+    Ok((nodes, known_before))
 }
 
 /// Where the events on the last strand begin.
-fn start_of_last(occurrences: &[Occurrence]) -> usize
+fn start_of_last(occurrences: &[LocatedEvent]) -> usize
     requires { 0 < length occurrences.now }
     ensures { result < length occurrences.now }
 {
@@ -59,7 +66,7 @@ fn start_of_last(occurrences: &[Occurrence]) -> usize
 }
 
 /// Whether most pairs lead from a strand to a later one, so that strands are mostly in temporal order.
-fn come_in_order(pairs: &[OrderPair]) -> bool {
+fn are_in_order(pairs: &[OrderPair]) -> bool {
     let behind = pairs
         .iter()
         .filter(|pair| pair.earlier.strand < pair.later.strand)
@@ -69,7 +76,7 @@ fn come_in_order(pairs: &[OrderPair]) -> bool {
 
 /// Where the events to be visited next begin: at 0 if strands are in temporal order, otherwise where those on the last strand
 /// begin.
-fn start_of_next(occurrences: &[Occurrence], in_order: bool) -> usize
+fn start_of_next(occurrences: &[LocatedEvent], in_order: bool) -> usize
     requires { 0 < length occurrences.now }
     ensures { result < length occurrences.now }
 {
@@ -87,25 +94,25 @@ fn unrealised_by_strand(
     k: &Skeleton,
     sorted: &SortedPairs<'_>,
     transmissions: &[Transmission],
-    occurrences: &[Occurrence],
-    mut front: Front,
+    occurrences: &[LocatedEvent],
+    mut known_before: KnownBefore,
 ) -> Result<Vec<Node>, AllocError>
     requires ordered { IsOrdered (skeleton_view k.now) }
     requires pairs { sorted.now ≡ k.now.order }
     requires all { map transmission_view transmissions.now ≡ transmissions_of (skeleton_view k.now) }
-    requires listed { map occurrence_view occurrences.now ≡ events_of (skeleton_view k.now) }
-    requires given { front.known ≡ given_by (skeleton_view k.now) front.places.items }
+    requires listed { map located_event_view occurrences.now ≡ events_of (skeleton_view k.now) }
+    requires given { known_before.known ≡ given_by (skeleton_view k.now) known_before.places.items }
     ensures { IfOk result (λ nodes. ListsUnrealised (skeleton_view k.now) nodes.items) }
 {
-    let in_order = come_in_order(k.order().pairs());
+    let in_order = are_in_order(k.order().pairs());
     let mut nodes = Vec::new(alloc);
     let mut left = occurrences;
     while !left.is_empty() {
         let (before, on) = left.split_at(start_of_next(left, in_order));
-        let (mut more, next) = unrealised_among(alloc, k, sorted, transmissions, on, front)?;
+        let (mut more, next) = unrealised_among(alloc, k, sorted, transmissions, on, known_before)?;
         more.reverse();
         nodes.append(&mut more)?;
-        front = next;
+        known_before = next;
         left = before;
     }
     nodes.reverse();
@@ -121,9 +128,16 @@ pub fn unrealised(alloc: Global, k: &Skeleton) -> Result<Vec<Node>, AllocError>
     let transmissions = transmissions(alloc, &occurrences)?;
     let secrets = assumed_values(alloc, k.assumptions())?;
     let sorted = SortedPairs::new(alloc, k.order().pairs())?;
-    let front = Front {
+    let known_before = KnownBefore {
         places: Vec::new(alloc),
         known: Known::new(alloc, Vec::new(alloc), secrets)?,
     };
-    unrealised_by_strand(alloc, k, &sorted, &transmissions, &occurrences, front)
+    unrealised_by_strand(
+        alloc,
+        k,
+        &sorted,
+        &transmissions,
+        &occurrences,
+        known_before,
+    )
 }

@@ -1,9 +1,9 @@
 // Transmissions of role strands.
 ghost use Rattle.std.specs.Prelude.{◌≡◌, map, IfOk};
-ghost use Rattle.cp_skel.specs.Events.{occurrence_view};
+ghost use Rattle.cp_skel.specs.Events.{located_event_view};
 ghost use Rattle.cp_derive.specs.Transmissions.{transmission_view, transmissions_among};
 
-use cp_skel::{Event, Node, Occurrence};
+use cp_skel::{Event, LocatedEvent, Node};
 use cp_term::Term;
 use std::alloc::{AllocError, Global};
 
@@ -17,9 +17,9 @@ pub(crate) struct Transmission {
 /// The transmissions of role strands among these events.
 pub(crate) fn transmissions(
     alloc: Global,
-    occurrences: &[Occurrence],
+    occurrences: &[LocatedEvent],
 ) -> Result<Vec<Transmission>, AllocError>
-    ensures { IfOk result (λ ts. map transmission_view ts.items ≡ transmissions_among (map occurrence_view occurrences.now)) }
+    ensures { IfOk result (λ ts. map transmission_view ts.items ≡ transmissions_among (map located_event_view occurrences.now)) }
 {
     let mut transmissions = Vec::new(alloc);
     for occurrence in occurrences {

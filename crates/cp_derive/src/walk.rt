@@ -1,9 +1,9 @@
 // Finds the first component of a message that is not derivable.
 ghost use Rattle.std.specs.Prelude.{◌≡◌, ◌↔◌, Some, IsNone, IfSome, IfOk};
-ghost use Rattle.cp_term.specs.Positions.{term_at};
+ghost use Rattle.cp_model.specs.Positions.{term_at};
 ghost use Rattle.cp_derive.specs.Given.{IsDerivable};
 ghost use Rattle.cp_derive.specs.Components.{IsFirstUnderivable};
-ghost use Rattle.cp_derive.specs.Walk.{Finds};
+ghost use Rattle.cp_derive.specs.Walk.{FindsComponent};
 
 use crate::component::Critical;
 use crate::form::{Form, form_of};
@@ -13,7 +13,7 @@ use std::alloc::{AllocError, Global};
 
 /// Finds the first component of the whole that is not derivable, and extends the path to it.
 fn find(known: &Known, whole: &Term, here: &mut Path) -> Result<Option<Term>, AllocError>
-    ensures { IfOk result (λ found. Finds known.now whole.now here.old here.new found) }
+    ensures { IfOk result (λ found. FindsComponent known.now whole.now here.old here.new found) }
 {
     let start = here.len();
     let mut rest = whole;

@@ -7,19 +7,19 @@ use Rattle.cp_model.specs.Strand.{payload}
 use Rattle.cp_model.specs.declared.node.Node.{Node}
 use Rattle.cp_model.specs.Skeleton.{Skeleton}
 use Rattle.cp_model.specs.Derivable.{DerivableAt, sent_before}
-use Rattle.cp_term.specs.declared.path.Step.{Step}
-use Rattle.cp_skel.specs.Events.{Occurrence, occurrence_view, events_of}
-use Rattle.cp_skel.specs.declared.events.Occurrence as program
+use Rattle.cp_model.specs.declared.step.Step.{Step}
+use Rattle.cp_skel.specs.Events.{LocatedEvent, located_event_view, events_of}
+use Rattle.cp_skel.specs.declared.events.LocatedEvent as program
 use Rattle.cp_skel.proofs.EventLists.{listed_event, listed_role}
 use Rattle.cp_derive.specs.Given.{Given, IsDerivable}
-use Rattle.cp_covering.specs.Children.{IsSentBefore}
-use Rattle.cp_covering.specs.GatheredLists.{EachGives}
-use Rattle.cp_escape.specs.Escape.{IsFirstWith, in_front, further, IsClosedAt, GivesClosed, positions_of}
+use Rattle.cp_cohort.specs.CoveringChildren.{IsTransmissionBefore}
+use Rattle.cp_cohort.specs.GatheredLists.{EachGives}
+use Rattle.cp_escape.specs.Escape.{IsFirstWith, in_front, further, IsUnopenedAt, GivesClosed, positions_of}
 use Rattle.cp_escape.specs.ClosedEncryptions.{IsClosedTo, GivesClosedTo, PutsTerms, GivesIf, with_it, AreClosedBefore}
 use Rattle.cp_escape.proofs.TermsOnce.{given_by_those, gives_all, gives_other}
 
 -- What was sent is derivable.
-pub sent_is_derivable : (k : Skeleton) (n : Node) (o : Occurrence) → IsIn o (events_of k) → IsSentBefore k n o → DerivableAt k n (payload o.event)
+pub sent_is_derivable : (k : Skeleton) (n : Node) (o : LocatedEvent) → IsIn o (events_of k) → IsTransmissionBefore k n o → DerivableAt k n (payload o.event)
 sent_is_derivable k n o i s =
     let message : payload o.event ≡ s.message = ap payload s.sent in
     subst (DerivableAt k n) (sym message) (sent_before (listed_role k o i s.by_role) (listed_event k o i ∙ ap Some s.sent) s.before)
@@ -29,23 +29,23 @@ first_other f g (in_front {x = x} h) = in_front (f x h)
 first_other f g (further {y = y} n h) = further (λ o. n (g y o)) (first_other f g h)
 
 -- What an event gives.
-abbrev pub GivesEvent : Skeleton → Node → Given → Term → Occurrence → List Term → Type 0
-GivesEvent k n g c = GivesIf (IsSentBefore k n) (λ o. EachGives (GivesClosedTo g (payload o.event)) (positions_of c (payload o.event)))
+abbrev pub GivesEvent : Skeleton → Node → Given → Term → LocatedEvent → List Term → Type 0
+GivesEvent k n g c = GivesIf (IsTransmissionBefore k n) (λ o. EachGives (GivesClosedTo g (payload o.event)) (positions_of c (payload o.event)))
 
 module _ (k : Skeleton) (n : Node) (g : Given) (given : (t : Term) → IsDerivable g t ↔ DerivableAt k n t) where
-  closed_at : (e : Term) → IsClosedTo g e → IsClosedAt k n e
+  closed_at : (e : Term) → IsClosedTo g e → IsUnopenedAt k n e
   closed_at e c = record { body = c.body; key = c.key; is_encryption = c.is_encryption; underivable = λ d. c.underivable ((given (atom_term (key_term (inverse_term c.key)))).1 d) }
 
-  closed_to : (e : Term) → IsClosedAt k n e → IsClosedTo g e
+  closed_to : (e : Term) → IsUnopenedAt k n e → IsClosedTo g e
   closed_to e c = record { body = c.body; key = c.key; is_encryption = c.is_encryption; underivable = λ d. c.underivable ((given (atom_term (key_term (inverse_term c.key)))).0 d) }
 
   gives_at : (message : Term) (path : List Step) (es : List Term) → GivesClosedTo g message path es → GivesClosed k n message path es
   gives_at message path es h = record { encryption = h.encryption; outermost = first_other closed_at closed_to h.outermost; alone = h.alone }
 
-  pub all_closed : (c : Term) (os : List program.Occurrence) → map occurrence_view os ≡ events_of k → (es : List Term) → PutsTerms (EachGives (λ o. GivesEvent k n g c (occurrence_view o)) os) [] es → AreClosedBefore k n c es
+  pub all_closed : (c : Term) (os : List program.LocatedEvent) → map located_event_view os ≡ events_of k → (es : List Term) → PutsTerms (EachGives (λ o. GivesEvent k n g c (located_event_view o)) os) [] es → AreClosedBefore k n c es
   all_closed c os all es p =
-      let each : EachGives (GivesEvent k n g c) (events_of k) p.given = subst (λ (xs : List Occurrence). EachGives (GivesEvent k n g c) xs p.given) all (gives_all occurrence_view os p.given p.gives_them) in
-      let those = given_by_those (IsSentBefore k n) (λ o. EachGives (GivesClosedTo g (payload o.event)) (positions_of c (payload o.event))) (events_of k) p.given each in
+      let each : EachGives (GivesEvent k n g c) (events_of k) p.given = subst (λ (xs : List LocatedEvent). EachGives (GivesEvent k n g c) xs p.given) all (gives_all located_event_view os p.given p.gives_them) in
+      let those = given_by_those (IsTransmissionBefore k n) (λ o. EachGives (GivesClosedTo g (payload o.event)) (positions_of c (payload o.event))) (events_of k) p.given each in
       record {
         sent = those.those;
         before = those.picked;
@@ -55,11 +55,11 @@ module _ (k : Skeleton) (n : Node) (g : Given) (given : (t : Term) → IsDerivab
       }
 
 -- An event that is read from the list is one of the skeleton's.
-pub listed_among : (k : Skeleton) (os : List program.Occurrence) (i : ℕ) (o : program.Occurrence) → i < length os → o ≡ get_or os i o → map occurrence_view os ≡ events_of k → IsIn (occurrence_view o) (events_of k)
-listed_among k os i o below read all = subst (λ (xs : List Occurrence). IsIn (occurrence_view o) xs) all (into_map occurrence_view (item_is_in os i o below read))
+pub listed_among : (k : Skeleton) (os : List program.LocatedEvent) (i : ℕ) (o : program.LocatedEvent) → i < length os → o ≡ get_or os i o → map located_event_view os ≡ events_of k → IsIn (located_event_view o) (events_of k)
+listed_among k os i o below read all = subst (λ (xs : List LocatedEvent). IsIn (located_event_view o) xs) all (into_map located_event_view (item_is_in os i o below read))
 
 -- What is put for a transmission before the node.
-pub event_given : (k : Skeleton) (n : Node) (g : Given) (c : Term) (o : Occurrence) (message : Term) → message ≡ payload o.event → IsSentBefore k n o → (old new : List Term) →
+pub event_given : (k : Skeleton) (n : Node) (g : Given) (c : Term) (o : LocatedEvent) (message : Term) → message ≡ payload o.event → IsTransmissionBefore k n o → (old new : List Term) →
     PutsTerms (EachGives (GivesClosedTo g message) (positions_of c message)) old new → PutsTerms (GivesEvent k n g c o) old new
 event_given k n g c o message same s old new p = record {
   given = p.given;

@@ -2,12 +2,12 @@
 use Rattle.std.proofs.Common.{◌≡◌, List, [], ◌∷◌, Some, refl, subst}
 use Rattle.cp_lists.specs.Lists.{IsIn, here, there}
 use Rattle.cp_model.specs.Term.{Term, tag_term, atom_term, pair_term, enc_term}
-use Rattle.cp_term.specs.declared.path.Step.{Step}
-use Rattle.cp_term.specs.declared.path.Step.TheVariants.{Left, Right, Plaintext}
-use Rattle.cp_term.specs.Positions.{term_at}
+use Rattle.cp_model.specs.declared.step.Step.{Step}
+use Rattle.cp_model.specs.declared.step.Step.TheVariants.{Left, Right, Plaintext}
+use Rattle.cp_model.specs.Positions.{term_at}
 use Rattle.cp_derive.specs.From.{left_of, right_of, decrypted}
 use Rattle.cp_derive.specs.Given.{Given, IsDerivable}
-use Rattle.cp_guard.specs.Above.{encryptions_above}
+use Rattle.cp_theory.specs.Above.{encryptions_above}
 use Rattle.cp_escape.specs.ClosedEncryptions.{IsOpenTo, IsHidden}
 
 module _ (g : Given) where

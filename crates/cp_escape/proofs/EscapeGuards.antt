@@ -15,20 +15,20 @@ use Rattle.cp_model.specs.Same.{same_term}
 use Rattle.cp_model.specs.Tree.{Pattern}
 use Rattle.cp_model.proofs.LawTerms.{term_unchanged}
 use Rattle.cp_model.proofs.SameTests.{term_is, same_term_itself}
-use Rattle.cp_completeness.specs.Normal.{variables_of_terms}
-use Rattle.cp_term.specs.declared.path.Step.{Step}
-use Rattle.cp_term.specs.Positions.{term_at}
+use Rattle.cp_theory.specs.Normal.{variables_of_terms}
+use Rattle.cp_model.specs.declared.step.Step.{Step}
+use Rattle.cp_model.specs.Positions.{term_at}
 use Rattle.cp_term.specs.Patterns.{pattern_by}
 use Rattle.cp_term.proofs.PositionLaws.{positions_found, carried_position}
-use Rattle.cp_skel.specs.Events.{Occurrence, events_of}
-use Rattle.cp_skel.proofs.EventLists.{listed_event, listed_role, is_role_at, occurrence_at, listed_at}
-use Rattle.cp_skel.proofs.UnderVariables.{carried_variables}
-use Rattle.cp_guard.specs.Above.{encryptions_above}
-use Rattle.cp_guard.specs.Critical.{IsPartOfPairs, whole_part, part_of_left, part_of_right, IsTest, used_variables}
-use Rattle.cp_guard.specs.Guards.{Guards}
-use Rattle.cp_guard.specs.Inside.{IsInside}
-use Rattle.cp_covering.specs.Children.{IsSentBefore}
-use Rattle.cp_covering.proofs.Listed.{giver, given, those_have, with_it, terms_listed, of_terms_onto}
+use Rattle.cp_skel.specs.Events.{LocatedEvent, events_of}
+use Rattle.cp_skel.proofs.EventLists.{listed_event, listed_role, is_role_at, located_event_at, listed_at}
+use Rattle.cp_model.proofs.UnderVariables.{carried_variables}
+use Rattle.cp_theory.specs.Above.{encryptions_above}
+use Rattle.cp_theory.specs.Critical.{IsPartOfPairs, whole_part, part_of_left, part_of_right, IsTest, used_variables}
+use Rattle.cp_theory.specs.Guards.{Guards}
+use Rattle.cp_theory.specs.Inside.{IsInside}
+use Rattle.cp_cohort.specs.CoveringChildren.{IsTransmissionBefore}
+use Rattle.cp_cohort.proofs.Listed.{giver, given, those_have, with_it, terms_listed, of_terms_onto}
 use Rattle.cp_escape.specs.ClosedEncryptions.{AreClosedBefore}
 use Rattle.cp_escape.specs.Escape.{IsFirstWith, in_front, further, positions_of, whole_pattern, IsEscape}
 use Rattle.cp_escape.specs.Sent.{CarriesBefore}
@@ -50,9 +50,9 @@ part_variables (part_of_right p) = in_right_term (part_variables p)
 
 -- An encryption that some occurrence gives.
 pub record IsGivenAbove (k : Skeleton) (n : Node) (c e : Term) : Type 0 where
-  pub occurrence : Occurrence
+  pub occurrence : LocatedEvent
   pub listed : IsIn occurrence (events_of k)
-  pub sent : IsSentBefore k n occurrence
+  pub sent : IsTransmissionBefore k n occurrence
   pub path : List Step
   pub position : IsIn path (positions_of c (payload occurrence.event))
   pub above : IsIn e (encryptions_above (payload occurrence.event) path)
@@ -90,13 +90,13 @@ module _ (k : Skeleton) (n : Node) (c : Term) (es : List Term) (closed : AreClos
 
   -- An occurrence of c in what was sent before gives an encryption above it.
   module _ (m : Node) (t : Term) (on : IsOnInstance k m) (at : term_event_at k.strands m ≡ Some (send t)) (before : Before k m n) (path : List Step) (stands : term_at t path ≡ Some c) where
-    abbrev o : Occurrence
-    o = occurrence_at k m (send t)
+    abbrev o : LocatedEvent
+    o = located_event_at k m (send t)
 
     by_role : o.by_role ≡ true
     by_role = ap is_role_at on.on_instance
 
-    sent_here : IsSentBefore k n o
+    sent_here : IsTransmissionBefore k n o
     sent_here = record { by_role = by_role; message = t; sent = refl; before = before }
 
     position : IsIn path (positions_of c t)

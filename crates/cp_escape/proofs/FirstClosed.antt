@@ -4,9 +4,9 @@ use Rattle.std.proofs.lemmas.List.{drop_all}
 use Rattle.cp_lists.specs.Lists.{IsIn}
 use Rattle.cp_lists.proofs.Members.{drop_read, head_or_behind, not_in_none}
 use Rattle.cp_model.specs.Term.{Term}
-use Rattle.cp_term.specs.declared.path.Step.{Step}
+use Rattle.cp_model.specs.declared.step.Step.{Step}
 use Rattle.cp_derive.specs.Given.{Given}
-use Rattle.cp_guard.specs.Above.{encryptions_above}
+use Rattle.cp_theory.specs.Above.{encryptions_above}
 use Rattle.cp_escape.specs.ClosedEncryptions.{IsClosedTo, IsOpenTo, IsHidden}
 use Rattle.cp_escape.specs.Escape.{IsFirstWith, in_front, further}
 use Rattle.cp_escape.proofs.DerivableParts.{one_closed}

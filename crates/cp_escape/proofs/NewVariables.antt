@@ -11,7 +11,7 @@ use Rattle.cp_model.specs.Same.{has_variable}
 use Rattle.cp_model.specs.Skeleton.{Skeleton}
 use Rattle.cp_model.proofs.SameTests.{variable_in, in_has_variable}
 use Rattle.cp_term.specs.Patterns.{variable_with, locals_of}
-use Rattle.cp_guard.specs.Critical.{used_variables}
+use Rattle.cp_theory.specs.Critical.{used_variables}
 use Rattle.cp_escape.specs.UsedVariables.{is_new_in, variables_where, numbers}
 use Rattle.cp_escape.specs.WidenedPattern.{AreRisingVariables, AreNewVariables}
 

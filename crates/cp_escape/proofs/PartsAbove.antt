@@ -12,9 +12,9 @@ use Rattle.cp_model.proofs.LawPrefixes.{in_trace}
 use Rattle.cp_model.proofs.LawStandings.{strand_of_event, event_on}
 use Rattle.cp_model.proofs.OccurringVariables.{in_strands}
 use Rattle.cp_lists.specs.Lists.{item_at}
-use Rattle.cp_term.specs.declared.path.Step.{Step}
-use Rattle.cp_term.specs.declared.path.Step.TheVariants.{Left, Right, Plaintext}
-use Rattle.cp_guard.specs.Above.{encryptions_above}
+use Rattle.cp_model.specs.declared.step.Step.{Step}
+use Rattle.cp_model.specs.declared.step.Step.TheVariants.{Left, Right, Plaintext}
+use Rattle.cp_theory.specs.Above.{encryptions_above}
 
 -- Each is an encryption, and its variables are the message's.
 pub record IsPartOf (t e : Term) : Type 0 where

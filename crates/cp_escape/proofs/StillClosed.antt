@@ -6,10 +6,10 @@ use Rattle.cp_lists.proofs.Members.{drop_read, in_append_left, in_append_right}
 use Rattle.cp_model.specs.Term.{Variable, KeyTerm, symmetric_term, asymmetric_term, AtomTerm, key_term, inverse_term, Term, atom_term, enc_term, variables_of_key, variables_of_atom}
 use Rattle.cp_model.specs.Problem.{variables_of_atoms, variables_of_uniques, variables_of_strands}
 use Rattle.cp_model.specs.Skeleton.{Skeleton}
-use Rattle.cp_completeness.specs.Normal.{variables_of_terms}
+use Rattle.cp_theory.specs.Normal.{variables_of_terms}
 use Rattle.cp_model.proofs.OccurringVariables.{in_atoms}
 use Rattle.cp_term.specs.Keys.{key_as_term}
-use Rattle.cp_guard.specs.Critical.{used_variables}
+use Rattle.cp_theory.specs.Critical.{used_variables}
 use Rattle.cp_escape.specs.Escape.{IsFirstWith, in_front, further}
 use Rattle.cp_escape.specs.WidenedPattern.{StaysClosed}
 

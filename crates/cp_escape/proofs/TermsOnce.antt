@@ -3,7 +3,7 @@ use Rattle.std.proofs.Common.{append_assoc, ◌≡◌, ℕ, ◌+◌, ◌<◌, �
 use Rattle.std.proofs.lemmas.List.{append-nil, drop_all}
 use Rattle.cp_lists.proofs.Members.{drop_read}
 use Rattle.cp_model.specs.Term.{Term}
-use Rattle.cp_covering.specs.GatheredLists.{EachGives, nothing_given, then_given, AreThoseWith, none_left, taken, left_out, has_term, terms_onto}
+use Rattle.cp_cohort.specs.GatheredLists.{EachGives, nothing_given, then_given, AreThoseWith, none_left, taken, left_out, has_term, terms_onto}
 use Rattle.cp_escape.specs.ClosedEncryptions.{PutsTerms, GivesIf, without_it, with_it}
 
 onto_more : (before ts us : List Term) → terms_onto before (ts ++ us) ≡ terms_onto (terms_onto before ts) us

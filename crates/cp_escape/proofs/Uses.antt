@@ -8,7 +8,7 @@ use Rattle.cp_model.specs.Term.{Sort, Variable, Term, variables_of}
 use Rattle.cp_model.specs.Strand.{Declaration, Event, send, payload, variables_of_trace}
 use Rattle.cp_model.specs.Problem.{variables_of_strands}
 use Rattle.cp_model.specs.Skeleton.{SkeletonStrand, skeleton_trace}
-use Rattle.cp_skel.specs.Events.{Occurrence, is_role_strand, occurrences_on, occurrences_from}
+use Rattle.cp_skel.specs.Events.{LocatedEvent, is_role_strand, located_events_on, located_events_from}
 use Rattle.cp_skel.specs.Trees.{declared_view, variables_view}
 use Rattle.cp_strand.specs.View.{sort_view, event_view}
 use Rattle.cp_strand.specs.declared.protocol.Event as events
@@ -32,22 +32,22 @@ module _ {A : Type 0} (f : A → List Variable) (whole : List A) where
 
 -- ---- the events of a skeleton
 
-abbrev pub variables_at : Occurrence → List Variable
+abbrev pub variables_at : LocatedEvent → List Variable
 variables_at o = variables_of (payload o.event)
 
 listed_both : {A : Type 0} (f : A → List Variable) (xs ys : List A) → variables_listed f (xs ++ ys) ≡ (variables_listed f xs ++ variables_listed f ys)
 listed_both f [] ys = refl
 listed_both f (x ∷ xs) ys = ap (λ (zs : List Variable). f x ++ zs) (listed_both f xs ys) ∙ sym (append_assoc (f x) (variables_listed f xs) (variables_listed f ys))
 
-listed_on : (s i : ℕ) (r : Bool) (es : List (Event Term)) → variables_listed variables_at (occurrences_on s i r es) ≡ variables_of_trace es
+listed_on : (s i : ℕ) (r : Bool) (es : List (Event Term)) → variables_listed variables_at (located_events_on s i r es) ≡ variables_of_trace es
 listed_on s i r [] = refl
 listed_on s i r (e ∷ es) = ap (λ (zs : List Variable). variables_of (payload e) ++ zs) (listed_on s (suc i) r es)
 
-pub listed_from : (s : ℕ) (strands : List SkeletonStrand) → variables_listed variables_at (occurrences_from s strands) ≡ variables_of_strands strands
+pub listed_from : (s : ℕ) (strands : List SkeletonStrand) → variables_listed variables_at (located_events_from s strands) ≡ variables_of_strands strands
 listed_from s [] = refl
 listed_from s (x ∷ xs) =
-    listed_both variables_at (occurrences_on s 0 (is_role_strand x) (skeleton_trace x)) (occurrences_from (suc s) xs) ∙
-    ap (λ (zs : List Variable). zs ++ variables_listed variables_at (occurrences_from (suc s) xs)) (listed_on s 0 (is_role_strand x) (skeleton_trace x)) ∙
+    listed_both variables_at (located_events_on s 0 (is_role_strand x) (skeleton_trace x)) (located_events_from (suc s) xs) ∙
+    ap (λ (zs : List Variable). zs ++ variables_listed variables_at (located_events_from (suc s) xs)) (listed_on s 0 (is_role_strand x) (skeleton_trace x)) ∙
     ap (λ (zs : List Variable). variables_of_trace (skeleton_trace x) ++ zs) (listed_from (suc s) xs)
 
 pub listed_shown : {A B : Type 0} (f : B → List Variable) (shown : A → B) (xs : List A) → variables_listed (λ x. f (shown x)) xs ≡ variables_listed f (map shown xs)

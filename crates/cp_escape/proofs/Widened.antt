@@ -15,13 +15,13 @@ use Rattle.cp_model.specs.Same.{has_variable}
 use Rattle.cp_model.specs.Skeleton.{Skeleton}
 use Rattle.cp_model.specs.Tree.{Pattern}
 use Rattle.cp_model.proofs.SameTests.{variable_in, in_has_variable}
-use Rattle.cp_term.specs.declared.path.Step.{Step}
+use Rattle.cp_model.specs.declared.step.Step.{Step}
 use Rattle.cp_term.specs.Patterns.{pattern_by, locals_of}
-use Rattle.cp_guard.specs.Above.{encryptions_above}
-use Rattle.cp_guard.specs.Critical.{used_variables}
-use Rattle.cp_guard.specs.Guards.{HoldsNoLocalInItsKey, Guards}
-use Rattle.cp_guard.specs.Inside.{IsInside}
-use Rattle.cp_guard.specs.Matches.{IsFreeIn}
+use Rattle.cp_theory.specs.Above.{encryptions_above}
+use Rattle.cp_theory.specs.Critical.{used_variables}
+use Rattle.cp_theory.specs.Guards.{HoldsNoLocalInItsKey, Guards}
+use Rattle.cp_theory.specs.Inside.{IsInside}
+use Rattle.cp_theory.specs.Matches.{IsFreeIn}
 use Rattle.cp_escape.specs.Escape.{IsFirstWith}
 use Rattle.cp_escape.specs.UsedVariables.{is_new_in, variables_where, numbers}
 use Rattle.cp_escape.specs.WidenedPattern.{BindsNothing, EndsBySending, StaysClosed, AreNewVariables, WidensBy}

@@ -4,13 +4,13 @@ use Rattle.cp_model.specs.Term.{KeyTerm, key_term, inverse_term, Term, atom_term
 use Rattle.cp_model.specs.Strand.{payload}
 use Rattle.cp_model.specs.declared.node.Node.{Node}
 use Rattle.cp_model.specs.Skeleton.{Skeleton}
-use Rattle.cp_term.specs.declared.path.Step.{Step}
-use Rattle.cp_term.specs.Positions.{term_at}
-use Rattle.cp_skel.specs.Events.{Occurrence, events_of}
+use Rattle.cp_model.specs.declared.step.Step.{Step}
+use Rattle.cp_model.specs.Positions.{term_at}
+use Rattle.cp_skel.specs.Events.{LocatedEvent, events_of}
 use Rattle.cp_derive.specs.Given.{Given, IsDerivable}
-use Rattle.cp_guard.specs.Above.{encryptions_above}
-use Rattle.cp_covering.specs.Children.{IsSentBefore}
-use Rattle.cp_covering.specs.GatheredLists.{EachGives, AreThoseWith, terms_onto}
+use Rattle.cp_theory.specs.Above.{encryptions_above}
+use Rattle.cp_cohort.specs.CoveringChildren.{IsTransmissionBefore}
+use Rattle.cp_cohort.specs.GatheredLists.{EachGives, AreThoseWith, terms_onto}
 use Rattle.cp_escape.specs.Escape.{IsFirstWith, GivesClosed, positions_of}
 
 -- The encryption cannot be opened from what is given.
@@ -55,8 +55,8 @@ pub data GivesIf {A B : Type 0} (has : A → Type 0) (gives : A → List B → T
 
 -- The encryptions that the occurrences of c in what was sent before n give, each once.
 pub record AreClosedBefore (k : Skeleton) (n : Node) (c : Term) (es : List Term) : Type 0 where
-  pub sent : List Occurrence
-  pub before : AreThoseWith (IsSentBefore k n) (events_of k) sent
+  pub sent : List LocatedEvent
+  pub before : AreThoseWith (IsTransmissionBefore k n) (events_of k) sent
   pub encryptions : List Term
   pub each : EachGives (λ o. EachGives (GivesClosed k n (payload o.event)) (positions_of c (payload o.event))) sent encryptions
   pub once : es ≡ terms_onto [] encryptions

@@ -6,10 +6,10 @@ use Rattle.cp_model.specs.Strand.{send, Role}
 use Rattle.cp_model.specs.Bundle.{node_at}
 use Rattle.cp_model.specs.Skeleton.{SkeletonStrand, instance, term_event_at, Skeleton}
 use Rattle.cp_model.specs.Tree.{Pattern}
-use Rattle.cp_term.specs.declared.path.Step.{Step}
+use Rattle.cp_model.specs.declared.step.Step.{Step}
 use Rattle.cp_collapse.specs.SameSkeletons.{AreSameStrands}
-use Rattle.cp_guard.specs.Above.{encryptions_above}
-use Rattle.cp_guard.specs.Critical.{used_variables}
+use Rattle.cp_theory.specs.Above.{encryptions_above}
+use Rattle.cp_theory.specs.Critical.{used_variables}
 use Rattle.cp_escape.specs.Escape.{IsFirstWith}
 
 -- The child binds no variable of the skeleton: the skeleton's strands, in front of one more, say in it what they said, and the

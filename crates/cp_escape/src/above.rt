@@ -1,6 +1,6 @@
 // The encryptions that enclose a position.
 ghost use Rattle.std.specs.Prelude.{◌≡◌, map, IfOk};
-ghost use Rattle.cp_guard.specs.Above.{encryptions_above};
+ghost use Rattle.cp_theory.specs.Above.{encryptions_above};
 
 use cp_term::{Shape, Step, Term};
 use std::alloc::{AllocError, Global};

@@ -1,13 +1,13 @@
 // Encryptions that cannot be opened with what is derivable at a node.
 ghost use Rattle.std.specs.Prelude.{◌≡◌, [], map, IfOk, OnOk};
-ghost use Rattle.cp_covering.specs.GatheredLists.{EachGives};
+ghost use Rattle.cp_cohort.specs.GatheredLists.{EachGives};
 ghost use Rattle.cp_derive.specs.Given.{IsDerivable};
-ghost use Rattle.cp_guard.specs.Above.{encryptions_above};
+ghost use Rattle.cp_theory.specs.Above.{encryptions_above};
 ghost use Rattle.cp_escape.specs.ClosedEncryptions.{IsClosedTo, TellsClosed, IsHidden, GivesClosedTo, PutsTerms};
 ghost use Rattle.cp_escape.specs.Escape.{IsFirstWith, positions_of};
 
 use crate::above::encryptions_above;
-use cp_covering::add_term;
+use cp_cohort::add_term;
 use cp_derive::{Known, buildable};
 use cp_term::{Path, Shape, Term, invert, paths_of};
 use std::alloc::{AllocError, Global};

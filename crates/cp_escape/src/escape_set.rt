@@ -6,8 +6,8 @@ ghost use Rattle.cp_model.specs.Derivable.{DerivableAt};
 ghost use Rattle.cp_model.specs.Pattern.{IsPattern};
 ghost use Rattle.cp_model.specs.PointOfView.{HasDeclaredVariables};
 ghost use Rattle.cp_model.specs.Term.{Term as Plain};
-ghost use Rattle.cp_guard.specs.Critical.{IsTest};
-ghost use Rattle.cp_guard.specs.Guards.{Guards};
+ghost use Rattle.cp_theory.specs.Critical.{IsTest};
+ghost use Rattle.cp_theory.specs.Guards.{Guards};
 ghost use Rattle.cp_skel.specs.Trees.{variables_view};
 ghost use Rattle.cp_skel.specs.View.{skeleton_view};
 ghost use Rattle.cp_escape.specs.ClosedEncryptions.{AreClosedBefore};
@@ -15,9 +15,9 @@ ghost use Rattle.cp_escape.specs.Escape.{whole_pattern, IsEscape};
 ghost use Rattle.cp_escape.specs.Sent.{CarriesBefore};
 
 use crate::closed_encryptions::add_closed;
-use cp_covering::is_sent_before;
+use cp_cohort::is_sent_before;
 use cp_derive::{Known, known};
-use cp_skel::{Leading, Node, Skeleton};
+use cp_skel::{Node, Predecessors, Skeleton};
 use cp_term::{Locals, Pattern, Term};
 use std::alloc::{AllocError, Global};
 
@@ -34,7 +34,7 @@ fn closed_before(
     ensures { IfOk result (λ es. AreClosedBefore (skeleton_view k.now) node critical.now es.items) }
 {
     let mut encryptions = Vec::new(alloc);
-    let leading = Leading::new(alloc, k.order().pairs(), node)?;
+    let leading = Predecessors::new(alloc, k.order().pairs(), node)?;
     let occurrences = k.events(alloc)?;
     for occurrence in &occurrences {
         if !is_sent_before(k, &leading, node, occurrence) {

@@ -6,8 +6,8 @@ ghost use Rattle.cp_model.specs.Tree.{Pattern};
 ghost use Rattle.cp_model.specs.declared.node.Node.{Node};
 ghost use Rattle.cp_model.specs.PointOfView.{HasDeclaredVariables};
 ghost use Rattle.cp_model.specs.Skeleton.{Skeleton};
-ghost use Rattle.cp_term.specs.declared.path.Step.{Step};
-ghost use Rattle.cp_guard.specs.Guards.{Guards};
+ghost use Rattle.cp_model.specs.declared.step.Step.{Step};
+ghost use Rattle.cp_theory.specs.Guards.{Guards};
 ghost use Rattle.cp_escape.specs.WidenedPattern.{WidensBy};
 
 /// If patterns guard a test, they still guard it together with the pattern that a child gives, provided that the child's

@@ -1,8 +1,8 @@
 // The variables that a skeleton uses, and those of a term that the skeleton does not use.
 ghost use Rattle.std.specs.Prelude.{◌≡◌, ◌++◌, ◌&&◌, not, map, IfOk, OnOk};
 ghost use Rattle.cp_model.specs.Same.{has_variable};
-ghost use Rattle.cp_completeness.specs.Normal.{variables_of_terms};
-ghost use Rattle.cp_guard.specs.Critical.{used_variables};
+ghost use Rattle.cp_theory.specs.Normal.{variables_of_terms};
+ghost use Rattle.cp_theory.specs.Critical.{used_variables};
 ghost use Rattle.cp_model.specs.Problem.{variables_of_atoms, variables_of_uniques, variables_of_strands, variables_of_assumptions};
 ghost use Rattle.cp_model.specs.Strand.{variables_of_trace};
 ghost use Rattle.cp_model.specs.Term.{variables_of};

@@ -1,6 +1,6 @@
 // The pattern that a child with an added strand contributes.
 ghost use Rattle.std.specs.Prelude.{◌≡◌, ◌↔◌, ◌++◌, ◌∷◌, [], map, length, IsTrue, IfOk, IfSome, IfNone};
-ghost use Rattle.cp_guard.specs.Above.{encryptions_above};
+ghost use Rattle.cp_theory.specs.Above.{encryptions_above};
 ghost use Rattle.cp_model.specs.PointOfView.{HasDeclaredVariables};
 ghost use Rattle.cp_model.specs.Term.{Term as PlainTerm};
 ghost use Rattle.cp_model.specs.Tree.{Pattern as Plain};

@@ -5,7 +5,7 @@ use Rattle.cp_lists.proofs.Items.{place_of, at_place, item_below, item_of_map, m
 use Rattle.cp_lists.proofs.Least.{less_or_same}
 use Rattle.cp_model.specs.Skeleton.{Skeleton}
 use Rattle.cp_model.specs.Tree.{Pattern}
-use Rattle.cp_covering.specs.Children.{Child}
+use Rattle.cp_cohort.specs.CoveringChildren.{Child}
 use Rattle.cp_cohort.specs.Views.{child_view}
 use Rattle.cp_cohort.specs.declared.child.Child as program
 use Rattle.cp_escape.specs.WidenedPattern.{WidensBy}

@@ -14,10 +14,10 @@ use Rattle.cp_model.specs.Data.{Declared, SkeletonData}
 use Rattle.cp_strand.proofs.SameParts.{same_sort}
 use Rattle.cp_skel.specs.View.{skeleton_view}
 use Rattle.cp_skel.specs.Trees.{declared_view, variables_view}
-use Rattle.cp_covering.specs.Children.{Child}
-use Rattle.cp_covering.specs.Cohort.{Question}
-use Rattle.cp_covering.specs.Way.{DeclaresMore}
-use Rattle.cp_cohort.specs.Views.{question_of, child_view}
+use Rattle.cp_cohort.specs.CoveringChildren.{Child}
+use Rattle.cp_cohort.specs.Cohort.{GuardedTest}
+use Rattle.cp_cohort.specs.Way.{DeclaresMore}
+use Rattle.cp_cohort.specs.Views.{guarded_test_of, child_view}
 use Rattle.cp_cohort.specs.declared.child.Child as program
 use Rattle.cp_expansion.specs.Expansion.{asked_under, AreWidened}
 use Rattle.cp_expansion.specs.Widened.{IsGiven}
@@ -63,7 +63,7 @@ declared_more ds es k m h = record {
   mapped = λ t x listed at. subst (λ fs. IsDeclared fs x) (sym m.behind) (still_declared ds m.more x (h.mapped t x listed at));
 }
 
--- ---- the next question
+-- ---- the next test
 
 -- One pattern more, and the table of the child that gives it.
 pub record IsNext (k grown : SkeletonData) (old new : List Pattern) (cs : List program.Child) (place : ℕ) (p : Pattern) (child : program.Child) : Type 0 where
@@ -94,14 +94,14 @@ table_behind k cs place p child vs g at sound is =
     let behind = more_behind child.skeleton.variables k.variables more.more more.behind in
     (behind.0, is ∙ behind.1)
 
-pub next_question : (k grown : SkeletonData) (n : Node) (c : Term) (old new : List Pattern) (p : Pattern) (child : program.Child) (g : Child) → g ≡ child_view child → grown ≡ record k { variables = child.skeleton.variables } → new ≡ old ++ p ∷ []
-    → question_of grown n c new ≡ asked_under (question_of k n c old) g p
-next_question k grown n c old new p child g is grew pushed =
-    ap (λ (s : SkeletonData). question_of s n c new) grew
-    ∙ ap (λ (ps : List Pattern). question_of (record k { variables = child.skeleton.variables }) n c ps) pushed
-    ∙ ap (λ (d : Child). asked_under (question_of k n c old) d p) (sym is)
+pub next_test : (k grown : SkeletonData) (n : Node) (c : Term) (old new : List Pattern) (p : Pattern) (child : program.Child) (g : Child) → g ≡ child_view child → grown ≡ record k { variables = child.skeleton.variables } → new ≡ old ++ p ∷ []
+    → guarded_test_of grown n c new ≡ asked_under (guarded_test_of k n c old) g p
+next_test k grown n c old new p child g is grew pushed =
+    ap (λ (s : SkeletonData). guarded_test_of s n c new) grew
+    ∙ ap (λ (ps : List Pattern). guarded_test_of (record k { variables = child.skeleton.variables }) n c ps) pushed
+    ∙ ap (λ (d : Child). asked_under (guarded_test_of k n c old) d p) (sym is)
 
-pub if_widened : {A E : Type 0} (protocol : Protocol) (first next : Question) (last : A → Question) (children : A → List Child) (r : Result A E) → ((q : Question) (cs : List Child) → AreWidened protocol next q cs → AreWidened protocol first q cs)
+pub if_widened : {A E : Type 0} (protocol : Protocol) (first next : GuardedTest) (last : A → GuardedTest) (children : A → List Child) (r : Result A E) → ((q : GuardedTest) (cs : List Child) → AreWidened protocol next q cs → AreWidened protocol first q cs)
     → IfOk r (λ a. AreWidened protocol next (last a) (children a)) → IfOk r (λ a. AreWidened protocol first (last a) (children a))
 if_widened protocol first next last children (Ok a) on h = on (last a) (children a) h
 if_widened protocol first next last children (Err e) on h = tt

@@ -5,9 +5,9 @@ use Rattle.cp_lists.proofs.Members.{only_item, in_append, in_append_right, from_
 use Rattle.cp_model.specs.Term.{Term, tag_term, atom_term, pair_term, enc_term}
 use Rattle.cp_model.specs.declared.node.Node.{Node}
 use Rattle.cp_model.specs.Skeleton.{Skeleton}
-use Rattle.cp_term.specs.declared.path.Step.TheVariants.{Left, Right}
-use Rattle.cp_derive.specs.Components.{Component, below, components_of}
-use Rattle.cp_guard.specs.Critical.{whole_part, part_of_left, part_of_right, IsComponent, IsTest}
+use Rattle.cp_model.specs.declared.step.Step.TheVariants.{Left, Right}
+use Rattle.cp_derive.specs.Components.{Component, components_below, components_of}
+use Rattle.cp_theory.specs.Critical.{whole_part, part_of_left, part_of_right, IsComponent, IsTest}
 use Rattle.cp_expansion.specs.ChosenTest.{IsTestOf}
 
 -- The one component of what is no pair is the whole.
@@ -22,17 +22,17 @@ component (atom_term v) d i = alone d (atom_term v) (λ a b e. cc) i
 component (enc_term body key) d i = alone d (enc_term body key) (λ a b e. cc) i
 component (pair_term a b) d i =
     ⊎_elim
-    (λ (j : IsIn d (below Left (components_of a))).
+    (λ (j : IsIn d (components_below Left (components_of a))).
     let m = from_map (λ (c : Component). record { path = Left ∷ c.path; term = c.term }) (components_of a) j in
     let r = component a m.0 m.1 in
     let same : m.0.term ≡ d.term = ap (λ (c : Component). c.term) m.2 in
     subst (λ (u : Term). IsComponent u (pair_term a b)) same (record { part = part_of_left r.part; no_pair = r.no_pair }))
-    (λ (j : IsIn d (below Right (components_of b))).
+    (λ (j : IsIn d (components_below Right (components_of b))).
     let m = from_map (λ (c : Component). record { path = Right ∷ c.path; term = c.term }) (components_of b) j in
     let r = component b m.0 m.1 in
     let same : m.0.term ≡ d.term = ap (λ (c : Component). c.term) m.2 in
     subst (λ (u : Term). IsComponent u (pair_term a b)) same (record { part = part_of_right r.part; no_pair = r.no_pair }))
-    (in_append (below Left (components_of a)) (below Right (components_of b)) i)
+    (in_append (components_below Left (components_of a)) (components_below Right (components_of b)) i)
 
 pub is_test : (k : Skeleton) (n : Node) (c : Term) → IsTestOf k n c → IsTest k n c
 is_test k n c t =

@@ -6,7 +6,7 @@ use Rattle.cp_model.specs.Strand.{recv}
 use Rattle.cp_model.specs.declared.node.Node.{Node}
 use Rattle.cp_model.specs.Skeleton.{listener, term_event_at, Skeleton}
 use Rattle.cp_model.specs.Derivable.{DerivableAt}
-use Rattle.cp_term.specs.declared.path.Step.{Step}
+use Rattle.cp_model.specs.declared.step.Step.{Step}
 use Rattle.cp_derive.specs.Components.{IsFirstUnderivable}
 use Rattle.cp_derive.specs.Unrealised.{IsUnrealisedAt, IsListedBefore}
 

@@ -4,34 +4,34 @@ use Rattle.cp_lists.specs.Lists.{IsIn}
 use Rattle.cp_model.specs.Strand.{Declaration, Protocol}
 use Rattle.cp_model.specs.Skeleton.{Skeleton}
 use Rattle.cp_model.specs.Tree.{by_added_strand, Pattern, Test}
-use Rattle.cp_covering.specs.Children.{Child}
-use Rattle.cp_covering.specs.Cohort.{Question, IsCohort}
+use Rattle.cp_cohort.specs.CoveringChildren.{Child}
+use Rattle.cp_cohort.specs.Cohort.{GuardedTest, IsCohort}
 use Rattle.cp_escape.specs.Escape.{IsFirstWith, IsEscape}
 use Rattle.cp_escape.specs.WidenedPattern.{WidensBy}
 use Rattle.cp_expansion.specs.ChosenTest.{IsTestOf}
 
 -- The child, with which a strand was added, gives a pattern that widens the set.
-pub record IsWidening (q : Question) (c : Child) : Type 0 where
+pub record IsWidening (q : GuardedTest) (c : Child) : Type 0 where
   pub strand : ℕ
   pub added : c.operation ≡ by_added_strand strand
   pub pattern : Pattern
   pub widens : WidensBy q.skeleton c.skeleton c.path pattern
 
--- The question under one pattern more, where the variables of the child from which that comes are declared.
-abbrev pub asked_under : Question → Child → Pattern → Question
+-- The test under one pattern more, where the variables of the child from which that comes are declared.
+abbrev pub asked_under : GuardedTest → Child → Pattern → GuardedTest
 asked_under q c p = record q { variables = c.variables; patterns = q.patterns ++ p ∷ [] }
 
 -- The most patterns of a set that is widened is one less.
 abbrev pub most_patterns : ℕ
 most_patterns = 32
 
--- A question is asked under more and more patterns: the first child with an added strand that gives a pattern adds it, and the
--- children are made anew; until no child gives one, or there are as many patterns as may be. The second question is the last one,
+-- A test is asked under more and more patterns: the first child with an added strand that gives a pattern adds it, and the
+-- children are made anew; until no child gives one, or there are as many patterns as may be. The second test is the last one,
 -- and these are its children.
-pub data AreWidened (protocol : Protocol) : Question → Question → List Child → Type 0 where
-  has_most : {q : Question} {children : List Child} → most_patterns ≤ length q.patterns → IsCohort protocol q children → AreWidened protocol q q children
-  none_widens : {q : Question} {children : List Child} → length q.patterns < most_patterns → IsCohort protocol q children → ((c : Child) → IsIn c children → IsWidening q c → ⊥) → AreWidened protocol q q children
-  one_widens : {q last : Question} {before children : List Child} {c : Child} → length q.patterns < most_patterns → IsCohort protocol q before → IsFirstWith (IsWidening q) before c → (w : IsWidening q c)
+pub data AreWidened (protocol : Protocol) : GuardedTest → GuardedTest → List Child → Type 0 where
+  has_most : {q : GuardedTest} {children : List Child} → most_patterns ≤ length q.patterns → IsCohort protocol q children → AreWidened protocol q q children
+  none_widens : {q : GuardedTest} {children : List Child} → length q.patterns < most_patterns → IsCohort protocol q children → ((c : Child) → IsIn c children → IsWidening q c → ⊥) → AreWidened protocol q q children
+  one_widens : {q last : GuardedTest} {before children : List Child} {c : Child} → length q.patterns < most_patterns → IsCohort protocol q before → IsFirstWith (IsWidening q) before c → (w : IsWidening q c)
       → AreWidened protocol (asked_under q c w.pattern) last children → AreWidened protocol q last children
 
 -- A test with the patterns under which its children are made; the variables are those of the skeleton with those of the locals.
@@ -41,13 +41,13 @@ pub record Expansion : Type 0 where
   pub patterns : List Pattern
   pub children : List Child
 
--- The question that is asked of a skeleton first: under the patterns of the escape set.
-abbrev pub question_about : List Declaration → Skeleton → Test → List Pattern → Question
-question_about variables k t ps = record { variables = variables; skeleton = k; node = t.node; critical = t.critical; patterns = ps }
+-- The test that is asked of a skeleton first: under the patterns of the escape set.
+abbrev pub guarded_test_about : List Declaration → Skeleton → Test → List Pattern → GuardedTest
+guarded_test_about variables k t ps = record { variables = variables; skeleton = k; node = t.node; critical = t.critical; patterns = ps }
 
 -- The expansion of the skeleton, which has these variables.
 pub record IsExpansionOf (protocol : Protocol) (variables : List Declaration) (k : Skeleton) (e : Expansion) : Type 0 where
   pub test : IsTestOf k e.test.node e.test.critical
   pub escape : List Pattern
   pub is_escape : IsEscape k e.test.node e.test.critical escape
-  pub widened : AreWidened protocol (question_about variables k e.test escape) (question_about e.variables k e.test e.patterns) e.children
+  pub widened : AreWidened protocol (guarded_test_about variables k e.test escape) (guarded_test_about e.variables k e.test e.patterns) e.children

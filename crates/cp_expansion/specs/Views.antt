@@ -2,14 +2,14 @@
 use Rattle.std.specs.Prelude.{map}
 use Rattle.cp_skel.specs.Trees.{variables_view, test_view}
 use Rattle.cp_skel.specs.declared.tree.Test.{Test}
-use Rattle.cp_covering.specs.Cohort.{Question}
-use Rattle.cp_cohort.specs.Views.{question_of, child_view}
+use Rattle.cp_cohort.specs.Cohort.{GuardedTest}
+use Rattle.cp_cohort.specs.Views.{guarded_test_of, child_view}
 use Rattle.cp_expansion.specs.declared.expansion.Expansion as program
 use Rattle.cp_expansion.specs.Expansion.{Expansion}
 
--- The question that was asked last: of the skeleton with all variables, under all patterns.
-abbrev pub last_question : Test → program.Expansion → Question
-last_question t e = question_of e.skeleton t.node t.term e.patterns.items
+-- The test that was asked last: of the skeleton with all variables, under all patterns.
+abbrev pub last_test : Test → program.Expansion → GuardedTest
+last_test t e = guarded_test_of e.skeleton t.node t.term e.patterns.items
 
 -- The expansion by this test.
 abbrev pub expansion_view : Test → program.Expansion → Expansion

@@ -3,7 +3,7 @@ use Rattle.std.specs.Prelude.{◌≡◌, ◌<◌, ℕ, List, Option, Some, None,
 use Rattle.cp_lists.specs.Lists.{item_at, IsIn}
 use Rattle.cp_model.specs.Skeleton.{Skeleton}
 use Rattle.cp_model.specs.Tree.{by_added_strand, Pattern}
-use Rattle.cp_covering.specs.Children.{Child}
+use Rattle.cp_cohort.specs.CoveringChildren.{Child}
 use Rattle.cp_escape.specs.WidenedPattern.{WidensBy}
 use Rattle.cp_cohort.specs.Views.{child_view}
 use Rattle.cp_cohort.specs.declared.child.Child as children

@@ -1,17 +1,17 @@
 // Expansions of unrealised skeletons.
 ghost use Rattle.std.specs.Prelude.{◌≡◌, List, map, IfOk};
 ghost use Rattle.cp_lists.specs.Lists.{IsIn};
-ghost use Rattle.cp_guard.specs.Critical.{IsTest};
-ghost use Rattle.cp_guard.specs.Guards.{Guards};
+ghost use Rattle.cp_theory.specs.Critical.{IsTest};
+ghost use Rattle.cp_theory.specs.Guards.{Guards};
 ghost use Rattle.cp_model.specs.Skeleton.{IsSkeleton};
 ghost use Rattle.cp_model.specs.PointOfView.{HasDeclaredVariables};
 ghost use Rattle.cp_skel.specs.View.{skeleton_view};
 ghost use Rattle.cp_skel.specs.Trees.{variables_view};
-ghost use Rattle.cp_covering.specs.Children.{Child as PlainChild};
-ghost use Rattle.cp_cohort.specs.Views.{child_view, question_of};
+ghost use Rattle.cp_cohort.specs.CoveringChildren.{Child as PlainChild};
+ghost use Rattle.cp_cohort.specs.Views.{child_view, guarded_test_of};
 ghost use Rattle.cp_expansion.specs.Expansion.{AreWidened, IsExpansionOf};
 ghost use Rattle.cp_expansion.specs.ChosenTest.{IsTestOf};
-ghost use Rattle.cp_expansion.specs.Views.{last_question, expansion_view};
+ghost use Rattle.cp_expansion.specs.Views.{last_test, expansion_view};
 
 use crate::variable_tables::with_variables;
 use crate::widening_child::first_widening;
@@ -46,7 +46,7 @@ fn widened(
     requires declared { HasDeclaredVariables (variables_view k.now.variables) (skeleton_view k.now) }
     requires test { IsTest (skeleton_view k.now) test.now.node test.now.term }
     requires guards { Guards patterns.items (skeleton_view k.now) test.now.node test.now.term }
-    ensures widened { IfOk result (λ e. AreWidened protocol.now (question_of k.now test.now.node test.now.term patterns.items) (last_question test.now e) (map child_view e.children.items)) }
+    ensures widened { IfOk result (λ e. AreWidened protocol.now (guarded_test_of k.now test.now.node test.now.term patterns.items) (last_test test.now e) (map child_view e.children.items)) }
     ensures same { IfOk result (λ e. skeleton_view e.skeleton ≡ skeleton_view k.now) }
     ensures sound { IfOk result (λ e. (c : PlainChild) → IsIn c (map child_view e.children.items) → IsSkeleton protocol.now c.skeleton × HasDeclaredVariables c.variables c.skeleton) }
 {

@@ -5,7 +5,7 @@ ghost use Rattle.cp_model.specs.PointOfView.{HasDeclaredVariables};
 ghost use Rattle.cp_skel.specs.Trees.{variables_view};
 ghost use Rattle.cp_skel.specs.View.{skeleton_view};
 ghost use Rattle.cp_model.specs.Tree.{Pattern as PlainPattern};
-ghost use Rattle.cp_covering.specs.Children.{Child as PlainChild};
+ghost use Rattle.cp_cohort.specs.CoveringChildren.{Child as PlainChild};
 ghost use Rattle.cp_cohort.specs.Views.{child_view};
 ghost use Rattle.cp_expansion.specs.Widened.{GivesPattern, FindsWidening};
 

@@ -1,7 +1,7 @@
-pub mod Fingerprints
+pub mod Signatures
 pub mod Listed
 pub mod Listened
 pub mod NoMore
 pub mod SharedMore
 pub mod StrandSums
-pub mod Traits
+pub mod SignatureData

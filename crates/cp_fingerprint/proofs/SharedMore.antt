@@ -16,7 +16,7 @@ use Rattle.cp_model.proofs.LawTerms.{atom_composed}
 use Rattle.cp_model.proofs.LawPrefixes.{variables_of_higher}
 use Rattle.cp_model.proofs.SameTests.{variable_in, in_has_variable}
 use Rattle.cp_term.proofs.SameTerms.{same_Decides, test_is}
-use Rattle.cp_fingerprint.specs.SharedValues.{place_weight, text_number, value_slots, declared_variable, declared_slots, strand_slots, strung, slots_of, lists_of, listened, heard_weight, kept, weight_from, named_from, value_weight, part_of, share_from, squared, squares_from, sharing_of}
+use Rattle.cp_fingerprint.specs.SharedValues.{place_weight, text_number, value_slots, declared_variable, declared_slots, strand_slots, strung, slots_of, lists_of, listened, heard_weight, kept, weight_from, named_from, value_weight, part_of, share_from, squared, squares_from, bucket_key_of}
 use Rattle.cp_fingerprint.specs.Slots.{Slot}
 use Rattle.cp_fingerprint.proofs.Listened.{heard_more, heard_within}
 use Rattle.cp_fingerprint.proofs.StrandSums.{sum_of, sum_append, total_map, GoesToMore, GoApart, no_more_in_all}
@@ -382,8 +382,8 @@ module _ (a b : Skeleton) (f : SkeletonMap) (emb : IsEmbedding a b f) where
   squares_less : squares_here ≤ squares_there
   squares_less = strands_more f part_here part_there part_more a b emb (λ n. squared (kept n)) refl squared_no_more
 
-  sharing_kept : sharing_of a ≤ sharing_of b
-  sharing_kept =
+  bucket_key_kept : bucket_key_of a ≤ bucket_key_of b
+  bucket_key_kept =
       let first = values_share_less in
       let rest = squares_less in
       subst₂ (λ (m n : ℕ). m ≤ n)
@@ -392,5 +392,5 @@ module _ (a b : Skeleton) (f : SkeletonMap) (emb : IsEmbedding a b f) where
       (min_no_more bound (values_here + squares_here) (values_there + squares_there) (let l : values_here + squares_here ≤ values_there + squares_there = omega (arith, first, rest) in l))
 
 -- A skeleton that embeds in another shares no more.
-pub embedded_shares_less : (a b : Skeleton) → Embeds a b → sharing_of a ≤ sharing_of b
-embedded_shares_less a b h = sharing_kept a b h.0 h.1
+pub embedded_shares_less : (a b : Skeleton) → Embeds a b → bucket_key_of a ≤ bucket_key_of b
+embedded_shares_less a b h = bucket_key_kept a b h.0 h.1

@@ -1,4 +1,4 @@
-pub mod Fingerprints
+pub mod Signatures
 pub mod FirstPlaces
 pub mod Heights
 pub mod Isomorphic

@@ -1,4 +1,4 @@
--- A number that tells how the role strands of a skeleton share values. No embedding makes it smaller.
+-- The bucket key: a number that tells how the role strands of a skeleton share values. No embedding makes it smaller.
 use Rattle.std.specs.Prelude.{◌+◌, ◌-◌, ◌*◌, ◌%◌, ◌^◌, ℕ, suc, Bool, true, List, [], ◌∷◌, ◌++◌, min, map, if◌then◌else◌, Vec}
 use Rattle.cp_model.specs.Term.{text_sort, datum_sort, name_sort, skey_sort, Variable, skey_variable, ltk_term, pubk_term, symmetric_term, asymmetric_term, text_variable, datum_variable, name_variable, key_term, Term, tag_term, atom_term, pair_term, enc_term, Substitution, atom_of_variable, apply_to}
 use Rattle.cp_model.specs.Strand.{Event, recv, Declaration, variables_of_trace, variables_of_prefix}
@@ -117,8 +117,8 @@ squares_from n es all (xs ∷ xss) = squares_from (kept (n + squared (share_from
 
 -- How much the places of the problem's variables share, and for each role strand how much its own places share, squared, all
 -- added up. A plain sum would be the same however the places that share are spread over the strands.
-abbrev pub sharing_of : Skeleton → ℕ
-sharing_of k =
+abbrev pub bucket_key_of : Skeleton → ℕ
+bucket_key_of k =
     let es = listened k.strands in
     let all = slots_of k in
     squares_from (share_from 0 es all (value_slots 0 k.from_problem.values)) es all (map strand_slots k.strands)

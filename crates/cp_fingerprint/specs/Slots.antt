@@ -14,14 +14,14 @@ coded_slot = code_by (ℕ × Term) (coded× coded_ℕ coded_term) (λ x. (x.weig
 
 -- The number of the variable that the value is, or of the first variable of the atom that it is; 0 for any other. The definitions
 -- that use places do not speak of it.
-abbrev pub key_of : Term → ℕ
-key_of (atom_term (text_variable n)) = n
-key_of (atom_term (datum_variable n)) = n
-key_of (atom_term (name_variable n)) = n
-key_of (atom_term (key_term (symmetric_term (skey_variable n)))) = n
-key_of (atom_term (key_term (symmetric_term (ltk_term a b)))) = a
-key_of (atom_term (key_term (asymmetric_term flag (akey_variable n)))) = n
-key_of (atom_term (key_term (asymmetric_term flag (pubk_term purpose a)))) = a
-key_of (tag_term bytes) = 0
-key_of (pair_term t u) = 0
-key_of (enc_term t k) = 0
+abbrev pub slot_key : Term → ℕ
+slot_key (atom_term (text_variable n)) = n
+slot_key (atom_term (datum_variable n)) = n
+slot_key (atom_term (name_variable n)) = n
+slot_key (atom_term (key_term (symmetric_term (skey_variable n)))) = n
+slot_key (atom_term (key_term (symmetric_term (ltk_term a b)))) = a
+slot_key (atom_term (key_term (asymmetric_term flag (akey_variable n)))) = n
+slot_key (atom_term (key_term (asymmetric_term flag (pubk_term purpose a)))) = a
+slot_key (tag_term bytes) = 0
+slot_key (pair_term t u) = 0
+slot_key (enc_term t k) = 0

@@ -1,14 +1,14 @@
-//! Fingerprints of skeletons: they tell skeletons that cannot embed in each other apart at once. Every call that returns
+//! Signatures of skeletons: they tell skeletons that cannot embed in each other apart at once. Every call that returns
 //! `AllocError` fails only when memory runs out.
 #![tactic(auto)]
 
-mod fingerprint;
 mod first_places;
 mod heights;
 mod partition;
 mod shared_values;
+mod signature;
 mod slots;
 
-pub use fingerprint::Fingerprint;
 pub use first_places::first_of;
+pub use signature::Signature;
 pub use slots::{Places, Slot, key_of, places_of};

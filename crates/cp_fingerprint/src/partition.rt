@@ -4,7 +4,7 @@ ghost use Rattle.cp_model.specs.Homomorphism.{Embeds};
 ghost use Rattle.cp_model.specs.Skeleton as model;
 ghost use Rattle.cp_skel.specs.View.{skeleton_view};
 ghost use Rattle.cp_fingerprint.specs.Partition.{entry_of, partition_of, is_whole};
-ghost use Rattle.cp_fingerprint.specs.PartitionNumber.{number_of};
+ghost use Rattle.cp_fingerprint.specs.PartitionNumber.{partition_number};
 
 use crate::first_places::first_of;
 use cp_skel::{Skeleton, StrandShape};
@@ -24,13 +24,13 @@ pub(crate) struct Partition {
 impl Model for Partition {
     ghost use Rattle.std.specs.Prelude.{◌≡◌, ℕ, List, Option};
     ghost use Rattle.cp_fingerprint.specs.Partition.{is_whole};
-    ghost use Rattle.cp_fingerprint.specs.PartitionNumber.{number_of};
+    ghost use Rattle.cp_fingerprint.specs.PartitionNumber.{partition_number};
 
     ghost Value = { List (Option ℕ) };
 
     ghost view = { λ f. f.entries.items };
 
-    ghost invariant = { λ f. (f.number ≡ number_of 1 f.entries.items) × (f.whole ≡ is_whole f.entries.items) };
+    ghost invariant = { λ f. (f.number ≡ partition_number 1 f.entries.items) × (f.whole ≡ is_whole f.entries.items) };
 }
 
 /// The entry for a strand of the problem that maps to this place: if an instance stands there, the first strand of the problem
@@ -46,7 +46,7 @@ fn entry(k: &Skeleton, strand: usize, place: usize) -> Option<usize>
 
 /// A number mixed from the entries, one after another; 0 if one is `None`.
 fn number_of(entries: &[Option<usize>]) -> usize
-    ensures { result ≡ number_of 1 entries.now }
+    ensures { result ≡ partition_number 1 entries.now }
 {
     let mut number: usize = 1;
     for entry in entries {

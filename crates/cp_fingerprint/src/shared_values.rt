@@ -3,7 +3,7 @@ ghost use Rattle.std.specs.Prelude.{◌≡◌, map, IfOk};
 ghost use Rattle.cp_model.specs.Strand.{variables_of_trace};
 ghost use Rattle.cp_strand.specs.View.{event_view, strand_view};
 ghost use Rattle.cp_skel.specs.View.{skeleton_view};
-ghost use Rattle.cp_fingerprint.specs.SharedValues.{lists_of, slots_in, listened, is_heard, heard_weight, weight_from, named_from, value_weight, share_from, squares_from, sharing_of};
+ghost use Rattle.cp_fingerprint.specs.SharedValues.{lists_of, slots_in, listened, is_heard, heard_weight, weight_from, named_from, value_weight, share_from, squares_from, bucket_key_of};
 
 use crate::slots::{Places, Slot, key_of, places_of};
 use cp_skel::{Event, Skeleton, Strand, StrandShape, occurs};
@@ -126,22 +126,22 @@ fn share_of(
 }
 
 /// The share of the problem's places, plus the square of the share of each strand's places.
-fn sharing(alloc: Global, heard: &[Event], places: &Places) -> Result<usize, AllocError>
+fn bucket_key(alloc: Global, heard: &[Event], places: &Places) -> Result<usize, AllocError>
     ensures { IfOk result (λ n. n ≡ squares_from (share_from 0 (map event_view heard.now) (slots_in places.now) places.now.values.items) (map event_view heard.now) (slots_in places.now) (lists_of places.now.strands.items)) }
 {
-    let mut sharing = share_of(alloc, heard, places, &places.values)?;
+    let mut bucket_key = share_of(alloc, heard, places, &places.values)?;
     for slots in &places.strands {
         let share = share_of(alloc, heard, places, slots)?;
-        sharing = sharing.saturating_add(share.saturating_mul(share));
+        bucket_key = bucket_key.saturating_add(share.saturating_mul(share));
     }
-    Ok(sharing)
+    Ok(bucket_key)
 }
 
 /// The number for how the role strands of a skeleton share values, and on which strands.
-pub(crate) fn sharing_of(alloc: Global, k: &Skeleton) -> Result<usize, AllocError>
-    ensures { IfOk result (λ n. n ≡ sharing_of (skeleton_view k.now)) }
+pub(crate) fn bucket_key_of(alloc: Global, k: &Skeleton) -> Result<usize, AllocError>
+    ensures { IfOk result (λ n. n ≡ bucket_key_of (skeleton_view k.now)) }
 {
     let heard = listened(alloc, k.strands())?;
     let places = places_of(alloc, k)?;
-    sharing(alloc, &heard, &places)
+    bucket_key(alloc, &heard, &places)
 }

@@ -2,7 +2,7 @@
 ghost use Rattle.std.specs.Prelude.{◌≡◌, ◌↔◌, map, IsTrue, IfOk};
 ghost use Rattle.cp_strand.specs.View.{instance_view, strand_view};
 ghost use Rattle.cp_skel.specs.View.{skeleton_view};
-ghost use Rattle.cp_fingerprint.specs.Slots.{key_of};
+ghost use Rattle.cp_fingerprint.specs.Slots.{slot_key};
 ghost use Rattle.cp_fingerprint.specs.SharedValues.{text_number, place_weight, value_slots, strand_slots, lists_of};
 
 use cp_skel::{Instance, Skeleton, Strand, StrandShape, occurs, prefix_of, value_of_variable};
@@ -21,7 +21,7 @@ pub struct Slot {
 
 impl Model for Slot {
     ghost use Rattle.std.specs.Prelude.{◌≡◌};
-    ghost use Rattle.cp_fingerprint.specs.Slots.{Slot as Plain, coded_slot, key_of};
+    ghost use Rattle.cp_fingerprint.specs.Slots.{Slot as Plain, coded_slot, slot_key};
 
     ghost Value = { Plain };
 
@@ -29,12 +29,12 @@ impl Model for Slot {
 
     ghost view = { λ s. record { weight = s.weight; value = s.value } };
 
-    ghost invariant = { λ s. s.key ≡ key_of s.value };
+    ghost invariant = { λ s. s.key ≡ slot_key s.value };
 }
 
 /// The number of a variable, or of the first variable of another atom; 0 for any other value.
 pub fn key_of(value: &Term) -> usize
-    ensures { result ≡ key_of value.now }
+    ensures { result ≡ slot_key value.now }
 {
     match value.shape() {
         Shape::Variable(id, _) => id.number(),
@@ -73,7 +73,7 @@ impl Slot {
 
     /// Whether this value stands at the place. `key` must be the value's key.
     pub fn has(&self, key: usize, value: &Term) -> bool
-        ensures { key ≡ key_of value.now → (IsTrue result ↔ (self.now.value ≡ value.now)) }
+        ensures { key ≡ slot_key value.now → (IsTrue result ↔ (self.now.value ≡ value.now)) }
     {
         self.key == key && self.value.same(value)
     }

@@ -11,7 +11,7 @@ use Rattle.cp_model.specs.Derivable.{IsSecret, IsOnInstance, DerivableAt, a_tag,
 use Rattle.cp_model.specs.Given.{listed}
 use Rattle.cp_skel.proofs.EachOnce.{listed-non, listed-penetrator-non, listed-unique}
 use Rattle.cp_normal.specs.Findings.{CarriesNonOriginating, HasTwoOrigins, LosesOrigin, IsAddedPair, AreNormalPairs, ClosesCycle, IsContradictory}
-use Rattle.cp_normal.specs.NormalForms.{IsStray, IsNormal}
+use Rattle.cp_normal.specs.NormalForms.{IsMisplaced, IsNormal}
 use Rattle.cp_normal.proofs.NormalSkeletons.{closes_none}
 use Rattle.cp_roots.specs.Roots.{in_report_order}
 use Rattle.cp_general.specs.Fit.{IsFit}
@@ -91,8 +91,8 @@ module _ (k : Skeleton) (pairs : List OrderPair) (assumed : Assumptions) (from :
     a.1,
   )
 
-  stray : (u : UniqueAt) (x : Node) → IsStray other u x → IsStray k u x
-  stray u x s = record { listed = (alike.unique u).0 s.listed; originates = (was_on_instance x s.originates.0, s.originates.1); elsewhere = s.elsewhere }
+  misplaced : (u : UniqueAt) (x : Node) → IsMisplaced other u x → IsMisplaced k u x
+  misplaced u x s = record { listed = (alike.unique u).0 s.listed; originates = (was_on_instance x s.originates.0, s.originates.1); elsewhere = s.elsewhere }
 
   contradicts : IsNormal k → (ClosesCycle other → ⊥) → IsContradictory other → ⊥
   contradicts n none (inl a) = n.consistent (inl (carries a))
@@ -101,7 +101,7 @@ module _ (k : Skeleton) (pairs : List OrderPair) (assumed : Assumptions) (from :
   contradicts n none (inr (inr (inr c))) = none c
 
   pub normal : IsNormal k → (ClosesCycle other → ⊥) → ((p : OrderPair) → IsAddedPair other p → Before other p.earlier p.later) → IsNormal other
-  normal n none before = record { consistent = contradicts n none; no_stray = λ u x s. n.no_stray u x (stray u x s); ordered = before }
+  normal n none before = record { consistent = contradicts n none; no_misplaced = λ u x s. n.no_misplaced u x (misplaced u x s); ordered = before }
 
 -- ---- one that orders no less, and has no cycle
 

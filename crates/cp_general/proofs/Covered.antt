@@ -17,7 +17,7 @@ use Rattle.cp_model.specs.Order.{IsAtOrAfter}
 use Rattle.cp_model.proofs.SameTests.{node_is, is_node}
 use Rattle.cp_skel.specs.Ordered.{IsOrdered}
 use Rattle.cp_general.specs.Steps.{IsPairOfOrder}
-use Rattle.cp_general.specs.CoveringPairs.{led_to, leading_to, is_below, is_below_one, some_is_below, is_covered}
+use Rattle.cp_general.specs.CoveringPairs.{led_to, predecessors_of, is_earlier_on_strand, is_below_one, some_is_below, is_covered}
 use Rattle.cp_general.proofs.Ways.{along, rises, arrives, departs}
 
 -- ---- nodes that are gathered
@@ -36,10 +36,10 @@ to_led ps q m = into_map (λ (p : OrderPair). p.later) (into_filter (λ (p : Ord
 from_led : (ps : List OrderPair) (x y : Node) → IsIn y (led_to ps x) → IsIn (record { earlier = x; later = y }) ps
 from_led ps x = from_ends (λ p. same_node p.earlier x) (λ p. p.later) (λ y. record { earlier = x; later = y }) (λ q e. ap (λ (n : Node). record { earlier = n; later = q.later }) (sym (node_is q.earlier x e))) ps
 
-to_leading : (ps : List OrderPair) (q : OrderPair) → IsIn q ps → IsIn q.earlier (leading_to ps q.later)
+to_leading : (ps : List OrderPair) (q : OrderPair) → IsIn q ps → IsIn q.earlier (predecessors_of ps q.later)
 to_leading ps q m = into_map (λ (p : OrderPair). p.earlier) (into_filter (λ (p : OrderPair). same_node p.later q.later) ps m (is_node q.later q.later refl))
 
-from_leading : (ps : List OrderPair) (x y : Node) → IsIn x (leading_to ps y) → IsIn (record { earlier = x; later = y }) ps
+from_leading : (ps : List OrderPair) (x y : Node) → IsIn x (predecessors_of ps y) → IsIn (record { earlier = x; later = y }) ps
 from_leading ps x y = from_ends (λ p. same_node p.later y) (λ p. p.earlier) (λ z. record { earlier = z; later = y }) (λ q e. ap (λ (n : Node). record { earlier = q.earlier; later = n }) (sym (node_is q.later y e))) ps x
 
 -- ---- what is below what
@@ -58,15 +58,15 @@ record IsBelowOne (x : Node) (ys : List Node) : Type 0 where
 
 below_one : (x : Node) (ys : List Node) → is_below_one x ys ≡ true → IsBelowOne x ys
 below_one x [] e = absurd (cc)
-below_one x (y ∷ ys) e = elim (or_cases (is_below x y) (is_below_one x ys) e) as (λ _. IsBelowOne x (y ∷ ys)) [
+below_one x (y ∷ ys) e = elim (or_cases (is_earlier_on_strand x y) (is_below_one x ys) e) as (λ _. IsBelowOne x (y ∷ ys)) [
   | inl h ↦ let t = test_says x.strand y.strand x.index y.index h in record { upper = y; listed = here; strand = t.0; index = t.1 }
   | inr h ↦ let r = below_one x ys h in record { upper = r.upper; listed = there r.listed; strand = r.strand; index = r.index }
 ]
 
 one_below : (x y : Node) (ys : List Node) → IsIn y ys → x.strand ≡ y.strand → x.index < y.index → is_below_one x ys ≡ true
 one_below x y [] m s l = elim m [ ]
-one_below x y (z ∷ ys) here s l = or_left (is_below x y) (is_below_one x ys) (says_test x.strand y.strand x.index y.index s l)
-one_below x y (z ∷ ys) (there m) s l = or_right (is_below x z) (is_below_one x ys) (one_below x y ys m s l)
+one_below x y (z ∷ ys) here s l = or_left (is_earlier_on_strand x y) (is_below_one x ys) (says_test x.strand y.strand x.index y.index s l)
+one_below x y (z ∷ ys) (there m) s l = or_right (is_earlier_on_strand x z) (is_below_one x ys) (one_below x y ys m s l)
 
 record IsBelow (xs ys : List Node) : Type 0 where
   lower : Node
@@ -98,9 +98,9 @@ module _ (k : Skeleton) (ordered : IsOrdered k) (pairs : List OrderPair) (each :
 
   -- a node from which a pair leads to the last, or the last
   abbrev LastOr : Node → Type 0
-  LastOr y = IsIn y (leading_to pairs p.later) ⊎ (p.later ≡ y)
+  LastOr y = IsIn y (predecessors_of pairs p.later) ⊎ (p.later ≡ y)
 
-  into : (y : Node) → IsIn y (leading_to pairs p.later) → IsPairOfOrder k (record { earlier = y; later = p.later })
+  into : (y : Node) → IsIn y (predecessors_of pairs p.later) → IsPairOfOrder k (record { earlier = y; later = p.later })
   into y i = (each (record { earlier = y; later = p.later })).0 (from_leading pairs y p.later i)
 
   onto : (x : Node) → IsIn x (led_to pairs p.earlier) → IsPairOfOrder k (record { earlier = p.earlier; later = x })
@@ -125,9 +125,9 @@ module _ (k : Skeleton) (ordered : IsOrdered k) (pairs : List OrderPair) (each :
 
   pub covered_between : is_covered pairs p ≡ true → IsBetween
   covered_between t =
-      let r = some_below (led_to pairs p.earlier ++ (p.earlier ∷ [])) (leading_to pairs p.later ++ (p.later ∷ [])) t in
+      let r = some_below (led_to pairs p.earlier ++ (p.earlier ∷ [])) (predecessors_of pairs p.later ++ (p.later ∷ [])) t in
       found_between r.lower r.below.upper r.below.strand r.below.index (in_pushed (led_to pairs p.earlier) p.earlier r.lower r.listed)
-      (in_pushed (leading_to pairs p.later) p.later r.below.upper r.below.listed)
+      (in_pushed (predecessors_of pairs p.later) p.later r.below.upper r.below.listed)
 
   -- a transmission that is before a reception of another strand is in a pair with it
   listed_pair : (x y : Node) (s t : Term) → term_event_at k.strands x ≡ Some (send s) → term_event_at k.strands y ≡ Some (recv t) → x.strand ≢ y.strand → Before k x y → IsIn (record { earlier = x; later = y }) pairs
@@ -155,7 +155,7 @@ module _ (k : Skeleton) (ordered : IsOrdered k) (pairs : List OrderPair) (each :
 
   record Column (n : Node) : Type 0 where
     node : Node
-    listed : IsIn node (leading_to pairs p.later ++ (p.later ∷ []))
+    listed : IsIn node (predecessors_of pairs p.later ++ (p.later ∷ []))
     up : IsAtOrAfter n node
     strict : (n.index < node.index) ⊎ ((t : Term) × (term_event_at k.strands node ≡ Some (send t)))
 
@@ -165,7 +165,7 @@ module _ (k : Skeleton) (ordered : IsOrdered k) (pairs : List OrderPair) (each :
       of : (n.strand ≡ p.later.strand) ⊎ (n.strand ≢ p.later.strand) → Column n
       of (inl s) =
           let l : n.index < p.later.index = rises k ordered n p.later s b in
-          record { node = p.later; listed = in_last (leading_to pairs p.later) p.later; up = (s, omega (arith, l)); strict = inl l }
+          record { node = p.later; listed = in_last (predecessors_of pairs p.later) p.later; up = (s, omega (arith, l)); strict = inl l }
       of (inr h) =
           let d = departs k ordered n p.later h b in
           let i = listed_pair d.node p.later d.message own.pair.received d.event own.pair.reception (λ e. h (d.holds.0.0 ∙ e)) d.holds.1 in
@@ -193,5 +193,5 @@ module _ (k : Skeleton) (ordered : IsOrdered k) (pairs : List OrderPair) (each :
   between_covered n a b =
       let r = row n a in
       let c = column n b in
-      below_some r.node c.node (led_to pairs p.earlier ++ (p.earlier ∷ [])) (leading_to pairs p.later ++ (p.later ∷ [])) r.listed c.listed (r.up.0 ∙ c.up.0)
+      below_some r.node c.node (led_to pairs p.earlier ++ (p.earlier ∷ [])) (predecessors_of pairs p.later ++ (p.later ∷ [])) r.listed c.listed (r.up.0 ∙ c.up.0)
       (strictly n r c r.strict c.strict (cases_lt r.node.index c.node.index))

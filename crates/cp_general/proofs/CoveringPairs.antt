@@ -5,7 +5,7 @@ use Rattle.cp_model.specs.declared.node.Node.{Node}
 use Rattle.cp_model.specs.declared.node.OrderPair.{OrderPair}
 use Rattle.cp_model.specs.Skeleton.{Skeleton, along_strand_of, along_pair, Before}
 use Rattle.cp_general.specs.Steps.{IsCoveringPair}
-use Rattle.cp_general.specs.Generalisation.{DropsNone}
+use Rattle.cp_general.specs.Generalisation.{WeakensNone}
 use Rattle.cp_general.specs.ProgramSteps.{HasFreePair}
 
 module _ (k : Skeleton) (p : OrderPair) (covering : IsCoveringPair k p) where
@@ -21,5 +21,5 @@ module _ (k : Skeleton) (p : OrderPair) (covering : IsCoveringPair k p) where
   pub covering_is_listed : IsIn p k.pairs
   covering_is_listed = by_way p.earlier p.later (λ _. p.earlier) (λ _. p.later) covering.of_order.ordered
 
-pub no_free_pair : (k : Skeleton) → (HasFreePair k → ⊥) → DropsNone k
+pub no_free_pair : (k : Skeleton) → (HasFreePair k → ⊥) → WeakensNone k
 no_free_pair k none p h drops fit = none (record { pair = p; listed = covering_is_listed k p drops.covering; not_own = drops.not_own; not_added = drops.not_added })

@@ -11,7 +11,7 @@ use Rattle.cp_model.specs.Strand.{send, recv}
 use Rattle.cp_model.specs.Same.{same_node}
 use Rattle.cp_model.specs.declared.node.Node.{Node}
 use Rattle.cp_model.specs.declared.node.OrderPair.{OrderPair}
-use Rattle.cp_model.specs.Order.{LeadsTo}
+use Rattle.cp_model.specs.Order.{ReachesAlong}
 use Rattle.cp_model.specs.OrderTests.{any_pair}
 use Rattle.cp_model.specs.Skeleton.{term_event_at, Skeleton, OrderStep, along_strand_of, along_pair, Before, IsOrderPair}
 use Rattle.cp_model.specs.Derivable.{DerivableAt}
@@ -28,7 +28,7 @@ use Rattle.cp_normal.specs.Findings.{IsAddedPair}
 use Rattle.cp_normal.specs.OwnPairs.{AllLead}
 use Rattle.cp_normal.proofs.NormalSkeletons.{closes_none}
 use Rattle.cp_general.specs.Fit.{IsFit}
-use Rattle.cp_general.specs.Steps.{IsPairOfOrder, IsCoveringPair, IsLowerPair, Drops}
+use Rattle.cp_general.specs.Steps.{IsPairOfOrder, IsCoveringPair, IsLowerPair, Weakens}
 use Rattle.cp_general.specs.ListedPairs.{AreRisingPairs, ListsOrder, is_same_pair, is_other_pair}
 use Rattle.cp_general.specs.ProgramSteps.{NeverDrops, MayDrop, LeavesFitOrder}
 use Rattle.cp_general.proofs.Alike.{assume_the_same, derivable, normal, was_added, fit_alike}
@@ -187,7 +187,7 @@ module _ (k : Skeleton) (sound : IsSound k) (lists : ListsOrder k k.pairs) (p : 
     ordered = still_before keeps;
   }
 
-  less_drops : Keeps → Drops p k less
+  less_drops : Keeps → Weakens p k less
   less_drops keeps = record {
     covering = may.covering;
     not_own = may.not_own;
@@ -245,7 +245,7 @@ module _ (k : Skeleton) (sound : IsSound k) (lists : ListsOrder k k.pairs) (p : 
 
   -- ---- what is not
 
-  module _ (hs : List OrderPair) (drops : Drops p k (ordered_by k hs)) where
+  module _ (hs : List OrderPair) (drops : Weakens p k (ordered_by k hs)) where
     within : (x y : Node) → Before (ordered_by k hs) x y → Before less x y
     within x y b = before_wider (ordered_by k hs) less refl (λ q m. let r = (drops.pairs q).0 m in still q ((lists.each q).1 r.0) r.1) b
 
@@ -258,17 +258,17 @@ module _ (k : Skeleton) (sound : IsSound k) (lists : ListsOrder k k.pairs) (p : 
         (f.realised p.later received may.covering.of_order.pair.reception)
 
   pub never_keeps : (Keeps → ⊥) → NeverDrops p k
-  never_keeps fails h drops f = subst (λ z. Drops p k z → ⊥) (sym drops.same) (λ d. fails (must_keep h.pairs d)) drops
+  never_keeps fails h drops f = subst (λ z. Weakens p k z → ⊥) (sym drops.same) (λ d. fails (must_keep h.pairs d)) drops
 
   pub never_derives : (DerivableAt less p.later received → ⊥) → NeverDrops p k
-  never_derives fails h drops f = subst (λ z. Drops p k z → IsFit z → ⊥) (sym drops.same) (λ d g. fails (must_derive h.pairs d g)) drops f
+  never_derives fails h drops f = subst (λ z. Weakens p k z → IsFit z → ⊥) (sym drops.same) (λ d g. fails (must_derive h.pairs d g)) drops f
 
   -- the same of a list that is the pairs that are kept, and of a skeleton that is what is left
   pub keeps_of : (order own : List OrderPair) → order ≡ kept → own ≡ k.from_problem.pairs → AllLead order own → Keeps
-  keeps_of order own o w all q m = subst (λ (ps : List OrderPair). LeadsTo ps q.earlier q.later) o (all q (subst (IsIn q) (sym w) m))
+  keeps_of order own o w all q m = subst (λ (ps : List OrderPair). ReachesAlong ps q.earlier q.later) o (all q (subst (IsIn q) (sym w) m))
 
   pub of_keeps : (order own : List OrderPair) → order ≡ kept → own ≡ k.from_problem.pairs → Keeps → AllLead order own
-  of_keeps order own o w keeps q m = subst (λ (ps : List OrderPair). LeadsTo ps q.earlier q.later) (sym o) (keeps q (subst (IsIn q) w m))
+  of_keeps order own o w keeps q m = subst (λ (ps : List OrderPair). ReachesAlong ps q.earlier q.later) (sym o) (keeps q (subst (IsIn q) w m))
 
   pub sound_of : (order : List OrderPair) → order ≡ kept → Keeps → IsSound (ordered_by k order)
   sound_of order o keeps = subst (λ ps. IsSound (ordered_by k ps)) (sym o) (less_sound keeps)
@@ -290,9 +290,9 @@ module _ (k : Skeleton) (ps : List OrderPair) (each : (q : OrderPair) → IsIn q
   way_back x y (one_step s) = step_back x y s
   way_back x z (more_steps {y = y} s r) = steps_append (step_back x y s) (way_back y z r)
 
-pub fit_before : (k : Skeleton) (p : OrderPair) (h : Skeleton) → ((n : Node) → Before k n n → ⊥) → Drops p k h → IsFit h → IsFit k
+pub fit_before : (k : Skeleton) (p : OrderPair) (h : Skeleton) → ((n : Node) → Before k n n → ⊥) → Weakens p k h → IsFit h → IsFit k
 fit_before k p h no_cycle drops f =
-    subst (λ z. Drops p k z → IsFit z → IsFit k) (sym drops.same)
+    subst (λ z. Weakens p k z → IsFit z → IsFit k) (sym drops.same)
     (λ d g. fit_alike (ordered_by k h.pairs) k refl refl (way_back k h.pairs (λ q m. ((d.pairs q).0 m).0.ordered)) no_cycle g) drops f
 
 -- ---- which pairs may be dropped

@@ -15,7 +15,7 @@ use Rattle.cp_model.proofs.LawTerms.{term_unchanged}
 use Rattle.cp_model.proofs.LawEmbeddings.{same_map, same_homomorphism}
 use Rattle.cp_skel.specs.Ordered.{IsOrdered, ordered_by, DiffersInOrder}
 use Rattle.cp_skel.proofs.CarriedHomomorphisms.{reordered_stays_skeleton}
-use Rattle.cp_general.specs.Steps.{Drops}
+use Rattle.cp_general.specs.Steps.{Weakens}
 
 -- Other pairs, each of which is in the order.
 module _ (k : Skeleton) (pairs : List OrderPair) (all : (q : OrderPair) → IsIn q pairs → Before k q.earlier q.later) where
@@ -46,7 +46,7 @@ module _ (k : Skeleton) (pairs : List OrderPair) (all : (q : OrderPair) → IsIn
         },
       )
 
-module _ (p : OrderPair) (k h : Skeleton) (drop : Drops p k h) where
+module _ (p : OrderPair) (k h : Skeleton) (drop : Weakens p k h) where
   pub kept_in_order : (q : OrderPair) → IsIn q h.pairs → Before k q.earlier q.later
   kept_in_order q i = ((drop.pairs q).0 i).0.ordered
 

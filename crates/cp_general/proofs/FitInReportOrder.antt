@@ -14,10 +14,10 @@ use Rattle.cp_model.specs.Realisation.{OriginatesAtTerm, AllDerivable}
 use Rattle.cp_model.proofs.LawOrder.{before_wider}
 use Rattle.cp_model.proofs.LawTerms.{term_unchanged}
 use Rattle.cp_model.proofs.LawEmbeddings.{same_map, same_homomorphism}
-use Rattle.cp_completeness.specs.Normal.{IsOriginPair, with_pairs}
+use Rattle.cp_theory.specs.Normal.{IsOriginPair, with_pairs}
 use Rattle.cp_skel.proofs.EachOnce.{listed-non, listed-penetrator-non, listed-unique}
 use Rattle.cp_normal.specs.Findings.{IsAddedPair, AreNormalPairs, ClosesCycle, IsContradictory}
-use Rattle.cp_normal.specs.NormalForms.{IsStray, IsNormal}
+use Rattle.cp_normal.specs.NormalForms.{IsMisplaced, IsNormal}
 use Rattle.cp_roots.specs.Roots.{in_report_order}
 use Rattle.cp_general.specs.Fit.{IsFit}
 
@@ -94,13 +94,13 @@ module _ (k : Skeleton) where
   was_contradictory (inr (inr (inl l))) = inr (inr (inl (record { entry = l.entry; listed = was_unique l.entry l.listed; lost = λ o. l.lost (still_originating l.entry.value l.entry.origin o) })))
   was_contradictory (inr (inr (inr c))) = inr (inr (inr (cycle_was c)))
 
-  was_stray : (u : UniqueAt) (x : Node) → IsStray (in_report_order k) u x → IsStray k u x
-  was_stray u x s = record { listed = was_unique u s.listed; originates = was_originating u.value x s.originates; elsewhere = s.elsewhere }
+  was_misplaced : (u : UniqueAt) (x : Node) → IsMisplaced (in_report_order k) u x → IsMisplaced k u x
+  was_misplaced u x s = record { listed = was_unique u s.listed; originates = was_originating u.value x s.originates; elsewhere = s.elsewhere }
 
   normal_listed : IsNormal k → IsNormal (in_report_order k)
   normal_listed n = record {
     consistent = λ c. n.consistent (was_contradictory c);
-    no_stray = λ u x s. n.no_stray u x (was_stray u x s);
+    no_misplaced = λ u x s. n.no_misplaced u x (was_misplaced u x s);
     ordered = λ p a. still_before (n.ordered p (was_added p a));
   }
 

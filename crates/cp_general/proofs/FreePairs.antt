@@ -8,7 +8,7 @@ use Rattle.cp_model.specs.Skeleton.{Skeleton}
 use Rattle.cp_collapse.specs.Property.{Has}
 use Rattle.cp_collapse.proofs.ItemsWithProperty.{found, next}
 use Rattle.cp_normal.specs.Findings.{IsAddedPair}
-use Rattle.cp_general.specs.Generalisation.{DropsNone}
+use Rattle.cp_general.specs.Generalisation.{WeakensNone}
 use Rattle.cp_general.specs.ListedPairs.{IsInNeither, is_same_pair}
 use Rattle.cp_general.specs.ProgramSteps.{HasFreePair}
 use Rattle.cp_general.proofs.CoveringPairs.{no_free_pair}
@@ -55,5 +55,5 @@ free_pair_if k own added pairs b same are all h = (
   λ f. h.1 (f.pair, subst (IsIn f.pair) (sym all) f.listed, (λ m. f.not_own (subst (IsIn f.pair) same m), λ m. f.not_added ((are f.pair).0 m))),
 )
 
-pub none_free : (k : Skeleton) (b : Bool) → (b ≡ true) ↔ HasFreePair k → b ≡ false → DropsNone k
+pub none_free : (k : Skeleton) (b : Bool) → (b ≡ true) ↔ HasFreePair k → b ≡ false → WeakensNone k
 none_free k b h f = no_free_pair k (λ free. not_both f (h.1 free))

@@ -7,7 +7,7 @@ use Rattle.cp_model.specs.Strand.{Role}
 use Rattle.cp_model.specs.Skeleton.{SkeletonStrand, instance, listener, UniqueAt}
 use Rattle.cp_model.specs.Given.{applying, applying_uniques, given_non, given_penetrator_non, given_uniques}
 use Rattle.cp_model.proofs.Gathered.{atoms, uniques, onto-takes}
-use Rattle.cp_skel.specs.Given.{IsGivenFrom, IsOriginFrom}
+use Rattle.cp_model.specs.GivenAssumptions.{IsGivenFrom, IsOriginFrom}
 use Rattle.cp_skel.proofs.GivenParts.{atoms-given, uniques-given}
 
 -- One of the strands is an instance that gives something.

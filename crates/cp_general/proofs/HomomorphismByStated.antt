@@ -13,8 +13,8 @@ use Rattle.cp_model.specs.Stated.{KeepsStated}
 use Rattle.cp_model.proofs.LawAgreement.{agree_atom}
 use Rattle.cp_model.proofs.LawPrefixes.{variables_of_higher}
 use Rattle.cp_model.proofs.LawTerms.{atom_composed}
-use Rattle.cp_skel.specs.Given.{IsGivenFrom, IsOriginFrom}
-use Rattle.cp_skel.proofs.UnderVariables.{applies_at}
+use Rattle.cp_model.specs.GivenAssumptions.{IsGivenFrom, IsOriginFrom}
+use Rattle.cp_model.proofs.UnderVariables.{applies_at}
 use Rattle.cp_general.proofs.GivenByStrands.{IsGivenByOne, GivesAtom, non_given_by, penetrator_non_given_by, unique_given_by}
 
 -- ---- where instances go, what they give goes too

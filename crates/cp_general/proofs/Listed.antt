@@ -9,21 +9,21 @@ use Rattle.cp_model.specs.Term.{Term}
 use Rattle.cp_model.specs.Strand.{Event, send, recv}
 use Rattle.cp_model.specs.declared.node.Node.{Node}
 use Rattle.cp_model.specs.declared.node.OrderPair.{OrderPair}
-use Rattle.cp_model.specs.Order.{LeadsTo}
-use Rattle.cp_model.specs.OrderTests.{reaches}
+use Rattle.cp_model.specs.Order.{ReachesAlong}
+use Rattle.cp_model.specs.OrderTests.{reaches_within}
 use Rattle.cp_model.specs.Skeleton.{term_event_at, Skeleton, Before}
 use Rattle.cp_model.proofs.LawOrder.{before_leads, leads_before}
 use Rattle.cp_model.proofs.BoundedSearch.{bounded_search}
 use Rattle.cp_strand.specs.View.{event_view}
-use Rattle.cp_skel.specs.Events.{occurrence_view, events_of}
-use Rattle.cp_skel.specs.declared.events.Occurrence.{Occurrence}
+use Rattle.cp_skel.specs.Events.{located_event_view, events_of}
+use Rattle.cp_skel.specs.declared.events.LocatedEvent.{LocatedEvent}
 use Rattle.cp_skel.specs.Ordered.{IsOrdered}
-use Rattle.cp_skel.proofs.EventLists.{listed_event, occurrence_at, listed_at}
+use Rattle.cp_skel.proofs.EventLists.{listed_event, located_event_at, listed_at}
 use Rattle.cp_derive.specs.Unrealised.{IsListedBefore, AreRising}
 use Rattle.cp_derive.proofs.PickedReceptions.{node_of, all_rise}
 use Rattle.cp_general.specs.declared.pairs.Reception.{Reception}
 use Rattle.cp_general.specs.Steps.{IsPairOfOrder, IsLowerPair}
-use Rattle.cp_general.specs.ListedPairs.{AreRisingPairs, ListsOrder, is_transmission, is_reception, nodes_where, gathered, leads_across, pairs_from, pairs_between}
+use Rattle.cp_general.specs.ListedPairs.{AreRisingPairs, ListsOrder, is_transmission, is_reception, nodes_where, gathered, leads_across, pairs_to_receptions, pairs_between}
 
 -- ---- nodes of events
 
@@ -33,28 +33,28 @@ of_if true z y ys (there m) = inr m
 of_if false z y ys m = inr m
 
 module _ (test : Event Term → Bool) where
-  in_nodes : (os : List Occurrence) (o : Occurrence) → IsIn o os → test (event_view o.event) ≡ true → IsIn o.node (nodes_where test os)
+  in_nodes : (os : List LocatedEvent) (o : LocatedEvent) → IsIn o os → test (event_view o.event) ≡ true → IsIn o.node (nodes_where test os)
   in_nodes [] o m e = elim m [ ]
   in_nodes (x ∷ os) o here e = in_if_here (test (event_view o.event)) o.node (nodes_where test os) e
   in_nodes (x ∷ os) o (there m) e = in_if_behind (test (event_view x.event)) x.node o.node (nodes_where test os) (in_nodes os o m e)
 
-  record IsNodeWhere (os : List Occurrence) (n : Node) : Type 0 where
-    occurrence : Occurrence
+  record IsNodeWhere (os : List LocatedEvent) (n : Node) : Type 0 where
+    occurrence : LocatedEvent
     listed : IsIn occurrence os
     passes : test (event_view occurrence.event) ≡ true
     same : occurrence.node ≡ n
 
-  of_nodes : (os : List Occurrence) (n : Node) → IsIn n (nodes_where test os) → IsNodeWhere os n
+  of_nodes : (os : List LocatedEvent) (n : Node) → IsIn n (nodes_where test os) → IsNodeWhere os n
   of_nodes [] n m = elim m [ ]
   of_nodes (o ∷ os) n m = elim (of_if (test (event_view o.event)) o.node n (nodes_where test os) m) as (λ _. IsNodeWhere (o ∷ os) n) [
     | inl h ↦ record { occurrence = o; listed = here; passes = h.0; same = h.1 }
     | inr i ↦ let r = of_nodes os n i in record { occurrence = r.occurrence; listed = there r.listed; passes = r.passes; same = r.same }
   ]
 
-  among_all : (os : List Occurrence) (n : Node) → IsIn n (nodes_where test os) → IsIn n (map node_of (map occurrence_view os))
+  among_all : (os : List LocatedEvent) (n : Node) → IsIn n (nodes_where test os) → IsIn n (map node_of (map located_event_view os))
   among_all [] n m = elim m [ ]
-  among_all (o ∷ os) n m = elim (of_if (test (event_view o.event)) o.node n (nodes_where test os) m) as (λ _. IsIn n (map node_of (map occurrence_view (o ∷ os)))) [
-    | inl h ↦ subst (λ (x : Node). IsIn x (map node_of (map occurrence_view (o ∷ os)))) h.1 here
+  among_all (o ∷ os) n m = elim (of_if (test (event_view o.event)) o.node n (nodes_where test os) m) as (λ _. IsIn n (map node_of (map located_event_view (o ∷ os)))) [
+    | inl h ↦ subst (λ (x : Node). IsIn x (map node_of (map located_event_view (o ∷ os)))) h.1 here
     | inr i ↦ there (among_all os n i)
   ]
 
@@ -62,7 +62,7 @@ module _ (test : Event Term → Bool) where
   rise_if true x ns f r = (f, r)
   rise_if false x ns f r = r
 
-  nodes_rise : (os : List Occurrence) → AreRising (map node_of (map occurrence_view os)) → AreRising (nodes_where test os)
+  nodes_rise : (os : List LocatedEvent) → AreRising (map node_of (map located_event_view os)) → AreRising (nodes_where test os)
   nodes_rise [] r = tt
   nodes_rise (o ∷ os) r = rise_if (test (event_view o.event)) o.node (nodes_where test os) (λ n i. r.0 n (among_all os n i)) (nodes_rise os r.1)
 
@@ -82,19 +82,19 @@ module _ (order : List OrderPair) where
   abbrev all_to : List Node → List Reception
   all_to = map to
 
-  in_from : (x y : Node) (ys : List Node) → IsIn y ys → leads_across x (to y) ≡ true → IsIn (record { earlier = x; later = y }) (pairs_from x (all_to ys))
+  in_from : (x y : Node) (ys : List Node) → IsIn y ys → leads_across x (to y) ≡ true → IsIn (record { earlier = x; later = y }) (pairs_to_receptions x (all_to ys))
   in_from x y [] m e = elim m [ ]
-  in_from x y (z ∷ ys) here e = in_if_here (leads_across x (to y)) (record { earlier = x; later = y }) (pairs_from x (all_to ys)) e
-  in_from x y (z ∷ ys) (there m) e = in_if_behind (leads_across x (to z)) (record { earlier = x; later = z }) (record { earlier = x; later = y }) (pairs_from x (all_to ys)) (in_from x y ys m e)
+  in_from x y (z ∷ ys) here e = in_if_here (leads_across x (to y)) (record { earlier = x; later = y }) (pairs_to_receptions x (all_to ys)) e
+  in_from x y (z ∷ ys) (there m) e = in_if_behind (leads_across x (to z)) (record { earlier = x; later = z }) (record { earlier = x; later = y }) (pairs_to_receptions x (all_to ys)) (in_from x y ys m e)
 
   record IsFrom (x : Node) (ys : List Node) (q : OrderPair) : Type 0 where
     first : x ≡ q.earlier
     listed : IsIn q.later ys
     leads : leads_across x (to q.later) ≡ true
 
-  of_from : (x : Node) (ys : List Node) (q : OrderPair) → IsIn q (pairs_from x (all_to ys)) → IsFrom x ys q
+  of_from : (x : Node) (ys : List Node) (q : OrderPair) → IsIn q (pairs_to_receptions x (all_to ys)) → IsFrom x ys q
   of_from x [] q m = elim m [ ]
-  of_from x (y ∷ ys) q m = elim (of_if (leads_across x (to y)) (record { earlier = x; later = y }) q (pairs_from x (all_to ys)) m) as (λ _. IsFrom x (y ∷ ys) q) [
+  of_from x (y ∷ ys) q m = elim (of_if (leads_across x (to y)) (record { earlier = x; later = y }) q (pairs_to_receptions x (all_to ys)) m) as (λ _. IsFrom x (y ∷ ys) q) [
     | inl h ↦
         subst (λ (z : OrderPair). IsFrom x (y ∷ ys) z) h.1 (record { first = refl; listed = here; leads = h.0 })
     | inr i ↦ let r = of_from x ys q i in record { first = r.first; listed = there r.listed; leads = r.leads }
@@ -104,16 +104,16 @@ module _ (order : List OrderPair) where
   rise_if_from true p ps f r = (f, r)
   rise_if_from false p ps f r = r
 
-  from_rises : (x : Node) (ys : List Node) → AreRising ys → AreRisingPairs (pairs_from x (all_to ys))
+  from_rises : (x : Node) (ys : List Node) → AreRising ys → AreRisingPairs (pairs_to_receptions x (all_to ys))
   from_rises x [] r = tt
   from_rises x (y ∷ ys) r =
-      rise_if_from (leads_across x (to y)) (record { earlier = x; later = y }) (pairs_from x (all_to ys))
+      rise_if_from (leads_across x (to y)) (record { earlier = x; later = y }) (pairs_to_receptions x (all_to ys))
       (λ q i. let f = of_from x ys q i in inr (f.first, r.0 q.later f.listed)) (from_rises x ys r.1)
 
   in_between : (x y : Node) (xs ys : List Node) → IsIn x xs → IsIn y ys → leads_across x (to y) ≡ true → IsIn (record { earlier = x; later = y }) (pairs_between xs (all_to ys))
   in_between x y [] ys m n e = elim m [ ]
   in_between x y (z ∷ xs) ys here n e = in_append_left (pairs_between xs (all_to ys)) (in_from x y ys n e)
-  in_between x y (z ∷ xs) ys (there m) n e = in_append_right (pairs_from z (all_to ys)) (in_between x y xs ys m n e)
+  in_between x y (z ∷ xs) ys (there m) n e = in_append_right (pairs_to_receptions z (all_to ys)) (in_between x y xs ys m n e)
 
   record IsBetweenThese (xs ys : List Node) (q : OrderPair) : Type 0 where
     first : IsIn q.earlier xs
@@ -122,7 +122,7 @@ module _ (order : List OrderPair) where
 
   of_between : (xs ys : List Node) (q : OrderPair) → IsIn q (pairs_between xs (all_to ys)) → IsBetweenThese xs ys q
   of_between [] ys q m = elim m [ ]
-  of_between (x ∷ xs) ys q m = elim (in_append (pairs_from x (all_to ys)) (pairs_between xs (all_to ys)) m) as (λ _. IsBetweenThese (x ∷ xs) ys q) [
+  of_between (x ∷ xs) ys q m = elim (in_append (pairs_to_receptions x (all_to ys)) (pairs_between xs (all_to ys)) m) as (λ _. IsBetweenThese (x ∷ xs) ys q) [
     | inl i ↦
         let f = of_from x ys q i in
         record {
@@ -136,29 +136,29 @@ module _ (order : List OrderPair) where
   between_rises : (xs ys : List Node) → AreRising xs → AreRising ys → AreRisingPairs (pairs_between xs (all_to ys))
   between_rises [] ys r s = tt
   between_rises (x ∷ xs) ys r s =
-      rise_both (pairs_from x (all_to ys)) (pairs_between xs (all_to ys)) (from_rises x ys s) (between_rises xs ys r.1 s)
+      rise_both (pairs_to_receptions x (all_to ys)) (pairs_between xs (all_to ys)) (from_rises x ys s) (between_rises xs ys r.1 s)
       (λ p q i j.
       let f : x ≡ p.earlier = (of_from x ys p i).first in
       inl (subst (λ (z : Node). IsListedBefore z q.earlier) f (r.0 q.earlier (of_between xs ys q j).first)))
 
 -- what the test says
-across_says : (x : Node) (y : Reception) → leads_across x y ≡ true → (x.strand ≢ y.node.strand) × LeadsTo y.leading.pairs x y.leading.node
+across_says : (x : Node) (y : Reception) → leads_across x y ≡ true → (x.strand ≢ y.node.strand) × ReachesAlong y.leading.pairs x y.leading.node
 across_says x y e =
-    let both = and_parts (not (x.strand == y.node.strand)) (reaches (length y.leading.pairs) y.leading.pairs x y.leading.node) e in
+    let both = and_parts (not (x.strand == y.node.strand)) (reaches_within (length y.leading.pairs) y.leading.pairs x y.leading.node) e in
     (apart x.strand y.node.strand both.0, (bounded_search (length y.leading.pairs) y.leading.pairs x y.leading.node refl).0 both.1)
   where
     apart : (s t : ℕ) → not (s == t) ≡ true → s ≢ t
     apart s t h same = grind (arith, nat_tests)
 
-says_across : (x : Node) (y : Reception) → x.strand ≢ y.node.strand → LeadsTo y.leading.pairs x y.leading.node → leads_across x y ≡ true
+says_across : (x : Node) (y : Reception) → x.strand ≢ y.node.strand → ReachesAlong y.leading.pairs x y.leading.node → leads_across x y ≡ true
 says_across x y h l =
-    and_from (not (x.strand == y.node.strand)) (reaches (length y.leading.pairs) y.leading.pairs x y.leading.node) (apart x.strand y.node.strand h)
+    and_from (not (x.strand == y.node.strand)) (reaches_within (length y.leading.pairs) y.leading.pairs x y.leading.node) (apart x.strand y.node.strand h)
     ((bounded_search (length y.leading.pairs) y.leading.pairs x y.leading.node refl).1 l)
   where
     apart : (s t : ℕ) → s ≢ t → not (s == t) ≡ true
     apart s t ne = grind (arith, nat_tests)
 
-pub leads_as_test : (x : Node) (y : Reception) (leads : Bool) → x.strand ≢ y.node.strand → (leads ≡ true) ↔ LeadsTo y.leading.pairs x y.leading.node → leads ≡ leads_across x y
+pub leads_as_test : (x : Node) (y : Reception) (leads : Bool) → x.strand ≢ y.node.strand → (leads ≡ true) ↔ ReachesAlong y.leading.pairs x y.leading.node → leads ≡ leads_across x y
 leads_as_test x y leads h l = same_from_decides leads (leads_across x y) l (λ e. (across_says x y e).1, says_across x y h)
 
 -- ---- all pairs of the order
@@ -171,7 +171,7 @@ received_is : (e : Event Term) → is_reception e ≡ true → (t : Term) × (e 
 received_is (recv t) h = (t, refl)
 received_is (send t) h = absurd (cc)
 
-module _ (k : Skeleton) (ordered : IsOrdered k) (os : List Occurrence) (all : map occurrence_view os ≡ events_of k) where
+module _ (k : Skeleton) (ordered : IsOrdered k) (os : List LocatedEvent) (all : map located_event_view os ≡ events_of k) where
   abbrev sent : List Node
   sent = nodes_where is_transmission os
 
@@ -181,8 +181,8 @@ module _ (k : Skeleton) (ordered : IsOrdered k) (os : List Occurrence) (all : ma
   abbrev listed : List OrderPair
   listed = pairs_between sent (map (gathered k.pairs) received)
 
-  event_of : (o : Occurrence) → IsIn o os → term_event_at k.strands o.node ≡ Some (event_view o.event)
-  event_of o i = listed_event k (occurrence_view o) (subst (IsIn (occurrence_view o)) all (into_map occurrence_view i))
+  event_of : (o : LocatedEvent) → IsIn o os → term_event_at k.strands o.node ≡ Some (event_view o.event)
+  event_of o i = listed_event k (located_event_view o) (subst (IsIn (located_event_view o)) all (into_map located_event_view i))
 
   node_sent : (n : Node) → IsIn n sent → (t : Term) × (term_event_at k.strands n ≡ Some (send t))
   node_sent n i =
@@ -198,7 +198,7 @@ module _ (k : Skeleton) (ordered : IsOrdered k) (os : List Occurrence) (all : ma
 
   found : (test : Event Term → Bool) (n : Node) (e : Event Term) → term_event_at k.strands n ≡ Some e → test e ≡ true → IsIn n (nodes_where test os)
   found test n e at h =
-      let r = from_map occurrence_view os (subst (IsIn (occurrence_at k n e)) (sym all) (listed_at k n e at)) in
+      let r = from_map located_event_view os (subst (IsIn (located_event_at k n e)) (sym all) (listed_at k n e at)) in
       let there_is : event_view r.0.event ≡ e = ap (λ o. o.event) r.2 in
       subst (λ (z : Node). IsIn z (nodes_where test os)) (ap (λ o. o.node) r.2) (in_nodes test os r.0 r.1 (ap test there_is ∙ h))
 
@@ -223,7 +223,7 @@ module _ (k : Skeleton) (ordered : IsOrdered k) (os : List Occurrence) (all : ma
       (found is_reception q.later (recv h.pair.received) h.pair.reception refl)
       (says_across q.earlier (gathered k.pairs q.later) h.pair.between_strands (before_leads k q.earlier q.later h.ordered))
 
-  events_rise : AreRising (map node_of (map occurrence_view os))
+  events_rise : AreRising (map node_of (map located_event_view os))
   events_rise = subst (λ es. AreRising (map node_of es)) (sym all) (all_rise 0 k.strands)
 
   pub lists_order : ListsOrder k listed
@@ -233,7 +233,7 @@ module _ (k : Skeleton) (ordered : IsOrdered k) (os : List Occurrence) (all : ma
   }
 
 -- The same of what the program gathers.
-pub lists_gathered : (k : Skeleton) (ordered : IsOrdered k) (os : List Occurrence) → map occurrence_view os ≡ events_of k → (order pairs : List OrderPair) (froms : List Node) (tos : List Reception) → order ≡ k.pairs
+pub lists_gathered : (k : Skeleton) (ordered : IsOrdered k) (os : List LocatedEvent) → map located_event_view os ≡ events_of k → (order pairs : List OrderPair) (froms : List Node) (tos : List Reception) → order ≡ k.pairs
     → froms ≡ nodes_where is_transmission os → tos ≡ map (gathered order) (nodes_where is_reception os) → pairs ≡ pairs_between froms tos → ListsOrder k pairs
 lists_gathered k ordered os all order pairs froms tos o f t p =
     let all_received : tos ≡ map (gathered k.pairs) (nodes_where is_reception os) = t ∙ (λ i. map (gathered (o i)) (nodes_where is_reception os)) in

@@ -12,14 +12,14 @@ use Rattle.cp_model.specs.Skeleton.{SkeletonStrand, instance, term_event_at, Ord
 use Rattle.cp_model.specs.Derivable.{DerivableAt, an_atom}
 use Rattle.cp_model.specs.Realisation.{AllDerivable}
 use Rattle.cp_model.proofs.StrandParts.{same_instance}
-use Rattle.cp_completeness.specs.Normal.{with_pairs}
+use Rattle.cp_theory.specs.Normal.{with_pairs}
 use Rattle.cp_skel.specs.Deletion.{renumbered, node_renumbered, all_left}
 use Rattle.cp_derive.specs.Unrealised.{IsListedBefore}
 use Rattle.cp_normal.specs.Findings.{ClosesCycle}
 use Rattle.cp_normal.specs.NormalForms.{IsNormal}
 use Rattle.cp_general.specs.Fit.{IsFit}
-use Rattle.cp_general.specs.Steps.{Deletes, IsPairOfOrder, IsCoveringPair, Drops, IsLowerPair}
-use Rattle.cp_general.specs.Generalisation.{DeletesNone, IsMostGeneral, StepsTo, deletes, drops, GeneralisesTo, last_step, next_step}
+use Rattle.cp_general.specs.Steps.{Deletes, IsPairOfOrder, IsCoveringPair, Weakens, IsLowerPair}
+use Rattle.cp_general.specs.Generalisation.{DeletesNone, IsMaximallyGeneral, StepsTo, deletes, drops, GeneralisesTo, last_step, next_step}
 use Rattle.cp_general.specs.Example.{text, sender, protocol, sending, sent_by, heard_with, sent_twice, sent_once, heard_and_sent}
 
 -- ---- orders that fall
@@ -60,7 +60,7 @@ module _ (others : List SkeletonStrand) (pairs : List OrderPair) (each : (p : Or
   is_normal : IsNormal here_with
   is_normal = record {
     consistent = λ c. ⊎_elim (λ a. not_in_none a.listed) (λ r. ⊎_elim (λ a. not_in_none a.first_listed) (λ q. ⊎_elim (λ a. not_in_none a.listed) no_cycle_closed q) r) c;
-    no_stray = λ u x s. not_in_none s.listed;
+    no_misplaced = λ u x s. not_in_none s.listed;
     ordered = λ p a. absurd (not_in_none a.0.listed);
   }
 
@@ -208,7 +208,7 @@ covering = record {
   none_between = none_between;
 }
 
-dropped : Drops (sent_by 1) sent_once heard_and_sent
+dropped : Weakens (sent_by 1) sent_once heard_and_sent
 dropped = record {
   covering = covering;
   not_own = not_in_none;
@@ -238,7 +238,7 @@ keeps_strand : {x y : Node} → Before heard_and_sent x y → x.strand ≡ y.str
 keeps_strand (one_step s) = step_keeps s
 keeps_strand (more_steps s rest) = step_keeps s ∙ keeps_strand rest
 
-most_general : IsMostGeneral heard_and_sent
+most_general : IsMaximallyGeneral heard_and_sent
 most_general = record {
   deletes_none = deletes_none [];
   drops_none = λ p h without f. without.covering.of_order.pair.between_strands (keeps_strand without.covering.of_order.ordered);

@@ -9,13 +9,13 @@ use Rattle.cp_model.specs.Stated.{KeepsStated}
 use Rattle.cp_model.specs.Realisation.{KeepsAssumptions}
 use Rattle.cp_model.specs.Standing.{IsRealised}
 use Rattle.cp_model.proofs.LawEmbeddings.{embeds_then}
-use Rattle.cp_soundness.proofs.Realised.{realised}
+use Rattle.cp_theory.proofs.Realised.{realised}
 use Rattle.cp_normal.proofs.FormSkeletons.{normal_keeps_assumptions}
 use Rattle.cp_roots.specs.Roots.{in_report_order}
 use Rattle.cp_roots.proofs.InReportOrder.{skeleton_listed, carries_listed, stated_listed, declared_listed}
 use Rattle.cp_general.specs.Fit.{IsFit}
-use Rattle.cp_general.specs.Steps.{Deletes, Drops}
-use Rattle.cp_general.specs.Generalisation.{IsMostGeneral, StepsTo, deletes, drops, GeneralisesTo, last_step, next_step}
+use Rattle.cp_general.specs.Steps.{Deletes, Weakens}
+use Rattle.cp_general.specs.Generalisation.{IsMaximallyGeneral, StepsTo, deletes, drops, GeneralisesTo, last_step, next_step}
 use Rattle.cp_general.proofs.DeletedStrands.{deleted_is_skeleton, deleted_embeds, deleted_declared}
 use Rattle.cp_general.proofs.DroppedPairs.{dropped_is_skeleton, dropped_embeds, dropped_declared}
 use Rattle.cp_general.proofs.FitInReportOrder.{fit_listed, listed_embeds}
@@ -32,7 +32,7 @@ pub is_fit : {k g : Skeleton} → GeneralisesTo k g → IsFit g
 is_fit (last_step s most) = step_is_fit s
 is_fit (next_step s rest) = is_fit rest
 
-pub is_most_general : {k g : Skeleton} → GeneralisesTo k g → IsMostGeneral g
+pub is_most_general : {k g : Skeleton} → GeneralisesTo k g → IsMaximallyGeneral g
 is_most_general (last_step s most) = most
 is_most_general (next_step s rest) = is_most_general rest
 
@@ -48,7 +48,7 @@ embeds_back {k} {g} (next_step {h = h} s rest) = embeds_then g h k (embeds_back 
 
 -- ---- what a step keeps: what is kept when a strand is deleted, when a pair is dropped, and when assumptions are listed in order
 
-module _ (P : Skeleton → Type 0) (in_order : (h : Skeleton) → P h → P (in_report_order h)) (deleted : (d : ℕ) (k h : Skeleton) → Deletes d k h → P k → P h) (dropped : (p : OrderPair) (k h : Skeleton) → Drops p k h → P k → P h) where
+module _ (P : Skeleton → Type 0) (in_order : (h : Skeleton) → P h → P (in_report_order h)) (deleted : (d : ℕ) (k h : Skeleton) → Deletes d k h → P k → P h) (dropped : (p : OrderPair) (k h : Skeleton) → Weakens p k h → P k → P h) where
   step_keeps : {k g : Skeleton} → StepsTo k g → P k → P g
   step_keeps {k} (deletes {d = d} {h = h} del fit first) it = in_order h (deleted d k h del it)
   step_keeps {k} (drops {p = p} {h = h} none drop fit first) it = dropped p k h drop it
@@ -95,7 +95,7 @@ module _ (protocol : Protocol) (variables : List Declaration) (problem : Skeleto
     stated = deleted_keeps_stated protocol variables problem k h sp own s.carries s.stated d del;
   }
 
-  dropped_is_sound : (p : OrderPair) (k h : Skeleton) → Drops p k h → IsSoundFrom protocol problem k → IsSoundFrom protocol problem h
+  dropped_is_sound : (p : OrderPair) (k h : Skeleton) → Weakens p k h → IsSoundFrom protocol problem k → IsSoundFrom protocol problem h
   dropped_is_sound p k h drop s = record {
     skeleton = dropped_is_skeleton p k h drop protocol s.skeleton;
     carries = dropped_carries protocol variables problem k h sp own s.carries s.stated p drop s.skeleton;

@@ -19,7 +19,7 @@ use Rattle.cp_model.proofs.LawOrder.{leads_before}
 use Rattle.cp_model.proofs.LawStandings.{strand_of_event, skeleton_climb}
 use Rattle.cp_skel.specs.Ordered.{ordered_by}
 use Rattle.cp_collapse.proofs.Merged.{event_goes}
-use Rattle.cp_general.specs.Steps.{Drops}
+use Rattle.cp_general.specs.Steps.{Weakens}
 use Rattle.cp_general.proofs.DroppedPairs.{dropped_is_skeleton}
 use Rattle.cp_general.proofs.HomomorphismByStated.{homomorphism_by_stated}
 
@@ -52,7 +52,7 @@ module _ (k : Skeleton) (order_pairs : (p : OrderPair) → IsIn p k.pairs → Is
 -- ---- without the pair
 
 module _ (protocol : Protocol) (variables : List Declaration) (problem k h : Skeleton) (sp : IsSkeleton protocol problem) (own : IsPointOfView variables problem) (carries : CarriesHomomorphism problem k)
-    (keeps : KeepsStated problem k) (p : OrderPair) (drop : Drops p k h) where
+    (keeps : KeepsStated problem k) (p : OrderPair) (drop : Weakens p k h) where
   abbrev f : SkeletonMap
   f = map_from_problem k
 

@@ -11,10 +11,10 @@ use Rattle.cp_model.specs.Given.{listed}
 use Rattle.cp_skel.specs.Ordered.{IsOrdered, ordered_by}
 use Rattle.cp_derive.specs.Unrealised.{IsListedBefore}
 use Rattle.cp_general.specs.Fit.{IsFit}
-use Rattle.cp_general.specs.Steps.{IsPairOfOrder, Drops, IsLowerPair}
-use Rattle.cp_general.specs.Generalisation.{DeletesNone, DropsNone, StepsTo, deletes, drops, GeneralisesTo, last_step, next_step}
+use Rattle.cp_general.specs.Steps.{IsPairOfOrder, Weakens, IsLowerPair}
+use Rattle.cp_general.specs.Generalisation.{DeletesNone, WeakensNone, StepsTo, deletes, drops, GeneralisesTo, last_step, next_step}
 use Rattle.cp_general.specs.ListedPairs.{AreRisingPairs, ListsOrder}
-use Rattle.cp_general.specs.ProgramSteps.{NeverDeletes, NeverDrops, LeavesFit, DropsFirst, ComesBySteps, IsOnTheWay}
+use Rattle.cp_general.specs.ProgramSteps.{NeverDeletes, NeverDrops, LeavesFit, WeakensFirst, ComesBySteps, IsReachedByWeakening}
 use Rattle.cp_general.proofs.Alike.{fit_alike}
 use Rattle.cp_general.proofs.Deleted.{deletes_none_still}
 use Rattle.cp_general.proofs.Dropped.{fit_before}
@@ -107,7 +107,7 @@ module _ (k : Skeleton) (ps : List OrderPair) (i : ℕ) (p : OrderPair) (within 
       of (inl n) = n h d f
       of (inr j) = behind (in_cases (subst (IsIn q) left_is j))
 
-pub all_passed : (k : Skeleton) (ps : List OrderPair) (i : ℕ) → length ps ≤ i → ListsOrder k k.pairs → PassedOrLeft k (drop i ps) → DropsNone k
+pub all_passed : (k : Skeleton) (ps : List OrderPair) (i : ℕ) → length ps ≤ i → ListsOrder k k.pairs → PassedOrLeft k (drop i ps) → WeakensNone k
 all_passed k ps i l lists so_far p h d f = of (so_far p ((lists.each p).1 d.covering.of_order))
   where
     of : NeverDrops p k ⊎ IsIn p (drop i ps) → ⊥
@@ -122,7 +122,7 @@ pair_alike k ps back q h = record {
   ordered = back q.earlier q.later h.ordered;
 }
 
-drops_to : (k : Skeleton) (ps : List OrderPair) → ((x y : Node) → Before (ordered_by k ps) x y ↔ Before k x y) → (p : OrderPair) (h : Skeleton) → Drops p (ordered_by k ps) h → Drops p k h
+drops_to : (k : Skeleton) (ps : List OrderPair) → ((x y : Node) → Before (ordered_by k ps) x y ↔ Before k x y) → (p : OrderPair) (h : Skeleton) → Weakens p (ordered_by k ps) h → Weakens p k h
 drops_to k ps before p h d =
     let to : (q : OrderPair) → IsPairOfOrder (ordered_by k ps) q → IsPairOfOrder k q = pair_alike k ps (λ x y. (before x y).0) in
     let from : (q : OrderPair) → IsPairOfOrder k q → IsPairOfOrder (ordered_by k ps) q = pair_alike (ordered_by k ps) k.pairs (λ x y. (before x y).1) in
@@ -136,7 +136,7 @@ drops_to k ps before p h d =
     }
 
 -- the same the other way: the skeleton has its own pairs in place of those
-drops_from : (k : Skeleton) (ps : List OrderPair) → ((x y : Node) → Before (ordered_by k ps) x y ↔ Before k x y) → (p : OrderPair) (h : Skeleton) → Drops p k h → Drops p (ordered_by k ps) h
+drops_from : (k : Skeleton) (ps : List OrderPair) → ((x y : Node) → Before (ordered_by k ps) x y ↔ Before k x y) → (p : OrderPair) (h : Skeleton) → Weakens p k h → Weakens p (ordered_by k ps) h
 drops_from k ps before p h d = drops_to (ordered_by k ps) k.pairs (λ x y. ((before x y).1, (before x y).0)) p h d
 
 -- ---- steps, one after the other
@@ -148,26 +148,26 @@ pub comes_next : (k h g : Skeleton) → ComesBySteps k h → StepsTo h g → Com
 comes_next k h g c s = record { onward = λ x t. c.onward x (next_step s t); ends = λ m. c.onward g (last_step s m) }
 
 -- the first pair is dropped from the skeleton with all pairs of its order
-pub way_begins : (k all h : Skeleton) → all ≡ ordered_by k all.pairs → ((x y : Node) → Before all x y ↔ Before k x y) → DeletesNone k → DeletesNone all → DropsFirst all h → IsOnTheWay k h
+pub way_begins : (k all h : Skeleton) → all ≡ ordered_by k all.pairs → ((x y : Node) → Before all x y ↔ Before k x y) → DeletesNone k → DeletesNone all → WeakensFirst all h → IsReachedByWeakening k h
 way_begins k all h same before none still first =
     let order : (x y : Node) → Before (ordered_by k all.pairs) x y ↔ Before k x y = subst (λ (z : Skeleton). (x y : Node) → Before z x y ↔ Before k x y) same before in
-    let dropped : Drops first.pair (ordered_by k all.pairs) h = subst (λ (z : Skeleton). Drops first.pair z h) same first.leaves.drops in
+    let dropped : Weakens first.pair (ordered_by k all.pairs) h = subst (λ (z : Skeleton). Weakens first.pair z h) same first.leaves.drops in
     record {
       comes =
           comes_first k h
           (drops none (drops_to k all.pairs order first.pair h dropped) first.leaves.fit
-          (λ q g l d f. first.lower q l g (subst (λ (z : Skeleton). Drops q z g) (sym same) (drops_from k all.pairs order q g d)) f));
+          (λ q g l d f. first.lower q l g (subst (λ (z : Skeleton). Weakens q z g) (sym same) (drops_from k all.pairs order q g d)) f));
       fit = first.leaves.fit;
       lists = first.leaves.lists;
       none = first.leaves.none still;
     }
 
-pub none_dropped : (k all : Skeleton) → all ≡ ordered_by k all.pairs → ((x y : Node) → Before all x y ↔ Before k x y) → DropsNone all → DropsNone k
+pub none_dropped : (k all : Skeleton) → all ≡ ordered_by k all.pairs → ((x y : Node) → Before all x y ↔ Before k x y) → WeakensNone all → WeakensNone k
 none_dropped k all same before none p g d f =
     let order : (x y : Node) → Before (ordered_by k all.pairs) x y ↔ Before k x y = subst (λ (z : Skeleton). (x y : Node) → Before z x y ↔ Before k x y) same before in
-    none p g (subst (λ (z : Skeleton). Drops p z g) (sym same) (drops_from k all.pairs order p g d)) f
+    none p g (subst (λ (z : Skeleton). Weakens p z g) (sym same) (drops_from k all.pairs order p g d)) f
 
-pub way_goes_on : (k h g : Skeleton) → IsOnTheWay k h → DropsFirst h g → IsOnTheWay k g
+pub way_goes_on : (k h g : Skeleton) → IsReachedByWeakening k h → WeakensFirst h g → IsReachedByWeakening k g
 way_goes_on k h g w first = record {
   comes = comes_next k h g w.comes (drops w.none first.leaves.drops first.leaves.fit (λ q x l d f. first.lower q l x d f));
   fit = first.leaves.fit;
@@ -175,7 +175,7 @@ way_goes_on k h g w first = record {
   none = first.leaves.none w.none;
 }
 
-pub way_ends : (k h : Skeleton) → IsOnTheWay k h → DropsNone h → GeneralisesTo k h
+pub way_ends : (k h : Skeleton) → IsReachedByWeakening k h → WeakensNone h → GeneralisesTo k h
 way_ends k h w none = w.comes.ends (record { deletes_none = w.none; drops_none = none })
 
 -- ---- where nothing can be deleted, or nothing at all
@@ -189,7 +189,7 @@ pub all_fit : (k all : Skeleton) → all ≡ ordered_by k all.pairs → ((x y : 
 all_fit k all same before no_cycle f =
     fit_alike k all (ap (λ (z : Skeleton). z.strands) same) (ap (λ (z : Skeleton). z.assumptions) same) (λ x y. (before x y).1) (λ n b. no_cycle n ((before n n).0 b)) f
 
-pub unfit_drops_none : (k : Skeleton) (b : Bool) → ((n : Node) → Before k n n → ⊥) → (b ≡ true) ↔ IsFit k → b ≡ false → DropsNone k
+pub unfit_drops_none : (k : Skeleton) (b : Bool) → ((n : Node) → Before k n n → ⊥) → (b ≡ true) ↔ IsFit k → b ≡ false → WeakensNone k
 unfit_drops_none k b no_cycle h e p g d f = false_and_true e (h.1 (fit_before k p g no_cycle d f))
   where
     false_and_true : b ≡ false → b ≡ true → ⊥
@@ -202,5 +202,5 @@ if_none_then (Some x) h f = tt
 pub then_goes_on : (k h g : Skeleton) → ComesBySteps k h → GeneralisesTo h g → GeneralisesTo k g
 then_goes_on k h g c t = c.onward g t
 
-pub then_ends : (k h : Skeleton) → ComesBySteps k h → DeletesNone h → DropsNone h → GeneralisesTo k h
+pub then_ends : (k h : Skeleton) → ComesBySteps k h → DeletesNone h → WeakensNone h → GeneralisesTo k h
 then_ends k h c d p = c.ends (record { deletes_none = d; drops_none = p })

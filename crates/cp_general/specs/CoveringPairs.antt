@@ -9,24 +9,24 @@ use Rattle.cp_model.specs.declared.node.OrderPair.{OrderPair}
 abbrev pub led_to : List OrderPair → Node → List Node
 led_to pairs x = map (λ p. p.later) (filter (λ p. same_node p.earlier x) pairs)
 
-abbrev pub leading_to : List OrderPair → Node → List Node
-leading_to pairs y = map (λ p. p.earlier) (filter (λ p. same_node p.later y) pairs)
+abbrev pub predecessors_of : List OrderPair → Node → List Node
+predecessors_of pairs y = map (λ p. p.earlier) (filter (λ p. same_node p.later y) pairs)
 
 -- x is before y on one strand.
-abbrev pub is_below : Node → Node → Bool
-is_below x y = (x.strand == y.strand) && nat_lt x.index y.index
+abbrev pub is_earlier_on_strand : Node → Node → Bool
+is_earlier_on_strand x y = (x.strand == y.strand) && nat_lt x.index y.index
 
 -- x is so before a node of the list.
 abbrev pub is_below_one : Node → List Node → Bool
 is_below_one x [] = false
-is_below_one x (y ∷ ys) = is_below x y || is_below_one x ys
+is_below_one x (y ∷ ys) = is_earlier_on_strand x y || is_below_one x ys
 
 -- So it is for a node of the first.
 abbrev pub some_is_below : List Node → List Node → Bool
 some_is_below [] ys = false
 some_is_below (x ∷ xs) ys = is_below_one x ys || some_is_below xs ys
 
--- Among all pairs of an order: something is between the nodes of the pair. The first node leads along a pair, or not at all, to a
+-- Among all pairs of an order: something is between the nodes of the pair. From the first node a pair, or nothing, leads to a
 -- node that is before one on its strand from which a pair, or nothing, leads to the second.
 abbrev pub is_covered : List OrderPair → OrderPair → Bool
-is_covered pairs p = some_is_below (led_to pairs p.earlier ++ (p.earlier ∷ [])) (leading_to pairs p.later ++ (p.later ∷ []))
+is_covered pairs p = some_is_below (led_to pairs p.earlier ++ (p.earlier ∷ [])) (predecessors_of pairs p.later ++ (p.later ∷ []))

@@ -6,10 +6,10 @@ use Rattle.cp_model.specs.Strand.{Event, send, recv}
 use Rattle.cp_model.specs.Same.{same_node}
 use Rattle.cp_model.specs.declared.node.Node.{Node}
 use Rattle.cp_model.specs.declared.node.OrderPair.{OrderPair}
-use Rattle.cp_model.specs.OrderTests.{reaches}
+use Rattle.cp_model.specs.OrderTests.{reaches_within}
 use Rattle.cp_model.specs.Skeleton.{Skeleton}
 use Rattle.cp_strand.specs.View.{event_view}
-use Rattle.cp_skel.specs.declared.events.Occurrence as program
+use Rattle.cp_skel.specs.declared.events.LocatedEvent as program
 use Rattle.cp_general.specs.declared.pairs.Reception.{Reception}
 use Rattle.cp_general.specs.Steps.{IsPairOfOrder, IsLowerPair}
 
@@ -35,27 +35,27 @@ is_reception (send t) = false
 is_reception (recv t) = true
 
 -- The nodes of those of the events that pass the test.
-abbrev pub nodes_where : (Event Term → Bool) → List program.Occurrence → List Node
+abbrev pub nodes_where : (Event Term → Bool) → List program.LocatedEvent → List Node
 nodes_where test [] = []
 nodes_where test (o ∷ os) = if test (event_view o.event) then o.node ∷ nodes_where test os else nodes_where test os
 
--- The reception at a node, with the nodes that lead to it along these pairs.
+-- The reception at a node, with its predecessors along these pairs.
 abbrev pub gathered : List OrderPair → Node → Reception
 gathered order y = record { node = y; leading = record { pairs = order; node = y } }
 
--- The node leads to the reception, which is on another strand.
+-- The node reaches the reception, which is on another strand.
 abbrev pub leads_across : Node → Reception → Bool
-leads_across x y = not (x.strand == y.node.strand) && reaches (length y.leading.pairs) y.leading.pairs x y.leading.node
+leads_across x y = not (x.strand == y.node.strand) && reaches_within (length y.leading.pairs) y.leading.pairs x y.leading.node
 
--- The pairs from a node to those of these receptions, on other strands, to which it leads.
-abbrev pub pairs_from : Node → List Reception → List OrderPair
-pairs_from x [] = []
-pairs_from x (y ∷ ys) = if leads_across x y then record { earlier = x; later = y.node } ∷ pairs_from x ys else pairs_from x ys
+-- The pairs from a node to those of these receptions, on other strands, that it reaches.
+abbrev pub pairs_to_receptions : Node → List Reception → List OrderPair
+pairs_to_receptions x [] = []
+pairs_to_receptions x (y ∷ ys) = if leads_across x y then record { earlier = x; later = y.node } ∷ pairs_to_receptions x ys else pairs_to_receptions x ys
 
 -- The same from each of several nodes.
 abbrev pub pairs_between : List Node → List Reception → List OrderPair
 pairs_between [] ys = []
-pairs_between (x ∷ xs) ys = pairs_from x ys ++ pairs_between xs ys
+pairs_between (x ∷ xs) ys = pairs_to_receptions x ys ++ pairs_between xs ys
 
 -- ---- pairs that are the same
 

@@ -32,7 +32,7 @@ pub record IsCoveringPair (k : Skeleton) (p : OrderPair) : Type 0 where
 
 -- h is k without the covering pair p, which neither the problem states nor a unique value adds. All other pairs of the order from
 -- a transmission to a reception of another strand stay; and what the problem states to be before something still is.
-pub record Drops (p : OrderPair) (k h : Skeleton) : Type 0 where
+pub record Weakens (p : OrderPair) (k h : Skeleton) : Type 0 where
   pub covering : IsCoveringPair k p
   pub not_own : IsIn p k.from_problem.pairs → ⊥
   pub not_added : IsAddedPair k p → ⊥

@@ -1,7 +1,7 @@
 // Covering pairs, given all pairs of an order.
 ghost use Rattle.std.specs.Prelude.{◌≡◌, IfOk};
 ghost use Rattle.cp_model.specs.Same.{same_node};
-ghost use Rattle.cp_general.specs.CoveringPairs.{led_to, leading_to, is_below, is_below_one, some_is_below, is_covered};
+ghost use Rattle.cp_general.specs.CoveringPairs.{led_to, predecessors_of, is_earlier_on_strand, is_below_one, some_is_below, is_covered};
 
 use cp_skel::{Node, OrderPair};
 use std::alloc::{AllocError, Global};
@@ -28,8 +28,8 @@ fn led_to(alloc: Global, pairs: &[OrderPair], node: Node) -> Result<Vec<Node>, A
 }
 
 /// The earlier nodes of the pairs that go to a node.
-fn leading_to(alloc: Global, pairs: &[OrderPair], node: Node) -> Result<Vec<Node>, AllocError>
-    ensures { IfOk result (λ ns. ns.items ≡ leading_to pairs.now node) }
+fn predecessors_of(alloc: Global, pairs: &[OrderPair], node: Node) -> Result<Vec<Node>, AllocError>
+    ensures { IfOk result (λ ns. ns.items ≡ predecessors_of pairs.now node) }
 {
     let mut nodes = Vec::new(alloc);
     for pair in pairs {
@@ -43,7 +43,7 @@ fn leading_to(alloc: Global, pairs: &[OrderPair], node: Node) -> Result<Vec<Node
 
 /// Whether a node is before another one on the same strand.
 fn is_below(node: Node, other: Node) -> bool
-    ensures { result ≡ is_below node other }
+    ensures { result ≡ is_earlier_on_strand node other }
 {
     node.strand == other.strand && node.index < other.index
 }
@@ -82,7 +82,7 @@ pub(crate) fn is_covered(
 {
     let mut firsts = led_to(alloc, pairs, pair.earlier)?;
     firsts.push(pair.earlier)?;
-    let mut lasts = leading_to(alloc, pairs, pair.later)?;
+    let mut lasts = predecessors_of(alloc, pairs, pair.later)?;
     lasts.push(pair.later)?;
     Ok(some_is_below(&firsts, &lasts))
 }

@@ -15,9 +15,9 @@ ghost use Rattle.cp_collapse.specs.Property.{Has};
 ghost use Rattle.cp_normal.specs.Findings.{IsAddedPair};
 ghost use Rattle.cp_normal.specs.OwnPairs.{AllLead};
 ghost use Rattle.cp_general.specs.Fit.{IsFit};
-ghost use Rattle.cp_general.specs.Generalisation.{DropsNone};
+ghost use Rattle.cp_general.specs.Generalisation.{WeakensNone};
 ghost use Rattle.cp_general.specs.ListedPairs.{ListsOrder, IsInNeither, is_same_pair, is_other_pair};
-ghost use Rattle.cp_general.specs.ProgramSteps.{NeverDrops, MayDrop, HasFreePair, LeavesFitOrder, DropsFirst};
+ghost use Rattle.cp_general.specs.ProgramSteps.{NeverDrops, MayDrop, HasFreePair, LeavesFitOrder, WeakensFirst};
 
 use crate::covering_pairs::{is_covered, is_same_node};
 use crate::pairs::reordered;
@@ -198,8 +198,8 @@ fn try_drop(alloc: Global, k: &Skeleton, pair: OrderPair) -> Result<Option<Skele
 pub(crate) fn first_drop(alloc: Global, k: &Skeleton) -> Result<Option<Skeleton>, AllocError>
     requires lists { ListsOrder (skeleton_view k.now) k.now.order }
     requires fit { IsFit (skeleton_view k.now) }
-    ensures some { IfOk result (λ found. IfSome found (λ h. DropsFirst (skeleton_view k.now) (skeleton_view h))) }
-    ensures none { IfOk result (λ found. IfNone found (DropsNone (skeleton_view k.now))) }
+    ensures some { IfOk result (λ found. IfSome found (λ h. WeakensFirst (skeleton_view k.now) (skeleton_view h))) }
+    ensures none { IfOk result (λ found. IfNone found (WeakensNone (skeleton_view k.now))) }
     ensures variables { IfOk result (λ found. IfSome found (λ h. h.variables ≡ k.now.variables)) }
 {
     let added = added_pairs(alloc, k)?;

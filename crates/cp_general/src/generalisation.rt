@@ -4,9 +4,9 @@ ghost use Rattle.cp_model.specs.Homomorphism.{Embeds};
 ghost use Rattle.cp_model.specs.Skeleton.{Skeleton as Plain};
 ghost use Rattle.cp_skel.specs.View.{skeleton_view};
 ghost use Rattle.cp_general.specs.Fit.{IsFit};
-ghost use Rattle.cp_general.specs.Generalisation.{DeletesNone, DropsNone, IsMostGeneral, GeneralisesTo, IsGeneralisationOf};
+ghost use Rattle.cp_general.specs.Generalisation.{DeletesNone, WeakensNone, IsMaximallyGeneral, GeneralisesTo, IsGeneralisationOf};
 ghost use Rattle.cp_general.specs.ListedPairs.{ListsOrder};
-ghost use Rattle.cp_general.specs.ProgramSteps.{ComesBySteps, DropsFirst, IsOnTheWay};
+ghost use Rattle.cp_general.specs.ProgramSteps.{ComesBySteps, WeakensFirst, IsReachedByWeakening};
 
 use crate::deletion::first_deletion;
 use crate::dropped_pair::{first_drop, some_may_drop};
@@ -43,11 +43,11 @@ fn deleted(alloc: Global, k: &Skeleton) -> Result<Option<Skeleton>, AllocError>
     }
 }
 
-/// Drops pairs until none can be dropped. The skeleton must be fit and list all pairs of its order.
+/// Weakens the order until no pair can be dropped. The skeleton must be fit and list all pairs of its order.
 fn drop_pairs(alloc: Global, k: &mut Skeleton) -> Result<(), AllocError>
     requires lists { ListsOrder (skeleton_view k.old) k.old.order }
     requires fit { IsFit (skeleton_view k.old) }
-    ensures leads { OnOk result ((first : Plain) → IsOnTheWay first (skeleton_view k.old) → GeneralisesTo first (skeleton_view k.new)) }
+    ensures leads { OnOk result ((first : Plain) → IsReachedByWeakening first (skeleton_view k.old) → GeneralisesTo first (skeleton_view k.new)) }
     ensures variables { OnOk result (k.new.variables ≡ k.old.variables) }
 {
     while let Some(next) = first_drop(alloc, k)? {
@@ -62,8 +62,8 @@ fn dropped_of_all(alloc: Global, all: &Skeleton) -> Result<Option<Skeleton>, All
     requires lists { ListsOrder (skeleton_view all.now) all.now.order }
     requires fit { IsFit (skeleton_view all.now) }
     ensures some { IfOk result (λ found. IfSome found (λ g. (k : Plain)
-        → ((h : Plain) → DropsFirst (skeleton_view all.now) h → IsOnTheWay k h) → GeneralisesTo k (skeleton_view g))) }
-    ensures none { IfOk result (λ found. IfNone found (DropsNone (skeleton_view all.now))) }
+        → ((h : Plain) → WeakensFirst (skeleton_view all.now) h → IsReachedByWeakening k h) → GeneralisesTo k (skeleton_view g))) }
+    ensures none { IfOk result (λ found. IfNone found (WeakensNone (skeleton_view all.now))) }
     ensures variables { IfOk result (λ found. IfSome found (λ g. g.variables ≡ all.now.variables)) }
 {
     match first_drop(alloc, all)? {
@@ -81,7 +81,7 @@ fn dropped_where_fit(alloc: Global, k: &Skeleton) -> Result<Option<Skeleton>, Al
     requires none { DeletesNone (skeleton_view k.now) }
     requires fit { IsFit (skeleton_view k.now) }
     ensures some { IfOk result (λ found. IfSome found (λ g. GeneralisesTo (skeleton_view k.now) (skeleton_view g))) }
-    ensures none { IfOk result (λ found. IfNone found (DropsNone (skeleton_view k.now))) }
+    ensures none { IfOk result (λ found. IfNone found (WeakensNone (skeleton_view k.now))) }
     ensures variables { IfOk result (λ found. IfSome found (λ g. g.variables ≡ k.now.variables)) }
 {
     k.is_sound();
@@ -94,7 +94,7 @@ fn dropped_where_fit(alloc: Global, k: &Skeleton) -> Result<Option<Skeleton>, Al
 fn dropped(alloc: Global, k: &Skeleton) -> Result<Option<Skeleton>, AllocError>
     requires { DeletesNone (skeleton_view k.now) }
     ensures some { IfOk result (λ found. IfSome found (λ g. GeneralisesTo (skeleton_view k.now) (skeleton_view g))) }
-    ensures none { IfOk result (λ found. IfNone found (DropsNone (skeleton_view k.now))) }
+    ensures none { IfOk result (λ found. IfNone found (WeakensNone (skeleton_view k.now))) }
     ensures variables { IfOk result (λ found. IfSome found (λ g. g.variables ≡ k.now.variables)) }
 {
     k.is_sound();
@@ -107,7 +107,7 @@ fn dropped(alloc: Global, k: &Skeleton) -> Result<Option<Skeleton>, AllocError>
     dropped_where_fit(alloc, k)
 }
 
-/// Drops pairs until none can be dropped. No strand may be deletable.
+/// Weakens the order until no pair can be dropped. No strand may be deletable.
 fn drop_further(alloc: Global, k: &mut Skeleton) -> Result<(), AllocError>
     requires { DeletesNone (skeleton_view k.old) }
     ensures leads { OnOk result ((first : Plain) → ComesBySteps first (skeleton_view k.old) → GeneralisesTo first (skeleton_view k.new)) }
@@ -131,7 +131,7 @@ fn drop_further(alloc: Global, k: &mut Skeleton) -> Result<(), AllocError>
 /// kind is tried again.
 pub fn generalised(alloc: Global, k: &Skeleton) -> Result<Option<Skeleton>, AllocError>
     ensures some { IfOk result (λ found. IfSome found (λ g. GeneralisesTo (skeleton_view k.now) (skeleton_view g))) }
-    ensures none { IfOk result (λ found. IfNone found (IsMostGeneral (skeleton_view k.now))) }
+    ensures none { IfOk result (λ found. IfNone found (IsMaximallyGeneral (skeleton_view k.now))) }
     ensures variables { IfOk result (λ found. IfSome found (λ g. g.variables ≡ k.now.variables)) }
 {
     match deleted(alloc, k)? {
@@ -147,7 +147,7 @@ pub fn generalised(alloc: Global, k: &Skeleton) -> Result<Option<Skeleton>, Allo
 /// skeleton over the problem, and no step applies to it. If the skeleton is normal and realised, so is the generalisation.
 pub fn generalise(alloc: Global, k: &Skeleton) -> Result<Skeleton, AllocError>
     ensures exact { IfOk result (λ g. IsGeneralisationOf (skeleton_view k.now) (skeleton_view g)) }
-    ensures most_general { IfOk result (λ g. IsMostGeneral (skeleton_view g)) }
+    ensures most_general { IfOk result (λ g. IsMaximallyGeneral (skeleton_view g)) }
     ensures embeds { IfOk result (λ g. Embeds (skeleton_view g) (skeleton_view k.now)) }
     ensures fit { IfOk result (λ g. IsFit (skeleton_view k.now) → IsFit (skeleton_view g)) }
     ensures variables { IfOk result (λ g. g.variables ≡ k.now.variables) }

@@ -8,7 +8,7 @@ ghost use Rattle.cp_model.specs.Homomorphism.{Embeds, CarriesHomomorphism};
 ghost use Rattle.cp_model.specs.PointOfView.{HasDeclaredVariables, IsPointOfView};
 ghost use Rattle.cp_model.specs.Stated.{KeepsStated};
 ghost use Rattle.cp_general.specs.Fit.{IsFit};
-ghost use Rattle.cp_general.specs.Generalisation.{IsMostGeneral, GeneralisesTo};
+ghost use Rattle.cp_general.specs.Generalisation.{IsMaximallyGeneral, GeneralisesTo};
 
 /// Let a skeleton over a protocol generalise to another. The result:
 ///
@@ -30,5 +30,5 @@ pub fn generalisations_are_sound()
     ensures assumptions { (protocol : Protocol) (k g : Skeleton) → IsSkeleton protocol k → GeneralisesTo k g → KeepsAssumptions g }
     ensures fit { (k g : Skeleton) → GeneralisesTo k g → IsFit g }
     ensures realised { (protocol : Protocol) (k g : Skeleton) → IsSkeleton protocol k → GeneralisesTo k g → IsRealised protocol g }
-    ensures most_general { (k g : Skeleton) → GeneralisesTo k g → IsMostGeneral g }
+    ensures most_general { (k g : Skeleton) → GeneralisesTo k g → IsMaximallyGeneral g }
 {}

@@ -6,16 +6,16 @@ ghost use Rattle.cp_strand.specs.View.{event_view};
 ghost use Rattle.cp_skel.specs.Ordered.{ordered_by};
 ghost use Rattle.cp_skel.specs.Sound.{IsSound};
 ghost use Rattle.cp_skel.specs.View.{skeleton_view};
-ghost use Rattle.cp_general.specs.ListedPairs.{ListsOrder, is_transmission, is_reception, nodes_where, gathered, leads_across, pairs_from, pairs_between};
+ghost use Rattle.cp_general.specs.ListedPairs.{ListsOrder, is_transmission, is_reception, nodes_where, gathered, leads_across, pairs_to_receptions, pairs_between};
 
-use cp_skel::{Event, Leading, Node, Occurrence, Order, OrderPair, Skeleton, SortedPairs};
+use cp_skel::{Event, LocatedEvent, Node, Order, OrderPair, Predecessors, Skeleton, SortedPairs};
 use std::alloc::{AllocError, Global};
 
-/// A reception's node and the nodes that lead to it.
+/// A reception's node and its predecessors.
 #[derive(Drop)]
 struct Reception<'a> {
     node: Node,
-    leading: Leading<'a>,
+    leading: Predecessors<'a>,
 }
 
 /// Whether the event is a transmission.
@@ -33,7 +33,7 @@ fn is_reception(event: &Event) -> bool
 }
 
 /// The nodes of the transmissions among these events.
-fn transmissions(alloc: Global, occurrences: &[Occurrence]) -> Result<Vec<Node>, AllocError>
+fn transmissions(alloc: Global, occurrences: &[LocatedEvent]) -> Result<Vec<Node>, AllocError>
     ensures { IfOk result (λ ns. ns.items ≡ nodes_where is_transmission occurrences.now) }
 {
     let mut nodes = Vec::new(alloc);
@@ -46,11 +46,11 @@ fn transmissions(alloc: Global, occurrences: &[Occurrence]) -> Result<Vec<Node>,
     Ok(nodes)
 }
 
-/// The receptions among these events, each with the nodes that lead to it along the pairs.
+/// The receptions among these events, each with its predecessors along the pairs.
 fn receptions<'a>(
     alloc: Global,
     sorted: &SortedPairs<'a>,
-    occurrences: &[Occurrence],
+    occurrences: &[LocatedEvent],
 ) -> Result<Vec<Reception<'a>>, AllocError>
     ensures { IfOk result (λ rs. rs.items ≡ map (gathered sorted.now) (nodes_where is_reception occurrences.now)) }
 {
@@ -60,26 +60,26 @@ fn receptions<'a>(
             continue;
         }
         let node = occurrence.node;
-        let leading = sorted.leading_to(alloc, node)?;
+        let leading = sorted.predecessors_of(alloc, node)?;
         receptions.push(Reception { node, leading })?;
     }
     Ok(receptions)
 }
 
-/// Whether a node leads to the reception and is on another strand.
+/// Whether a node reaches the reception and is on another strand.
 fn leads_across(from: Node, to: &Reception<'_>) -> bool
     ensures { result ≡ leads_across from to.now }
 {
     from.strand != to.node.strand && to.leading.has(from)
 }
 
-/// Appends the pairs from a node to each of these receptions to which it leads.
+/// Appends the pairs from a node to each of these receptions that it reaches.
 fn add_pairs_from(
     from: Node,
     tos: &[Reception<'_>],
     pairs: &mut Vec<OrderPair>,
 ) -> Result<(), AllocError>
-    ensures { OnOk result (pairs.new.items ≡ pairs.old.items ++ pairs_from from tos.now) }
+    ensures { OnOk result (pairs.new.items ≡ pairs.old.items ++ pairs_to_receptions from tos.now) }
 {
     for to in tos {
         if !leads_across(from, to) {
@@ -93,7 +93,7 @@ fn add_pairs_from(
     Ok(())
 }
 
-/// The pairs from each of these nodes to each of the receptions to which it leads.
+/// The pairs from each of these nodes to each of the receptions that it reaches.
 fn pairs_between(
     alloc: Global,
     froms: &[Node],

@@ -5,8 +5,8 @@ use Rattle.std.proofs.lemmas.List.{drop_all}
 use Rattle.cp_lists.proofs.Members.{drop_read}
 use Rattle.cp_model.specs.Skeleton.{SkeletonStrand, Skeleton}
 use Rattle.cp_model.specs.Homomorphism.{SkeletonMap}
-use Rattle.cp_hom.specs.PartialMaps.{PartialMap, partial_view, Places, IsExtended, IsNever, Finds}
-use Rattle.cp_hom.specs.Counterparts.{TakesAs, Takes, IsRoleStrand, KeepsApart, HoldsImage, IsTaken, IsBlocked, IsElsewhere, KeepsPairs, KeepsOrderApart}
+use Rattle.cp_hom.specs.PartialMaps.{PartialMap, partial_view, Places, IsExtended, IsOfNoExtension, FindsMaps}
+use Rattle.cp_hom.specs.Counterparts.{TakesAs, TakesItem, IsRoleStrand, KeepsApart, HoldsImage, IsTaken, IsBlocked, IsPlacedElsewhere, KeepsPairs, KeepsOrderApart}
 use Rattle.cp_hom.proofs.Images.{goes_there}
 use Rattle.cp_hom.specs.declared.items.Kind.{Kind}
 use Rattle.cp_hom.specs.declared.items.Kind.TheVariants.{Strands}
@@ -42,26 +42,26 @@ strand_sent : (a b : Skeleton) (kind : Kind) (i image : ℕ) (f : SkeletonMap) �
 strand_sent a b kind i image f e t = (subst (λ (k : Kind). TakesAs k a b i image f) e t).goes
 
 pub blocked_never : (a b : Skeleton) (item : Item) (image : ℕ) (given : PartialMap) → IsBlocked a.strands item image given.placements →
-    IsNever (λ f. KeepsOrderApart a b f × Takes a b item image f) given
+    IsOfNoExtension (λ f. KeepsOrderApart a b f × TakesItem a b item image f) given
 blocked_never a b item image given h = λ f follows w.
     taken_apart a.strands f.strands item.index image given.placements w.0.apart h.role_strand follows.0 h.taken (strand_sent a b item.kind item.index image f h.strand w.1)
 
 -- A strand that is placed elsewhere does not go there.
-pub elsewhere_never : (a b : Skeleton) (item : Item) (image : ℕ) (given : PartialMap) → IsElsewhere item image given.placements → IsNever (λ f. KeepsOrderApart a b f × Takes a b item image f) given
+pub elsewhere_never : (a b : Skeleton) (item : Item) (image : ℕ) (given : PartialMap) → IsPlacedElsewhere item image given.placements → IsOfNoExtension (λ f. KeepsOrderApart a b f × TakesItem a b item image f) given
 elsewhere_never a b item image given h = λ f follows w.
     h.elsewhere (sym (goes_there f.strands given.placements item.index h.other follows.0 h.placed) ∙ strand_sent a b item.kind item.index image f h.strand w.1)
 
 -- Where nothing was found, nothing is found among those of which the condition is true.
-pub none_found : (condition fact : SkeletonMap → Type 0) (given copy : PartialMap) (answer : Option Partial) → copy ≡ given → answer ≡ None → Finds fact copy answer → IsNever (λ f. condition f × fact f) given
+pub none_found : (condition fact : SkeletonMap → Type 0) (given copy : PartialMap) (answer : Option Partial) → copy ≡ given → answer ≡ None → FindsMaps fact copy answer → IsOfNoExtension (λ f. condition f × fact f) given
 none_found condition fact given copy answer e n h =
-    let never : IsNever fact given = subst₂ (Finds fact) e n h in
+    let never : IsOfNoExtension fact given = subst₂ (FindsMaps fact) e n h in
     λ f follows w. never f follows w.1
 
 -- What was found is so of what was copied.
-pub found_extends : (fact : SkeletonMap → Type 0) (given copy : PartialMap) (answer : Option Partial) (found : Partial) → copy ≡ given → answer ≡ Some found → Finds fact copy answer → IsExtended fact given (partial_view found)
-found_extends fact given copy answer found e n h = subst₂ (Finds fact) e n h
+pub found_extends : (fact : SkeletonMap → Type 0) (given copy : PartialMap) (answer : Option Partial) (found : Partial) → copy ≡ given → answer ≡ Some found → FindsMaps fact copy answer → IsExtended fact given (partial_view found)
+found_extends fact given copy answer found e n h = subst₂ (FindsMaps fact) e n h
 
 -- What was found places strands so that the order is not kept.
 pub broken_never : (a b : Skeleton) (fact : SkeletonMap → Type 0) (given found : PartialMap) → IsExtended fact given found →
-    ((f : SkeletonMap) → Places f.strands found.placements → KeepsPairs a.pairs b.pairs f → ⊥) → IsNever (λ f. KeepsOrderApart a b f × fact f) given
+    ((f : SkeletonMap) → Places f.strands found.placements → KeepsPairs a.pairs b.pairs f → ⊥) → IsOfNoExtension (λ f. KeepsOrderApart a b f × fact f) given
 broken_never a b fact given found h breaks = λ f follows w. breaks f (h.general f follows w.1).0 w.0.pairs

@@ -10,11 +10,11 @@ use Rattle.cp_model.specs.Strand.{Event, payload}
 use Rattle.cp_model.specs.Skeleton.{SkeletonStrand, instance, UniqueAt, Skeleton}
 use Rattle.cp_model.specs.declared.node.OrderPair.{OrderPair}
 use Rattle.cp_model.specs.declared.node.Node.{Node}
-use Rattle.cp_model.specs.Order.{LeadsTo}
+use Rattle.cp_model.specs.Order.{ReachesAlong}
 use Rattle.cp_model.specs.Homomorphism.{SkeletonMap, mapped}
 use Rattle.cp_hom.proofs.KeptOrder.{both_nodes}
 use Rattle.cp_lists.proofs.Items.{item_below}
-use Rattle.cp_hom.specs.PartialMaps.{PartialMap, IsExtended, IsNever, Finds}
+use Rattle.cp_hom.specs.PartialMaps.{PartialMap, IsExtended, IsOfNoExtension, FindsMaps}
 use Rattle.cp_hom.specs.Counterparts.{MakesEvents, MakesPart, GoesToStrand, BecomesAtom, BecomesUnique, KeepsProblem, IsKeptBy, IsRoleStrand, MeetsEarlier, KeepsApart}
 use Rattle.cp_hom.proofs.Extended.{IsSoFar, finds_like, finds_both, never_before, so_far_next, so_far_never, so_far_all}
 use Rattle.cp_hom.specs.declared.partials.Partial.{Partial}
@@ -22,7 +22,7 @@ use Rattle.cp_hom.specs.declared.partials.Partial.{Partial}
 -- ---- strands
 
 pub strand_placed : (xs ys : List SkeletonStrand) (s image : ℕ) (x y : SkeletonStrand) (given found : PartialMap) (answer : Option Partial) → Some x ≡ item_at xs s → Some y ≡ item_at ys image →
-    IsExtended (λ f. f.strands s ≡ image) given found → Finds (λ f. MakesPart f.terms x y) found answer → Finds (GoesToStrand xs ys s image) given answer
+    IsExtended (λ f. f.strands s ≡ image) given found → FindsMaps (λ f. MakesPart f.terms x y) found answer → FindsMaps (GoesToStrand xs ys s image) given answer
 strand_placed xs ys s image x y given found answer at au h k =
     finds_both (λ f. f.strands s ≡ image) (λ f. MakesPart f.terms x y) (GoesToStrand xs ys s image) given found answer
     (λ f e p. record { from = x; to = y; is_from = sym at; is_to = sym au; goes = e; part = p })
@@ -35,13 +35,13 @@ strand_placed xs ys s image x y given found answer at au h k =
     subst (λ (z : SkeletonStrand). MakesPart f.terms z y) d' (subst (λ (z : SkeletonStrand). MakesPart f.terms g.from z) e' g.part))
     h k
 
-pub no_strand : (xs ys : List SkeletonStrand) (s image : ℕ) (given : PartialMap) → None ≡ item_at xs s → IsNever (GoesToStrand xs ys s image) given
+pub no_strand : (xs ys : List SkeletonStrand) (s image : ℕ) (given : PartialMap) → None ≡ item_at xs s → IsOfNoExtension (GoesToStrand xs ys s image) given
 no_strand xs ys s image given at = λ f follows g. let e : None ≡ Some g.from = at ∙ g.is_from in cc
 
 -- ---- atoms
 
 pub atom_placed : (xs ys : List AtomTerm) (i image : ℕ) (x y : AtomTerm) (t u : Term) (given : PartialMap) (answer : Option Partial) → Some x ≡ item_at xs i → Some y ≡ item_at ys image →
-    t ≡ atom_term x → u ≡ atom_term y → Finds (λ f. apply_to f.terms t ≡ u) given answer → Finds (BecomesAtom xs ys i image) given answer
+    t ≡ atom_term x → u ≡ atom_term y → FindsMaps (λ f. apply_to f.terms t ≡ u) given answer → FindsMaps (BecomesAtom xs ys i image) given answer
 atom_placed xs ys i image x y t u given answer at au is_t is_u k =
     finds_like (λ f. apply_to f.terms t ≡ u) (BecomesAtom xs ys i image) given answer
     (λ f e.
@@ -59,10 +59,10 @@ atom_placed xs ys i image x y t u given answer at au is_t is_u k =
 -- ---- unique values
 
 module _ (xs ys : List UniqueAt) (i image : ℕ) (given : PartialMap) where
-  pub no_unique : None ≡ item_at xs i → IsNever (BecomesUnique xs ys i image) given
+  pub no_unique : None ≡ item_at xs i → IsOfNoExtension (BecomesUnique xs ys i image) given
   no_unique at = λ f follows g. let e : None ≡ Some g.from = at ∙ g.is_from in cc
 
-  pub no_other_unique : None ≡ item_at ys image → IsNever (BecomesUnique xs ys i image) given
+  pub no_other_unique : None ≡ item_at ys image → IsOfNoExtension (BecomesUnique xs ys i image) given
   no_other_unique at = λ f follows g. let e : None ≡ Some g.to = at ∙ g.is_to in cc
 
   module _ (x y : UniqueAt) (at : Some x ≡ item_at xs i) (au : Some y ≡ item_at ys image) where
@@ -72,7 +72,7 @@ module _ (xs ys : List UniqueAt) (i image : ℕ) (given : PartialMap) where
     to_is : (f : SkeletonMap) (g : BecomesUnique xs ys i image f) → g.to ≡ y
     to_is f g = let d : Some g.to ≡ Some y = sym g.is_to ∙ sym au in cc
 
-    pub other_index : x.origin.index ≢ y.origin.index → IsNever (BecomesUnique xs ys i image) given
+    pub other_index : x.origin.index ≢ y.origin.index → IsOfNoExtension (BecomesUnique xs ys i image) given
     other_index ne = λ f follows g.
         ne (sym (ap (λ (u : UniqueAt). u.origin.index) (from_is f g)) ∙ g.index ∙ ap (λ (u : UniqueAt). u.origin.index) (to_is f g))
 
@@ -80,12 +80,12 @@ module _ (xs ys : List UniqueAt) (i image : ℕ) (given : PartialMap) where
     strand_first f g =
         sym (ap (λ (u : UniqueAt). f.strands u.origin.strand) (from_is f g)) ∙ g.origin ∙ ap (λ (u : UniqueAt). u.origin.strand) (to_is f g)
 
-    pub other_strand : IsNever (λ f. f.strands x.origin.strand ≡ y.origin.strand) given → IsNever (BecomesUnique xs ys i image) given
+    pub other_strand : IsOfNoExtension (λ f. f.strands x.origin.strand ≡ y.origin.strand) given → IsOfNoExtension (BecomesUnique xs ys i image) given
     other_strand never = never_before (λ f. f.strands x.origin.strand ≡ y.origin.strand) (BecomesUnique xs ys i image) given strand_first never
 
     pub unique_placed : (t u : Term) (found : PartialMap) (answer : Option Partial) → x.origin.index ≡ y.origin.index → t ≡ atom_term x.value → u ≡ atom_term y.value →
-        IsExtended (λ f. f.strands x.origin.strand ≡ y.origin.strand) given found → Finds (λ f. apply_to f.terms t ≡ u) found answer →
-        Finds (BecomesUnique xs ys i image) given answer
+        IsExtended (λ f. f.strands x.origin.strand ≡ y.origin.strand) given found → FindsMaps (λ f. apply_to f.terms t ≡ u) found answer →
+        FindsMaps (BecomesUnique xs ys i image) given answer
     unique_placed t u found answer same is_t is_u h k =
         finds_both (λ f. f.strands x.origin.strand ≡ y.origin.strand) (λ f. apply_to f.terms t ≡ u) (BecomesUnique xs ys i image) given found answer
         (λ f d e.
@@ -110,7 +110,7 @@ module _ (xs ys : List UniqueAt) (i image : ℕ) (given : PartialMap) where
 -- ---- events
 
 pub event_matched : (s t : Substitution) (m from to : Term) (given : PartialMap) (answer : Option Partial) → from ≡ apply_to s m → to ≡ apply_to t m →
-    Finds (λ f. apply_to f.terms from ≡ to) given answer → Finds (λ f. apply_to f.terms (apply_to s m) ≡ apply_to t m) given answer
+    FindsMaps (λ f. apply_to f.terms from ≡ to) given answer → FindsMaps (λ f. apply_to f.terms (apply_to s m) ≡ apply_to t m) given answer
 event_matched s t m from to given answer is_from is_to h =
     finds_like (λ f. apply_to f.terms from ≡ to) (λ f. apply_to f.terms (apply_to s m) ≡ apply_to t m) given answer
     (λ f e. sym (ap (apply_to f.terms) is_from) ∙ e ∙ is_to)
@@ -140,7 +140,7 @@ module _ {A B : Type 0} (g : SkeletonMap → A → B) where
       h k
 
   pub lists_never : (xs : List A) (ys : List B) (i : ℕ) (x : A) (y : B) (given found : PartialMap) → i < length xs → length xs ≡ length ys → x ≡ get_or xs i x → y ≡ get_or ys i y →
-      IsSoFar (λ f. map (g f) xs ≡ ys) (λ f. map (g f) (drop i xs) ≡ drop i ys) given found → IsNever (λ f. g f x ≡ y) found → IsNever (λ f. map (g f) xs ≡ ys) given
+      IsSoFar (λ f. map (g f) xs ≡ ys) (λ f. map (g f) (drop i xs) ≡ drop i ys) given found → IsOfNoExtension (λ f. g f x ≡ y) found → IsOfNoExtension (λ f. map (g f) xs ≡ ys) given
   lists_never xs ys i x y given found l same is_x is_y h k =
       let dx = drop_read xs i x l is_x in
       let dy = drop_read ys i y (omega (arith, l, same)) is_y in
@@ -157,7 +157,7 @@ module _ {A B : Type 0} (g : SkeletonMap → A → B) where
 -- Strands and terms from the problem.
 pub problem_kept : (a b : Skeleton) (xs ys : List ℕ) (ts us : List Term) (given found : PartialMap) (answer : Option Partial) →
     xs ≡ a.from_problem.strands → ys ≡ b.from_problem.strands → ts ≡ a.from_problem.values → us ≡ b.from_problem.values →
-    IsExtended (λ f. map f.strands xs ≡ ys) given found → Finds (λ f. map (apply_to f.terms) ts ≡ us) found answer → Finds (KeepsProblem a b) given answer
+    IsExtended (λ f. map f.strands xs ≡ ys) given found → FindsMaps (λ f. map (apply_to f.terms) ts ≡ us) found answer → FindsMaps (KeepsProblem a b) given answer
 problem_kept a b xs ys ts us given found answer is_xs is_ys is_ts is_us h k =
     finds_both (λ f. map f.strands xs ≡ ys) (λ f. map (apply_to f.terms) ts ≡ us) (KeepsProblem a b) given found answer
     (λ f d e. record {
@@ -188,7 +188,7 @@ module _ {E : Type 0} (view : E → Event Term) (s t : Substitution) where
 
   pub events_never : (es : List E) (i : ℕ) (e : E) (given found : PartialMap) → i < length es → e ≡ get_or es i e →
       IsSoFar (λ f. MakesEvents f.terms (map view es) s t) (λ f. MakesEvents f.terms (map view (drop i es)) s t) given found →
-      IsNever (λ f. apply_to f.terms (apply_to s (payload (view e))) ≡ apply_to t (payload (view e))) found → IsNever (λ f. MakesEvents f.terms (map view es) s t) given
+      IsOfNoExtension (λ f. apply_to f.terms (apply_to s (payload (view e))) ≡ apply_to t (payload (view e))) found → IsOfNoExtension (λ f. MakesEvents f.terms (map view es) s t) given
   events_never es i e given found l is_e h k =
       let d = drop_read es i e l is_e in
       so_far_never (λ f. MakesEvents f.terms (map view es) s t) (λ f. MakesEvents f.terms (map view (drop i es)) s t)
@@ -234,8 +234,8 @@ one_meets strands f s m apart =
 
 -- ---- pairs that are kept
 
-pub kept_by : (pairs : List OrderPair) (f : SkeletonMap) (p : OrderPair) (x y : Node) → x ≡ mapped f p.earlier → y ≡ mapped f p.later → LeadsTo pairs x y × (x ≢ y) → IsKeptBy pairs f p
+pub kept_by : (pairs : List OrderPair) (f : SkeletonMap) (p : OrderPair) (x y : Node) → x ≡ mapped f p.earlier → y ≡ mapped f p.later → ReachesAlong pairs x y × (x ≢ y) → IsKeptBy pairs f p
 kept_by pairs f p x y e l h = both_nodes pairs x (mapped f p.earlier) y (mapped f p.later) e l h
 
-pub by_kept : (pairs : List OrderPair) (f : SkeletonMap) (p : OrderPair) (x y : Node) → x ≡ mapped f p.earlier → y ≡ mapped f p.later → IsKeptBy pairs f p → LeadsTo pairs x y × (x ≢ y)
+pub by_kept : (pairs : List OrderPair) (f : SkeletonMap) (p : OrderPair) (x y : Node) → x ≡ mapped f p.earlier → y ≡ mapped f p.later → IsKeptBy pairs f p → ReachesAlong pairs x y × (x ≢ y)
 by_kept pairs f p x y e l h = both_nodes pairs (mapped f p.earlier) x (mapped f p.later) y (sym e) (sym l) h

@@ -11,9 +11,9 @@ use Rattle.cp_model.specs.Homomorphism.{SkeletonMap, mapped, GoesToInstance, IsH
 use Rattle.cp_lists.proofs.Items.{item_below, item_there, at_place, place_of}
 use Rattle.cp_model.proofs.LawStandings.{strand_of_event}
 use Rattle.cp_skel.specs.Ordered.{IsOrdered}
-use Rattle.cp_hom.specs.PartialMaps.{PartialMap, Follows, map_of}
-use Rattle.cp_hom.specs.Counterparts.{MakesPart, GoesToStrand, BecomesAtom, BecomesUnique, TakesAs, Takes, count_of, IsItemOf, KeepsProblem, KeepsApart, IsKeptBy, KeepsPairs}
-use Rattle.cp_hom.specs.OpenMaps.{IsWhole, NeverEmbeds}
+use Rattle.cp_hom.specs.PartialMaps.{PartialMap, ExtendsPartial, map_of}
+use Rattle.cp_hom.specs.Counterparts.{MakesPart, GoesToStrand, BecomesAtom, BecomesUnique, TakesAs, TakesItem, item_count, IsItemOf, KeepsProblem, KeepsApart, IsKeptBy, KeepsPairs}
+use Rattle.cp_hom.specs.OpenMaps.{IsWholeMap, NeverEmbeds}
 use Rattle.cp_hom.proofs.Agreed.{events_agreed, events_made}
 use Rattle.cp_hom.proofs.KeptOrder.{both_nodes, StrandsGo, order_kept, pairs_kept}
 use Rattle.cp_hom.specs.declared.items.Kind.{Kind}
@@ -64,7 +64,7 @@ unique_taken f xs ys h i u at =
       record { from = u; to = v; is_from = at; is_to = k.1; becomes = refl; origin = refl; index = refl },
     )
 
-kind_taken : (a b : Skeleton) (f : SkeletonMap) → IsEmbedding a b f → (kind : Kind) (i : ℕ) → i < count_of kind a → (image : ℕ) × (image < count_of kind b) × TakesAs kind a b i image f
+kind_taken : (a b : Skeleton) (f : SkeletonMap) → IsEmbedding a b f → (kind : Kind) (i : ℕ) → i < item_count kind a → (image : ℕ) × (image < item_count kind b) × TakesAs kind a b i image f
 kind_taken a b f h Strands i l = let x = item_there a.strands i l in strand_taken a b f h i x.0 x.1
 kind_taken a b f h NonOriginating i l =
     let x = item_there a.assumptions.non_originating i l in
@@ -76,7 +76,7 @@ kind_taken a b f h Uniques i l =
     let x = item_there a.assumptions.uniquely_originating i l in
     unique_taken f a.assumptions.uniquely_originating b.assumptions.uniquely_originating h.homomorphism.unique i x.0 x.1
 
-pub item_taken : (a b : Skeleton) (f : SkeletonMap) → IsEmbedding a b f → (item : Item) → IsItemOf a item → (image : ℕ) × (image < count_of item.kind b) × Takes a b item image f
+pub item_taken : (a b : Skeleton) (f : SkeletonMap) → IsEmbedding a b f → (item : Item) → IsItemOf a item → (image : ℕ) × (image < item_count item.kind b) × TakesItem a b item image f
 item_taken a b f h item p = kind_taken a b f h item.kind item.index p
 
 pub embedding_apart : (a b : Skeleton) (f : SkeletonMap) → IsEmbedding a b f → KeepsApart a.strands f.strands
@@ -107,7 +107,7 @@ listener_goes b f s image t (listener u) at goes part = ap (item_at b.strands) g
 listener_goes b f s image t (instance role height terms) at goes part = absurd part
 
 abbrev TakesAll : Skeleton → Skeleton → SkeletonMap → Type 0
-TakesAll a b f = (item : Item) → IsItemOf a item → (image : ℕ) × Takes a b item image f
+TakesAll a b f = (item : Item) → IsItemOf a item → (image : ℕ) × TakesItem a b item image f
 
 strand_goes : (a b : Skeleton) (f : SkeletonMap) → TakesAll a b f → (s : ℕ) (st : SkeletonStrand) → item_at a.strands s ≡ Some st → (image : ℕ) × GoesToStrand a.strands b.strands s image f
 strand_goes a b f all s st at = all (record { kind = Strands; index = s }) (item_below a.strands s st at)
@@ -182,29 +182,29 @@ embedding_of a b f order other all problem apart kept = record {
 
 -- ---- a partial map from which nothing is left to place
 
-pub whole_embeds : (a b : Skeleton) (given : PartialMap) → IsOrdered a → IsOrdered b → IsWhole a b given → KeepsApart a.strands (map_of given).strands → KeepsPairs a.pairs b.pairs (map_of given) →
+pub whole_embeds : (a b : Skeleton) (given : PartialMap) → IsOrdered a → IsOrdered b → IsWholeMap a b given → KeepsApart a.strands (map_of given).strands → KeepsPairs a.pairs b.pairs (map_of given) →
     IsEmbedding a b (map_of given)
 whole_embeds a b given order other whole apart kept =
     embedding_of a b (map_of given) order other
     (λ item p. let h = whole.placed item p in (h.0, h.1 (map_of given) whole.consistent)) (whole.problem (map_of given) whole.consistent) apart kept
 
 -- All maps that follow it send a strand to one strand.
-one_image : (a b : Skeleton) (given : PartialMap) → IsWhole a b given → (f : SkeletonMap) → Follows f given → (s : ℕ) (st : SkeletonStrand) → item_at a.strands s ≡ Some st → f.strands s ≡ (map_of given).strands s
+one_image : (a b : Skeleton) (given : PartialMap) → IsWholeMap a b given → (f : SkeletonMap) → ExtendsPartial f given → (s : ℕ) (st : SkeletonStrand) → item_at a.strands s ≡ Some st → f.strands s ≡ (map_of given).strands s
 one_image a b given whole f follows s st at =
     let h = whole.placed (record { kind = Strands; index = s }) (item_below a.strands s st at) in
     (h.1 f follows).goes ∙ sym (h.1 (map_of given) whole.consistent).goes
 
-pub apart_never : (a b : Skeleton) (given : PartialMap) → IsWhole a b given → (KeepsApart a.strands (map_of given).strands → ⊥) → NeverEmbeds a b given
+pub apart_never : (a b : Skeleton) (given : PartialMap) → IsWholeMap a b given → (KeepsApart a.strands (map_of given).strands → ⊥) → NeverEmbeds a b given
 apart_never a b given whole not_apart f follows h = not_apart (λ s t p q e.
     h.injective s t p.role p.height p.terms q.role q.height q.terms p.on_instance q.on_instance
     (one_image a b given whole f follows s (instance p.role p.height p.terms) p.on_instance ∙ e
     ∙ sym (one_image a b given whole f follows t (instance q.role q.height q.terms) q.on_instance)))
 
-one_node : (a b : Skeleton) (given : PartialMap) → IsWhole a b given → (f : SkeletonMap) → Follows f given → (n : Node) (st : SkeletonStrand) → item_at a.strands n.strand ≡ Some st →
+one_node : (a b : Skeleton) (given : PartialMap) → IsWholeMap a b given → (f : SkeletonMap) → ExtendsPartial f given → (n : Node) (st : SkeletonStrand) → item_at a.strands n.strand ≡ Some st →
     mapped f n ≡ mapped (map_of given) n
 one_node a b given whole f follows n st at = ap (λ (s : ℕ). node_at s n.index) (one_image a b given whole f follows n.strand st at)
 
-pub pairs_never : (a b : Skeleton) (given : PartialMap) → IsOrdered a → IsOrdered b → IsWhole a b given → (KeepsPairs a.pairs b.pairs (map_of given) → ⊥) → NeverEmbeds a b given
+pub pairs_never : (a b : Skeleton) (given : PartialMap) → IsOrdered a → IsOrdered b → IsWholeMap a b given → (KeepsPairs a.pairs b.pairs (map_of given) → ⊥) → NeverEmbeds a b given
 pairs_never a b given order other whole not_kept f follows h = not_kept (λ p inp.
     let pair : IsOrderPair a p = order.order_pairs p inp in
     let st = strand_of_event a.strands p.earlier _ pair.transmission in

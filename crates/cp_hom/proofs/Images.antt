@@ -10,7 +10,7 @@ use Rattle.cp_model.specs.Homomorphism.{SkeletonMap, mapped, number_or, strand_i
 use Rattle.cp_model.specs.Term.{Term, apply_to}
 use Rattle.cp_unify.specs.Bindings.{Binding}
 use Rattle.cp_unify.specs.Beside.{MatchesBeside, NeverMatchesBeside}
-use Rattle.cp_hom.specs.PartialMaps.{PartialMap, image_in, Places, IsExtended, IsNever}
+use Rattle.cp_hom.specs.PartialMaps.{PartialMap, image_in, Places, IsExtended, IsOfNoExtension}
 use Rattle.cp_hom.specs.declared.partials.Placement.{Placement}
 
 -- ---- placements
@@ -107,7 +107,7 @@ number_there given s t other at e = record {
   consistent = λ own. own;
 }
 
-pub number_elsewhere : (given : PartialMap) (s t other : ℕ) → image_in given.placements s ≡ Some other → other ≢ t → IsNever (λ f. f.strands s ≡ t) given
+pub number_elsewhere : (given : PartialMap) (s t other : ℕ) → image_in given.placements s ≡ Some other → other ≢ t → IsOfNoExtension (λ f. f.strands s ≡ t) given
 number_elsewhere given s t other at ne = λ f follows w. ne (sym (goes_there f.strands given.placements s other follows.0 at) ∙ w)
 
 pub number_placed : (ps : List Placement) (bs : List Binding) (p : Placement) → image_in ps p.strand ≡ None →
@@ -131,7 +131,7 @@ term_found ps t u r q h = record {
 }
 
 pub term_never : (ps : List Placement) (t u : Term) (r : List Binding) → NeverMatchesBeside t u r →
-    IsNever (λ f. apply_to f.terms t ≡ u) (record { placements = ps; bindings = r })
+    IsOfNoExtension (λ f. apply_to f.terms t ≡ u) (record { placements = ps; bindings = r })
 term_never ps t u r h = λ f follows w. h f.terms follows.1 w
 
 -- ---- lists of images

@@ -3,7 +3,7 @@ use Rattle.std.proofs.Common.{◌≡◌, ℕ, ◌+◌, ◌<◌, List, [], ◌∷
 use Rattle.cp_lists.specs.Lists.{IsIn, here, there}
 use Rattle.cp_model.specs.Skeleton.{Skeleton}
 use Rattle.cp_lists.proofs.Members.{in_append, in_append_left, in_append_right}
-use Rattle.cp_hom.specs.Counterparts.{count_of, IsItemOf, AreItemsOf, AddsItems, AddsFirst, AddsAll}
+use Rattle.cp_hom.specs.Counterparts.{item_count, IsItemOf, AreItemsOf, AddsItems, AddsFirst, AddsAll}
 use Rattle.cp_hom.specs.declared.items.Kind.{Kind}
 use Rattle.cp_hom.specs.declared.items.Kind.TheVariants.{Strands, NonOriginating, PenetratorNonOriginating, Uniques}
 use Rattle.cp_hom.specs.declared.items.Item.{Item}
@@ -36,7 +36,7 @@ pub first_none : (kind : Kind) (k : Skeleton) (old : List Item) → AddsFirst ki
 first_none kind k old = record { adds = adds_nothing k old; all = λ i l. absurd (omega (arith, l)) }
 
 module _ (kind : Kind) (n : ℕ) (k : Skeleton) (old more new : List Item) where
-  pub first_next : new ≡ more ++ (record { kind = kind; index = n } ∷ []) → n < count_of kind k → AddsFirst kind n k old more → AddsFirst kind (n + 1) k old new
+  pub first_next : new ≡ more ++ (record { kind = kind; index = n } ∷ []) → n < item_count kind k → AddsFirst kind n k old more → AddsFirst kind (n + 1) k old new
   first_next e l h = record {
     adds = adds_one k old more new (record { kind = kind; index = n }) e h.adds l;
     all = λ i below. subst (IsIn {A = Item} (record { kind = kind; index = i })) (sym e) (this_or_before i (eq-or-lt_of_le (omega (arith, below))));
@@ -55,7 +55,7 @@ pub all_behind : (kind : Kind) (k : Skeleton) (old more new : List Item) → Add
 all_behind kind k old more new h g = record { adds = adds_then k old more new h g.adds; all = g.all }
 
 module _ (k : Skeleton) (a b c d : List Item) (first : AddsAll Strands k [] a) (second : AddsAll NonOriginating k a b) (third : AddsAll PenetratorNonOriginating k b c) (fourth : AddsAll Uniques k c d) where
-  by_kind : (kind : Kind) (i : ℕ) → i < count_of kind k → IsIn {A = Item} (record { kind = kind; index = i }) d
+  by_kind : (kind : Kind) (i : ℕ) → i < item_count kind k → IsIn {A = Item} (record { kind = kind; index = i }) d
   by_kind Strands i l =
       let x : Item = record { kind = Strands; index = i } in
       fourth.adds.kept x (third.adds.kept x (second.adds.kept x (first.all i l)))

@@ -8,7 +8,7 @@ use Rattle.cp_model.specs.Bundle.{node_at}
 use Rattle.cp_model.specs.declared.node.Node.{Node}
 use Rattle.cp_model.specs.Skeleton.{SkeletonStrand, instance, listener, skeleton_trace, term_event_at, IsNodeOf, Skeleton, OrderStep, along_strand_of, along_pair, Before, IsOrderPair}
 use Rattle.cp_model.specs.declared.node.OrderPair.{OrderPair}
-use Rattle.cp_model.specs.Order.{LeadsTo}
+use Rattle.cp_model.specs.Order.{ReachesAlong}
 use Rattle.cp_model.specs.Homomorphism.{SkeletonMap, mapped, GoesToInstance}
 use Rattle.cp_lists.proofs.Reached.{steps_append}
 use Rattle.cp_model.proofs.LawOrder.{before_by_pairs}
@@ -17,8 +17,8 @@ use Rattle.cp_skel.specs.Ordered.{IsOrdered}
 use Rattle.cp_hom.specs.Counterparts.{KeepsPairs}
 
 -- What is true of two nodes is true of the same two.
-pub both_nodes : (pairs : List OrderPair) (x y z w : Node) → x ≡ y → z ≡ w → LeadsTo pairs x z × (x ≢ z) → LeadsTo pairs y w × (y ≢ w)
-both_nodes pairs x y z w e l h = subst₂ (λ (n m : Node). LeadsTo pairs n m × (n ≢ m)) e l h
+pub both_nodes : (pairs : List OrderPair) (x y z w : Node) → x ≡ y → z ≡ w → ReachesAlong pairs x z × (x ≢ z) → ReachesAlong pairs y w × (y ≢ w)
+both_nodes pairs x y z w e l h = subst₂ (λ (n m : Node). ReachesAlong pairs n m × (n ≢ m)) e l h
 
 -- Instances go to instances and listeners to listeners.
 pub record StrandsGo (a b : Skeleton) (f : SkeletonMap) : Type 0 where

@@ -9,7 +9,7 @@ use Rattle.cp_model.specs.Skeleton.{skeleton_trace}
 use Rattle.cp_model.specs.Homomorphism.{SkeletonMap, substitution_by}
 use Rattle.cp_model.specs.Data.{InstanceData, StrandData}
 use Rattle.cp_strand.specs.View.{instance_as_data, instance_view, strand_view}
-use Rattle.cp_hom.specs.PartialMaps.{PartialMap, IsExtended, IsNever, Finds}
+use Rattle.cp_hom.specs.PartialMaps.{PartialMap, IsExtended, IsOfNoExtension, FindsMaps}
 use Rattle.cp_hom.specs.Counterparts.{MakesEvents, MakesMessages, MakesPart}
 use Rattle.cp_hom.proofs.Extended.{IsSoFar, finds_like, so_far_next, so_far_never, so_far_all}
 use Rattle.cp_hom.specs.declared.partials.Partial.{Partial}
@@ -47,7 +47,7 @@ module _ {E : Type 0} (view : E → Event Term) where
           (λ f p. rest_made f x y (drop (i + 1) xs) (drop (i + 1) ys) (opened f p))
           h k
 
-      pub messages_never : IsNever (λ f. apply_to f.terms (payload (view x)) ≡ payload (view y)) found → IsNever (AllMade xs ys) given
+      pub messages_never : IsOfNoExtension (λ f. apply_to f.terms (payload (view x)) ≡ payload (view y)) found → IsOfNoExtension (AllMade xs ys) given
       messages_never k =
           so_far_never (AllMade xs ys) (AllMade (drop i xs) (drop i ys)) (λ f. apply_to f.terms (payload (view x)) ≡ payload (view y)) given found
           (λ f p. first_made f x y (drop (i + 1) xs) (drop (i + 1) ys) (opened f p))
@@ -100,10 +100,10 @@ module _ {E : Type 0} (view : E → Event Term) (xs ys : List E) (i j : Instance
       let k = no_longer (apply_to (substitution_by i.values)) (apply_to (substitution_by j.values)) i.height j.height i.role.trace l in
       omega (arith, e, d, k)
 
-  pub part_by_messages : (given : PartialMap) (answer : Option Partial) → Finds (λ f. MakesMessages f.terms (map view xs) (map view ys)) given answer →
-      Finds (λ f. MakesPart f.terms (strand_view from) (strand_view to)) given answer
+  pub part_by_messages : (given : PartialMap) (answer : Option Partial) → FindsMaps (λ f. MakesMessages f.terms (map view xs) (map view ys)) given answer →
+      FindsMaps (λ f. MakesPart f.terms (strand_view from) (strand_view to)) given answer
   part_by_messages given answer h =
-      subst₂ (λ (d e : StrandData). Finds (λ f. MakesPart f.terms (strand_view d) (strand_view e)) given answer) is_from is_to
+      subst₂ (λ (d e : StrandData). FindsMaps (λ f. MakesPart f.terms (strand_view d) (strand_view e)) given answer) is_from is_to
       (finds_like (λ f. MakesMessages f.terms (map view xs) (map view ys)) (λ f. MakesPart f.terms (instance_view i) (instance_view j)) given answer
       (λ f p. (
         same,

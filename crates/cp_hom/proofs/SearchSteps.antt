@@ -9,12 +9,12 @@ use Rattle.cp_model.specs.Skeleton.{Skeleton}
 use Rattle.cp_model.specs.Homomorphism.{SkeletonMap, IsEmbedding}
 use Rattle.cp_skel.specs.Ordered.{IsOrdered}
 use Rattle.cp_lists.proofs.Members.{in_append, in_append_left, in_append_right, in_rest}
-use Rattle.cp_hom.specs.PartialMaps.{PartialMap, partial_view, Follows, IsExtended, IsNever, FindsAmong}
-use Rattle.cp_hom.specs.Counterparts.{Takes, count_of, IsItemOf, AreItemsOf, KeepsOrderApart}
+use Rattle.cp_hom.specs.PartialMaps.{PartialMap, partial_view, ExtendsPartial, IsExtended, IsOfNoExtension, FindsAmong}
+use Rattle.cp_hom.specs.Counterparts.{TakesItem, item_count, IsItemOf, AreItemsOf, KeepsOrderApart}
 use Rattle.cp_hom.specs.Choices.{ArePassed, IsNextChoice}
 use Rattle.cp_hom.specs.declared.known.Choice.{Choice}
 use Rattle.cp_hom.specs.declared.search.Branch.{Branch}
-use Rattle.cp_hom.specs.OpenMaps.{OpenMap, branch_view, branches_view, next_maps, from_choice, placed_map, steps_left, steps_of, all_steps, IsPlaced, IsStarted, IsWhole, IsOpen, AreOpen, TakesFrom, IsWithin, IsWithinSome, TakePlace}
+use Rattle.cp_hom.specs.OpenMaps.{OpenMap, branch_view, branches_view, next_maps, from_choice, placed_map, steps_left, steps_of, all_steps, IsPlaced, IsStarted, IsWholeMap, IsOpenMap, AreOpen, TakesFrom, IsWithin, IsWithinSome, TakePlace}
 use Rattle.cp_hom.proofs.Embedded.{embedding_apart, embedding_pairs, item_taken}
 use Rattle.cp_hom.specs.declared.partials.Partial.{Partial}
 use Rattle.cp_hom.specs.declared.items.Item.{Item}
@@ -101,12 +101,12 @@ nothing_found a b items o old are never = record {
 }
 
 -- No choice is left.
-pub no_choice : (a b : Skeleton) (items : List Item) (o : OpenMap) (i : Item) → item_at items o.done ≡ Some i → count_of i.kind b ≤ o.choice →
+pub no_choice : (a b : Skeleton) (items : List Item) (o : OpenMap) (i : Item) → item_at items o.done ≡ Some i → item_count i.kind b ≤ o.choice →
     (f : SkeletonMap) → IsEmbedding a b f → IsWithin a b items f o → ⊥
 no_choice a b items o i at l f h w =
     let t = subst (λ (is : List Item). TakesFrom a b is o.choice f) (next_item items o.done i at) w.1 in
     let x : o.choice ≤ t.0 = t.1 in
-    let y : t.0 < count_of i.kind b = t.2 in
+    let y : t.0 < item_count i.kind b = t.2 in
     omega (arith, x, y, l)
 
 -- All items are placed.
@@ -116,7 +116,7 @@ nothing_left [] (suc n) e = refl
 nothing_left (x ∷ xs) zero e = absurd (let f : None ≡ Some x = e in cc)
 nothing_left (x ∷ xs) (suc n) e = ap (λ (ys : List Item). x ∷ ys) (nothing_left xs n e)
 
-pub whole_at_end : (a b : Skeleton) (items : List Item) (o : OpenMap) → AreItemsOf a items → IsOpen a b items o → None ≡ item_at items o.done → IsWhole a b o.given
+pub whole_at_end : (a b : Skeleton) (items : List Item) (o : OpenMap) → AreItemsOf a items → IsOpenMap a b items o → None ≡ item_at items o.done → IsWholeMap a b o.given
 whole_at_end a b items o are h done = record {
   consistent = h.consistent;
   problem = h.problem;
@@ -129,21 +129,21 @@ whole_at_end a b items o are h done = record {
 abbrev pub tried : OpenMap → OpenMap
 tried o = record { done = o.done; choice = o.choice + 1; given = o.given }
 
-tried_open : (a b : Skeleton) (items : List Item) (o : OpenMap) → IsOpen a b items o → IsOpen a b items (tried o)
+tried_open : (a b : Skeleton) (items : List Item) (o : OpenMap) → IsOpenMap a b items o → IsOpenMap a b items (tried o)
 tried_open a b items o h = record { consistent = h.consistent; problem = h.problem; placed = h.placed; within = h.within }
 
 -- What was found by this choice.
 abbrev pub found_next : OpenMap → PartialMap → OpenMap
 found_next o q = record { done = o.done + 1; choice = 0; given = q }
 
-placed_or_now : (a b : Skeleton) (items : List Item) (o : OpenMap) (i : Item) (q : PartialMap) → IsOpen a b items o → IsExtended (Takes a b i o.choice) o.given q → (item : Item) →
+placed_or_now : (a b : Skeleton) (items : List Item) (o : OpenMap) (i : Item) (q : PartialMap) → IsOpenMap a b items o → IsExtended (TakesItem a b i o.choice) o.given q → (item : Item) →
     IsIn item (take o.done items) ⊎ IsIn item (i ∷ []) → IsPlaced a b q item
 placed_or_now a b items o i q h k item (inl p) = let r = h.placed item p in (r.0, λ f follows. r.1 f (k.extends f follows))
 placed_or_now a b items o i q h k item (inr here) = (o.choice, k.sound)
 placed_or_now a b items o i q h k item (inr (there p)) = elim p [ ]
 
-found_open : (a b : Skeleton) (items : List Item) (o : OpenMap) (i : Item) (q : PartialMap) → item_at items o.done ≡ Some i → IsOpen a b items o → IsExtended (Takes a b i o.choice) o.given q →
-    IsOpen a b items (found_next o q)
+found_open : (a b : Skeleton) (items : List Item) (o : OpenMap) (i : Item) (q : PartialMap) → item_at items o.done ≡ Some i → IsOpenMap a b items o → IsExtended (TakesItem a b i o.choice) o.given q →
+    IsOpenMap a b items (found_next o q)
 found_open a b items o i q at h k = record {
   consistent = k.consistent h.consistent;
   problem = λ f follows. h.problem f (k.extends f follows);
@@ -153,44 +153,44 @@ found_open a b items o i q at h k = record {
 }
 
 open_more : (a b : Skeleton) (items : List Item) (old more : List OpenMap) → AreOpen a b items old → AreOpen a b items more → AreOpen a b items (old ++ more)
-open_more a b items old more first second o p = elim (in_append old more p) as (λ _. IsOpen a b items o) [
+open_more a b items old more first second o p = elim (in_append old more p) as (λ _. IsOpenMap a b items o) [
   | inl q ↦ first o q
   | inr q ↦ second o q
 ]
 
-one_open : (a b : Skeleton) (items : List Item) (o : OpenMap) → IsOpen a b items o → AreOpen a b items (o ∷ [])
+one_open : (a b : Skeleton) (items : List Item) (o : OpenMap) → IsOpenMap a b items o → AreOpen a b items (o ∷ [])
 one_open a b items o h p here = h
 one_open a b items o h p (there q) = elim q [ ]
 
-two_open : (a b : Skeleton) (items : List Item) (o p : OpenMap) → IsOpen a b items o → IsOpen a b items p → AreOpen a b items (o ∷ p ∷ [])
+two_open : (a b : Skeleton) (items : List Item) (o p : OpenMap) → IsOpenMap a b items o → IsOpenMap a b items p → AreOpen a b items (o ∷ p ∷ [])
 two_open a b items o p h k q here = h
 two_open a b items o p h k q (there r) = one_open a b items p k q r
 
 -- A map that can be found either takes this choice or a later one.
 this_or_later : (a b : Skeleton) (items : List Item) (o : OpenMap) (i : Item) → item_at items o.done ≡ Some i → (f : SkeletonMap) → IsWithin a b items f o →
-    Takes a b i o.choice f ⊎ IsWithin a b items f (tried o)
+    TakesItem a b i o.choice f ⊎ IsWithin a b items f (tried o)
 this_or_later a b items o i at f w =
     let t = subst (λ (is : List Item). TakesFrom a b is o.choice f) (next_item items o.done i at) w.1 in
-    elim (eq-or-lt_of_le t.1) as (λ _. Takes a b i o.choice f ⊎ IsWithin a b items f (tried o)) [
-      | inl e ↦ inl (subst (λ (image : ℕ). Takes a b i image f) (sym e) t.3)
+    elim (eq-or-lt_of_le t.1) as (λ _. TakesItem a b i o.choice f ⊎ IsWithin a b items f (tried o)) [
+      | inl e ↦ inl (subst (λ (image : ℕ). TakesItem a b i image f) (sym e) t.3)
       | inr l ↦ inr (w.0, subst (λ (is : List Item). TakesFrom a b is (o.choice + 1) f) (sym (next_item items o.done i at)) (t.0, omega (arith, l), t.2, t.3))
     ]
 
-steps_at : (b : Skeleton) (items : List Item) (o : OpenMap) (i : Item) → item_at items o.done ≡ Some i → steps_of b items o ≡ suc ((count_of i.kind b - o.choice) * suc (steps_left b (drop (o.done + 1) items) 0))
+steps_at : (b : Skeleton) (items : List Item) (o : OpenMap) (i : Item) → item_at items o.done ≡ Some i → steps_of b items o ≡ suc ((item_count i.kind b - o.choice) * suc (steps_left b (drop (o.done + 1) items) 0))
 steps_at b items o i at = ap (λ (is : List Item). steps_left b is o.choice) (next_item items o.done i at)
 
-fewer : (b : Skeleton) (items : List Item) (o : OpenMap) (i : Item) → item_at items o.done ≡ Some i → o.choice < count_of i.kind b →
+fewer : (b : Skeleton) (items : List Item) (o : OpenMap) (i : Item) → item_at items o.done ≡ Some i → o.choice < item_count i.kind b →
     (steps_of b items (tried o) + steps_left b (drop (o.done + 1) items) 0) < steps_of b items o
 fewer b items o i at l =
     let e = steps_at b items o i at in
     let g = steps_at b items (tried o) i at in
-    let m = choice_less (count_of i.kind b) o.choice (steps_left b (drop (o.done + 1) items) 0) l in
+    let m = choice_less (item_count i.kind b) o.choice (steps_left b (drop (o.done + 1) items) 0) l in
     omega (arith, e, g, m)
 
-module _ (a b : Skeleton) (items : List Item) (o : OpenMap) (old : List OpenMap) (i : Item) (at : item_at items o.done ≡ Some i) (l : o.choice < count_of i.kind b) (h : IsOpen a b items o) (are : AreOpen a b items old)
+module _ (a b : Skeleton) (items : List Item) (o : OpenMap) (old : List OpenMap) (i : Item) (at : item_at items o.done ≡ Some i) (l : o.choice < item_count i.kind b) (h : IsOpenMap a b items o) (are : AreOpen a b items old)
     (among : AreItemsOf a items) (order : IsOrdered a) (other : IsOrdered b) where
   -- Nothing is found by this choice.
-  choice_fails : IsNever (λ f. KeepsOrderApart a b f × Takes a b i o.choice f) o.given → TakePlace a b items o old (old ++ (tried o ∷ []))
+  choice_fails : IsOfNoExtension (λ f. KeepsOrderApart a b f × TakesItem a b i o.choice f) o.given → TakePlace a b items o old (old ++ (tried o ∷ []))
   choice_fails never = record {
     are_open = open_more a b items old (tried o ∷ []) are (one_open a b items (tried o) (tried_open a b items o h));
     none_lost = λ f embeds w. elim (front_or_last a b items f o old w) as (λ _. IsWithinSome a b items f (old ++ (tried o ∷ []))) [
@@ -204,12 +204,12 @@ module _ (a b : Skeleton) (items : List Item) (o : OpenMap) (old : List OpenMap)
         omega (arith, e, g, m);
   }
     where
-      later : (f : SkeletonMap) → IsEmbedding a b f → IsWithin a b items f o → Takes a b i o.choice f ⊎ IsWithin a b items f (tried o) → IsWithinSome a b items f (old ++ (tried o ∷ []))
+      later : (f : SkeletonMap) → IsEmbedding a b f → IsWithin a b items f o → TakesItem a b i o.choice f ⊎ IsWithin a b items f (tried o) → IsWithinSome a b items f (old ++ (tried o ∷ []))
       later f embeds p (inl t) = absurd (never f p.0 (record { apart = embedding_apart a b f embeds; pairs = embedding_pairs a b f order other embeds }, t))
       later f embeds p (inr q) = in_more a b items f old (tried o ∷ []) (tried o) here q
 
   -- This is found by it.
-  choice_works : (q : PartialMap) → IsExtended (Takes a b i o.choice) o.given q → TakePlace a b items o old (old ++ (tried o ∷ found_next o q ∷ []))
+  choice_works : (q : PartialMap) → IsExtended (TakesItem a b i o.choice) o.given q → TakePlace a b items o old (old ++ (tried o ∷ found_next o q ∷ []))
   choice_works q k = record {
     are_open = open_more a b items old (tried o ∷ found_next o q ∷ []) are
         (two_open a b items (tried o) (found_next o q) (tried_open a b items o h) (found_open a b items o i q at h k));
@@ -224,7 +224,7 @@ module _ (a b : Skeleton) (items : List Item) (o : OpenMap) (old : List OpenMap)
         omega (arith, e, g, m);
   }
     where
-      later : (f : SkeletonMap) → IsEmbedding a b f → IsWithin a b items f o → Takes a b i o.choice f ⊎ IsWithin a b items f (tried o) →
+      later : (f : SkeletonMap) → IsEmbedding a b f → IsWithin a b items f o → TakesItem a b i o.choice f ⊎ IsWithin a b items f (tried o) →
           IsWithinSome a b items f (old ++ (tried o ∷ found_next o q ∷ []))
       later f embeds p (inl t) =
           in_more a b items f old (tried o ∷ found_next o q ∷ []) (found_next o q) (there here)
@@ -251,7 +251,7 @@ module _ (a b : Skeleton) (items : List Item) (o : OpenMap) (old : List OpenMap)
       placed_now placed item (inr here) = placed
       placed_now placed item (inr (there p)) = elim p [ ]
 
-      placed_open : IsPlaced a b o.given i → IsOpen a b items (placed_map o)
+      placed_open : IsPlaced a b o.given i → IsOpenMap a b items (placed_map o)
       placed_open placed = record {
         consistent = h.consistent;
         problem = h.problem;
@@ -260,7 +260,7 @@ module _ (a b : Skeleton) (items : List Item) (o : OpenMap) (old : List OpenMap)
       }
 
   -- This choice is tried.
-  pub choice_tried : (found : Option Partial) → FindsAmong (KeepsOrderApart a b) (Takes a b i o.choice) o.given found → TakePlace a b items o old (old ++ next_maps o (option_map partial_view found))
+  pub choice_tried : (found : Option Partial) → FindsAmong (KeepsOrderApart a b) (TakesItem a b i o.choice) o.given found → TakePlace a b items o old (old ++ next_maps o (option_map partial_view found))
   choice_tried None never = choice_fails never
   choice_tried (Some q) k = choice_works (partial_view q) k
 
@@ -268,7 +268,7 @@ module _ (a b : Skeleton) (items : List Item) (o : OpenMap) (old : List OpenMap)
 
 module _ (a b : Skeleton) (items : List Item) (o : OpenMap) (i : Item) (at : item_at items o.done ≡ Some i) where
   -- All choices that are left hold for no map.
-  pub none_left_to_try : ArePassed a b i o.given o.choice (count_of i.kind b) → (f : SkeletonMap) → IsEmbedding a b f → IsWithin a b items f o → ⊥
+  pub none_left_to_try : ArePassed a b i o.given o.choice (item_count i.kind b) → (f : SkeletonMap) → IsEmbedding a b f → IsWithin a b items f o → ⊥
   none_left_to_try passed f h w =
       let t = subst (λ (is : List Item). TakesFrom a b is o.choice f) (next_item items o.done i at) w.1 in
       passed t.0 t.1 t.2 f w.0 t.3
@@ -280,7 +280,7 @@ module _ (a b : Skeleton) (items : List Item) (o : OpenMap) (i : Item) (at : ite
         let t = subst (λ (is : List Item). TakesFrom a b is o.choice f) (next_item items o.done i at) w.1 in
         (w.0, subst (λ (is : List Item). TakesFrom a b is n f) (sym (next_item items o.done i at)) (t.0, not_passed t.0 t.1 t.3 (cases_lt t.0 n), t.2, t.3))
       where
-        not_passed : (image : ℕ) → o.choice ≤ image → Takes a b i image f → (image < n) ⊎ (n ≤ image) → n ≤ image
+        not_passed : (image : ℕ) → o.choice ≤ image → TakesItem a b i image f → (image < n) ⊎ (n ≤ image) → n ≤ image
         not_passed image l t (inl k) = absurd (passed image l k f w.0 t)
         not_passed image l t (inr k) = k
 
@@ -289,7 +289,7 @@ module _ (a b : Skeleton) (items : List Item) (o : OpenMap) (i : Item) (at : ite
         let w : ℕ = suc (steps_left b (drop (o.done + 1) items) 0) in
         let e = steps_at b items o i at in
         let g = steps_at b items (from_choice o n) i at in
-        let m : (count_of i.kind b - n) * w ≤ (count_of i.kind b - o.choice) * w = mul-le-mul_right w (omega (arith, l)) in
+        let m : (item_count i.kind b - n) * w ≤ (item_count i.kind b - o.choice) * w = mul-le-mul_right w (omega (arith, l)) in
         omega (arith, e, g, m)
 
     -- What takes the place of the same partial map with a later choice takes its place.
@@ -308,17 +308,17 @@ module _ (a b : Skeleton) (items : List Item) (o : OpenMap) (i : Item) (at : ite
           omega (arith, e, g, m, k);
     }
 
-module _ (a b : Skeleton) (items : List Item) (o : OpenMap) (old : List OpenMap) (i : Item) (at : item_at items o.done ≡ Some i) (h : IsOpen a b items o) (are : AreOpen a b items old)
+module _ (a b : Skeleton) (items : List Item) (o : OpenMap) (old : List OpenMap) (i : Item) (at : item_at items o.done ≡ Some i) (h : IsOpenMap a b items o) (are : AreOpen a b items old)
     (among : AreItemsOf a items) (order : IsOrdered a) (other : IsOrdered b) (n : Choice) (next : IsNextChoice a b i o.given o.choice n) where
   -- The next choice holds for sure.
   pub next_sure : IsTrue n.is_sure → TakePlace a b items o old (old ++ (placed_map o ∷ []))
   next_sure sure =
       let l : o.choice ≤ n.number = next.behind in
-      let k : n.number < count_of i.kind b = next.within in
+      let k : n.number < item_count i.kind b = next.within in
       choice_placed a b items o old i at (omega (arith, l, k)) h are among order other (n.number, next.sure sure)
 
   -- It is tried.
-  pub next_tried : (found : Option Partial) → FindsAmong (KeepsOrderApart a b) (Takes a b i n.number) o.given found →
+  pub next_tried : (found : Option Partial) → FindsAmong (KeepsOrderApart a b) (TakesItem a b i n.number) o.given found →
       TakePlace a b items o old (old ++ next_maps (from_choice o n.number) (option_map partial_view found))
   next_tried found k =
       from_later a b items o i at n.number next.passed old (old ++ next_maps (from_choice o n.number) (option_map partial_view found)) next.behind
@@ -330,7 +330,7 @@ pub first_open : (a b : Skeleton) (items : List Item) (given : PartialMap) → I
 first_open a b items given h = one_open a b items (record { done = 0; choice = 0; given = given })
     (record { consistent = h.consistent; problem = h.problem; placed = λ item p. elim p [ ]; within = omega arith })
 
-pub first_within : (a b : Skeleton) (items : List Item) (given : PartialMap) → AreItemsOf a items → (f : SkeletonMap) → IsEmbedding a b f → Follows f given →
+pub first_within : (a b : Skeleton) (items : List Item) (given : PartialMap) → AreItemsOf a items → (f : SkeletonMap) → IsEmbedding a b f → ExtendsPartial f given →
     IsWithinSome a b items f (record { done = 0; choice = 0; given = given } ∷ [])
 first_within a b items given among f embeds follows = record {
   place = record { done = 0; choice = 0; given = given };
@@ -343,7 +343,7 @@ first_within a b items given among f embeds follows = record {
 pub popped : (xs ys : List Branch) (o : Branch) → xs ≡ ys ++ (o ∷ []) → branches_view xs ≡ branches_view ys ++ (branch_view o ∷ [])
 popped xs ys o e = ap branches_view e ∙ map-append branch_view ys (o ∷ [])
 
-pub last_open : (a b : Skeleton) (items : List Item) (os : List OpenMap) (o : OpenMap) → AreOpen a b items (os ++ (o ∷ [])) → IsOpen a b items o
+pub last_open : (a b : Skeleton) (items : List Item) (os : List OpenMap) (o : OpenMap) → AreOpen a b items (os ++ (o ∷ [])) → IsOpenMap a b items o
 last_open a b items os o are = are o (in_append_right os here)
 
 pub front_open : (a b : Skeleton) (items : List Item) (os : List OpenMap) (o : OpenMap) → AreOpen a b items (os ++ (o ∷ [])) → AreOpen a b items os

@@ -5,7 +5,7 @@ use Rattle.cp_model.specs.Term.{AtomTerm, Term, Substitution, apply_to_atom, app
 use Rattle.cp_model.specs.Strand.{Event, payload, Role, prefix_of}
 use Rattle.cp_model.specs.Skeleton.{SkeletonStrand, instance, listener, UniqueAt, Skeleton}
 use Rattle.cp_model.specs.declared.node.OrderPair.{OrderPair}
-use Rattle.cp_model.specs.Order.{LeadsTo}
+use Rattle.cp_model.specs.Order.{ReachesAlong}
 use Rattle.cp_model.specs.Homomorphism.{SkeletonMap, mapped}
 use Rattle.cp_hom.specs.PartialMaps.{image_in}
 use Rattle.cp_hom.specs.declared.partials.Placement.{Placement}
@@ -66,19 +66,19 @@ TakesAs NonOriginating a b i image f = BecomesAtom a.assumptions.non_originating
 TakesAs PenetratorNonOriginating a b i image f = BecomesAtom a.assumptions.penetrator_non_originating b.assumptions.penetrator_non_originating i image f
 TakesAs Uniques a b i image f = BecomesUnique a.assumptions.uniquely_originating b.assumptions.uniquely_originating i image f
 
-abbrev pub Takes : Skeleton → Skeleton → Item → ℕ → SkeletonMap → Type 0
-Takes a b item image f = TakesAs item.kind a b item.index image f
+abbrev pub TakesItem : Skeleton → Skeleton → Item → ℕ → SkeletonMap → Type 0
+TakesItem a b item image f = TakesAs item.kind a b item.index image f
 
 -- How many items of a kind a skeleton has.
-abbrev pub count_of : Kind → Skeleton → ℕ
-count_of Strands k = length k.strands
-count_of NonOriginating k = length k.assumptions.non_originating
-count_of PenetratorNonOriginating k = length k.assumptions.penetrator_non_originating
-count_of Uniques k = length k.assumptions.uniquely_originating
+abbrev pub item_count : Kind → Skeleton → ℕ
+item_count Strands k = length k.strands
+item_count NonOriginating k = length k.assumptions.non_originating
+item_count PenetratorNonOriginating k = length k.assumptions.penetrator_non_originating
+item_count Uniques k = length k.assumptions.uniquely_originating
 
 -- The item is one of the skeleton.
 abbrev pub IsItemOf : Skeleton → Item → Type 0
-IsItemOf k i = i.index < count_of i.kind k
+IsItemOf k i = i.index < item_count i.kind k
 
 -- The items are those of the skeleton; one may be listed twice.
 pub record AreItemsOf (k : Skeleton) (items : List Item) : Type 0 where
@@ -96,7 +96,7 @@ pub record AddsFirst (kind : Kind) (n : ℕ) (k : Skeleton) (old new : List Item
   pub all : (i : ℕ) → i < n → IsIn {A = Item} (record { kind = kind; index = i }) new
 
 abbrev pub AddsAll : Kind → Skeleton → List Item → List Item → Type 0
-AddsAll kind k = AddsFirst kind (count_of kind k) k
+AddsAll kind k = AddsFirst kind (item_count kind k) k
 
 -- What the map does with what comes from the problem: it makes what the first has what the second has.
 pub record KeepsProblem (a b : Skeleton) (f : SkeletonMap) : Type 0 where
@@ -139,15 +139,15 @@ pub record IsBlocked (strands : List SkeletonStrand) (item : Item) (image : ℕ)
   pub taken : IsTaken strands item.index image placements
 
 -- The item is a strand that is placed, and goes elsewhere.
-pub record IsElsewhere (item : Item) (image : ℕ) (placements : List Placement) : Type 0 where
+pub record IsPlacedElsewhere (item : Item) (image : ℕ) (placements : List Placement) : Type 0 where
   pub strand : item.kind ≡ Strands
   pub other : ℕ
   pub placed : image_in placements item.index ≡ Some other
   pub elsewhere : other ≢ image
 
--- The image of the pair is kept: its earlier node leads to its later one, another, along the pairs.
+-- The image of the pair is kept: its earlier node reaches its later one, another, along the pairs.
 abbrev pub IsKeptBy : List OrderPair → SkeletonMap → OrderPair → Type 0
-IsKeptBy pairs f p = LeadsTo pairs (mapped f p.earlier) (mapped f p.later) × (mapped f p.earlier ≢ mapped f p.later)
+IsKeptBy pairs f p = ReachesAlong pairs (mapped f p.earlier) (mapped f p.later) × (mapped f p.earlier ≢ mapped f p.later)
 
 abbrev pub KeepsPairs : List OrderPair → List OrderPair → SkeletonMap → Type 0
 KeepsPairs ps pairs f = (p : OrderPair) → IsIn p ps → IsKeptBy pairs f p

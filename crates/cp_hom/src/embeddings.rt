@@ -39,7 +39,7 @@ fn embed_by_search(alloc: Global, a: &Skeleton, b: &Skeleton) -> Result<Option<M
 }
 
 /// Whether each of two skeletons embeds in the other. This omits the first test that counts the strands of each role: callers
-/// mostly pass skeletons whose fingerprints agree.
+/// mostly pass skeletons whose signatures agree.
 pub fn isomorphic(alloc: Global, a: &Skeleton, b: &Skeleton) -> Result<bool, AllocError>
     ensures exact { IfOk result (λ same. IsTrue same ↔ IsIsomorphic (skeleton_view a.now) (skeleton_view b.now)) }
 {

@@ -2,7 +2,7 @@
 ghost use Rattle.std.specs.Prelude.{◌≡◌, map, IfOk};
 ghost use Rattle.cp_model.specs.Term.{apply_to};
 ghost use Rattle.cp_skel.specs.View.{skeleton_view};
-ghost use Rattle.cp_hom.specs.PartialMaps.{partial_view, nothing, Finds};
+ghost use Rattle.cp_hom.specs.PartialMaps.{partial_view, nothing, FindsMaps};
 ghost use Rattle.cp_hom.specs.Counterparts.{KeepsProblem};
 
 use crate::partials::{Partial, match_numbers, match_terms};
@@ -16,7 +16,7 @@ fn match_number_lists(
     others: &[usize],
     given: Partial,
 ) -> Result<Option<Partial>, AllocError>
-    ensures { IfOk result (Finds (λ f. map f.strands strands.now ≡ others.now) (partial_view given)) }
+    ensures { IfOk result (FindsMaps (λ f. map f.strands strands.now ≡ others.now) (partial_view given)) }
 {
     if strands.len() != others.len() {
         return Ok(None);
@@ -38,7 +38,7 @@ fn match_term_lists(
     others: &[Term],
     given: Partial,
 ) -> Result<Option<Partial>, AllocError>
-    ensures { IfOk result (Finds (λ f. map (apply_to f.terms) terms.now ≡ others.now) (partial_view given)) }
+    ensures { IfOk result (FindsMaps (λ f. map (apply_to f.terms) terms.now ≡ others.now) (partial_view given)) }
 {
     if terms.len() != others.len() {
         return Ok(None);
@@ -59,7 +59,7 @@ pub(crate) fn start(
     a: &Skeleton,
     b: &Skeleton,
 ) -> Result<Option<Partial>, AllocError>
-    ensures { IfOk result (Finds (KeepsProblem (skeleton_view a.now) (skeleton_view b.now)) nothing) }
+    ensures { IfOk result (FindsMaps (KeepsProblem (skeleton_view a.now) (skeleton_view b.now)) nothing) }
 {
     let first = a.from_problem();
     let second = b.from_problem();

@@ -1,7 +1,7 @@
 // The parts of a skeleton that an embedding maps to parts of another.
 ghost use Rattle.std.specs.Prelude.{◌≡◌, IfOk, OnOk};
 ghost use Rattle.cp_skel.specs.View.{skeleton_view};
-ghost use Rattle.cp_hom.specs.Counterparts.{count_of, AreItemsOf, AddsItems, AddsAll};
+ghost use Rattle.cp_hom.specs.Counterparts.{item_count, AreItemsOf, AddsItems, AddsAll};
 
 use crate::sharing_strands::shares_all;
 use cp_fingerprint::places_of;
@@ -26,7 +26,7 @@ pub(crate) struct Item {
 
 /// The number of items of a kind that a skeleton has.
 pub(crate) fn count(kind: Kind, k: &Skeleton) -> usize
-    ensures { result ≡ count_of kind (skeleton_view k.now) }
+    ensures { result ≡ item_count kind (skeleton_view k.now) }
 {
     match kind {
         Kind::Strands => k.strands().len(),

@@ -1,15 +1,15 @@
 // Tests whether maps keep role strands apart and keep the order.
 ghost use Rattle.std.specs.Prelude.{◌≡◌, ◌≢◌, ◌↔◌, map, IsTrue, IfOk};
-ghost use Rattle.cp_model.specs.Order.{IsAtOrAfter, LeadsTo};
+ghost use Rattle.cp_model.specs.Order.{IsAtOrAfter, ReachesAlong};
 ghost use Rattle.cp_strand.specs.View.{strand_view};
 ghost use Rattle.cp_hom.specs.Maps.{map_view};
-ghost use Rattle.cp_hom.specs.Counterparts.{IsRoleStrand, HoldsImage, IsTaken, IsBlocked, IsElsewhere, MeetsEarlier, KeepsApart, KeepsPairs};
+ghost use Rattle.cp_hom.specs.Counterparts.{IsRoleStrand, HoldsImage, IsTaken, IsBlocked, IsPlacedElsewhere, MeetsEarlier, KeepsApart, KeepsPairs};
 
 use crate::items::{Item, Kind};
 use crate::numbered_items::strand_at;
 use crate::partials::{Placement, image_of};
 use crate::strand_map::Map;
-use cp_skel::{Leading, Node, OrderPair, Strand, StrandShape};
+use cp_skel::{Node, OrderPair, Predecessors, Strand, StrandShape};
 use std::alloc::{AllocError, Global};
 
 /// Whether a strand is an instance of a role.
@@ -59,7 +59,7 @@ pub(crate) fn is_blocked(
 
 /// Whether an item is a strand that is placed at another image.
 pub(crate) fn is_elsewhere(item: Item, image: usize, placements: &[Placement]) -> bool
-    ensures { IsTrue result ↔ IsElsewhere item image placements.now }
+    ensures { IsTrue result ↔ IsPlacedElsewhere item image placements.now }
 {
     if item.kind != Kind::Strands {
         return false;
@@ -112,7 +112,7 @@ fn is_same_node(x: Node, y: Node) -> bool
     x.strand == y.strand && x.index == y.index
 }
 
-/// Whether a node leads to another over this pair: it is at or before the pair's earlier node, and the pair's later node is at or
+/// Whether a node reaches another over this pair: it is at or before the pair's earlier node, and the pair's later node is at or
 /// before the other.
 fn leads_over(pair: &OrderPair, x: Node, y: Node) -> bool
     ensures { IsTrue result ↔ (IsAtOrAfter x pair.now.earlier × IsAtOrAfter pair.now.later y) }
@@ -123,9 +123,9 @@ fn leads_over(pair: &OrderPair, x: Node, y: Node) -> bool
         && pair.later.index <= y.index
 }
 
-/// Fast test: true only if a node leads to another along strands and these pairs. It looks at each pair alone.
+/// Fast test: true only if a node reaches another along strands and these pairs. It looks at each pair alone.
 fn leads_over_one(pairs: &[OrderPair], x: Node, y: Node) -> bool
-    ensures { IsTrue result → LeadsTo pairs.now x y }
+    ensures { IsTrue result → ReachesAlong pairs.now x y }
 {
     for pair in pairs {
         if leads_over(pair, x, y) {
@@ -135,7 +135,7 @@ fn leads_over_one(pairs: &[OrderPair], x: Node, y: Node) -> bool
     false
 }
 
-/// Whether a node leads to a different one along strands and these pairs.
+/// Whether a node reaches a different one along strands and these pairs.
 pub(crate) fn leads_to_another(
     alloc: Global,
     pairs: &[OrderPair],
@@ -143,20 +143,20 @@ pub(crate) fn leads_to_another(
     y: Node,
 ) -> Result<bool, AllocError>
     ensures { IfOk result (λ leads. IsTrue leads
-        ↔ (LeadsTo pairs.now x y × (x ≢ y))) }
+        ↔ (ReachesAlong pairs.now x y × (x ≢ y))) }
 {
     if is_same_node(x, y) {
         return Ok(false);
     }
-    // Most pairs map to pairs; then the nodes that lead to a node need not be gathered.
+    // Most pairs map to pairs; then the predecessors of a node need not be gathered.
     if leads_over_one(pairs, x, y) {
         return Ok(true);
     }
-    let leading = Leading::new(alloc, pairs, y)?;
+    let leading = Predecessors::new(alloc, pairs, y)?;
     Ok(leading.has(x))
 }
 
-/// Whether the map keeps the pairs: in each image the earlier node leads to the later one, a different one, along the other
+/// Whether the map keeps the pairs: in each image the earlier node reaches the later one, a different one, along the other
 /// pairs.
 pub(crate) fn keeps_pairs(
     alloc: Global,

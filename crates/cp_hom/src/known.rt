@@ -4,7 +4,7 @@ ghost use Rattle.cp_model.specs.Term.{Substitution, apply_to};
 ghost use Rattle.cp_strand.specs.View.{strand_view};
 ghost use Rattle.cp_skel.specs.View.{skeleton_view};
 ghost use Rattle.cp_hom.specs.PartialMaps.{partial_view, IsKnown};
-ghost use Rattle.cp_hom.specs.Counterparts.{MakesPart, GoesToStrand, BecomesAtom, BecomesUnique, count_of, Takes};
+ghost use Rattle.cp_hom.specs.Counterparts.{MakesPart, GoesToStrand, BecomesAtom, BecomesUnique, item_count, TakesItem};
 ghost use Rattle.cp_hom.specs.Choices.{ArePassed, IsNextChoice};
 
 use crate::items::{Item, Kind, count};
@@ -131,7 +131,7 @@ fn known_place(
     image: usize,
     given: &Partial,
 ) -> Option<bool>
-    ensures { IsKnown (Takes (skeleton_view a.now) (skeleton_view b.now) item image) given.now result }
+    ensures { IsKnown (TakesItem (skeleton_view a.now) (skeleton_view b.now) item image) given.now result }
 {
     let index = item.index;
     let assumed = a.assumptions();
@@ -163,7 +163,7 @@ pub(crate) fn next_choice(
     given: &Partial,
 ) -> Option<Choice>
     ensures { MatchOption result
-        (ArePassed (skeleton_view a.now) (skeleton_view b.now) item (partial_view given.now) from (count_of item.kind (skeleton_view b.now)))
+        (ArePassed (skeleton_view a.now) (skeleton_view b.now) item (partial_view given.now) from (item_count item.kind (skeleton_view b.now)))
         (IsNextChoice (skeleton_view a.now) (skeleton_view b.now) item (partial_view given.now) from) }
 {
     for number in from..count(item.kind, b) {

@@ -3,7 +3,7 @@ ghost use Rattle.std.specs.Prelude.{◌≡◌, ◌==◌, ℕ, if◌then◌else�
 ghost use Rattle.cp_model.specs.Homomorphism.{strand_in, number_or};
 ghost use Rattle.cp_model.specs.Term.{apply_to};
 ghost use Rattle.cp_hom.specs.Maps.{map_view};
-ghost use Rattle.cp_hom.specs.PartialMaps.{partial_view, nothing, image_in, map_of, Finds};
+ghost use Rattle.cp_hom.specs.PartialMaps.{partial_view, nothing, image_in, map_of, FindsMaps};
 
 use crate::strand_map::Map;
 use cp_term::Term;
@@ -69,7 +69,7 @@ pub(crate) fn match_numbers(
     image: usize,
     given: Partial,
 ) -> Result<Option<Partial>, AllocError>
-    ensures { IfOk result (Finds (λ f. f.strands strand ≡ image) (partial_view given)) }
+    ensures { IfOk result (FindsMaps (λ f. f.strands strand ≡ image) (partial_view given)) }
 {
     match image_of(&given.placements, strand) {
         Some(other) => {
@@ -97,7 +97,7 @@ pub(crate) fn match_terms(
     to: &Term,
     given: Partial,
 ) -> Result<Option<Partial>, AllocError>
-    ensures { IfOk result (Finds (λ f. apply_to f.terms from.now ≡ to.now) (partial_view given)) }
+    ensures { IfOk result (FindsMaps (λ f. apply_to f.terms from.now ≡ to.now) (partial_view given)) }
 {
     match matching_beside(alloc, from, to, given.values)? {
         Some(values) => Ok(Some(Partial {

@@ -2,8 +2,8 @@
 ghost use Rattle.std.specs.Prelude.{map, IfOk};
 ghost use Rattle.cp_strand.specs.View.{strand_view};
 ghost use Rattle.cp_skel.specs.View.{skeleton_view};
-ghost use Rattle.cp_hom.specs.PartialMaps.{partial_view, Finds};
-ghost use Rattle.cp_hom.specs.Counterparts.{GoesToStrand, BecomesAtom, BecomesUnique, Takes};
+ghost use Rattle.cp_hom.specs.PartialMaps.{partial_view, FindsMaps};
+ghost use Rattle.cp_hom.specs.Counterparts.{GoesToStrand, BecomesAtom, BecomesUnique, TakesItem};
 
 use crate::items::{Item, Kind};
 use crate::numbered_items::{atom_at, strand_at, unique_at};
@@ -21,7 +21,7 @@ fn place_strand(
     image: usize,
     given: Partial,
 ) -> Result<Option<Partial>, AllocError>
-    ensures { IfOk result (Finds (GoesToStrand (map strand_view strands.now) (map strand_view others.now) strand image) (partial_view given)) }
+    ensures { IfOk result (FindsMaps (GoesToStrand (map strand_view strands.now) (map strand_view others.now) strand image) (partial_view given)) }
 {
     let Some(from) = strand_at(strands, strand) else {
         return Ok(None);
@@ -44,7 +44,7 @@ fn place_atom(
     image: usize,
     given: Partial,
 ) -> Result<Option<Partial>, AllocError>
-    ensures { IfOk result (Finds (BecomesAtom atoms.now others.now index image) (partial_view given)) }
+    ensures { IfOk result (FindsMaps (BecomesAtom atoms.now others.now index image) (partial_view given)) }
 {
     let Some(from) = atom_at(atoms, index) else {
         return Ok(None);
@@ -64,7 +64,7 @@ fn place_unique(
     image: usize,
     given: Partial,
 ) -> Result<Option<Partial>, AllocError>
-    ensures { IfOk result (Finds (BecomesUnique uniques.now others.now index image) (partial_view given)) }
+    ensures { IfOk result (FindsMaps (BecomesUnique uniques.now others.now index image) (partial_view given)) }
 {
     let Some(from) = unique_at(uniques, index) else {
         return Ok(None);
@@ -92,7 +92,7 @@ pub(crate) fn place(
     image: usize,
     given: Partial,
 ) -> Result<Option<Partial>, AllocError>
-    ensures { IfOk result (Finds (Takes (skeleton_view a.now) (skeleton_view b.now) item image) (partial_view given)) }
+    ensures { IfOk result (FindsMaps (TakesItem (skeleton_view a.now) (skeleton_view b.now) item image) (partial_view given)) }
 {
     let index = item.index;
     match item.kind {

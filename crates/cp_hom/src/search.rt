@@ -6,8 +6,8 @@ ghost use Rattle.cp_skel.specs.Ordered.{IsOrdered};
 ghost use Rattle.cp_skel.specs.View.{skeleton_view};
 ghost use Rattle.cp_hom.specs.Maps.{map_view};
 ghost use Rattle.cp_hom.specs.PartialMaps.{partial_view, FindsAmong};
-ghost use Rattle.cp_hom.specs.Counterparts.{Takes, AreItemsOf, KeepsOrderApart};
-ghost use Rattle.cp_hom.specs.OpenMaps.{branch_view, branches_view, next_maps, from_choice, placed_map, IsStarted, IsWhole, NeverEmbeds, IsOpen, AreOpen, TakePlace};
+ghost use Rattle.cp_hom.specs.Counterparts.{TakesItem, AreItemsOf, KeepsOrderApart};
+ghost use Rattle.cp_hom.specs.OpenMaps.{branch_view, branches_view, next_maps, from_choice, placed_map, IsStarted, IsWholeMap, NeverEmbeds, IsOpenMap, AreOpen, TakePlace};
 
 use crate::broken::breaks_order;
 use crate::items::{Item, count};
@@ -37,7 +37,7 @@ fn finish(
 ) -> Result<Option<Map>, AllocError>
     requires ordered { IsOrdered (skeleton_view a.now) }
     requires other_ordered { IsOrdered (skeleton_view b.now) }
-    requires whole { IsWhole (skeleton_view a.now) (skeleton_view b.now) (partial_view given) }
+    requires whole { IsWholeMap (skeleton_view a.now) (skeleton_view b.now) (partial_view given) }
     ensures some { IfOk result (λ found. IfSome found (λ f. IsEmbedding (skeleton_view a.now) (skeleton_view b.now) (map_view f))) }
     ensures none { IfOk result (λ found. IfNone found (NeverEmbeds (skeleton_view a.now) (skeleton_view b.now) (partial_view given))) }
 {
@@ -91,7 +91,7 @@ fn try_choice(
     given: &Partial,
 ) -> Result<Option<Partial>, AllocError>
     ensures { IfOk result (FindsAmong (KeepsOrderApart (skeleton_view a.now) (skeleton_view b.now))
-        (Takes (skeleton_view a.now) (skeleton_view b.now) item choice) (partial_view given.now)) }
+        (TakesItem (skeleton_view a.now) (skeleton_view b.now) item choice) (partial_view given.now)) }
 {
     if is_blocked(a.strands(), item, choice, &given.placements) {
         return Ok(None);
@@ -155,7 +155,7 @@ fn advance(
     requires ordered { IsOrdered (skeleton_view a.now) }
     requires other_ordered { IsOrdered (skeleton_view b.now) }
     requires items { AreItemsOf (skeleton_view a.now) items.now }
-    requires branch { IsOpen (skeleton_view a.now) (skeleton_view b.now) items.now (branch_view branch) }
+    requires branch { IsOpenMap (skeleton_view a.now) (skeleton_view b.now) items.now (branch_view branch) }
     requires branches { AreOpen (skeleton_view a.now) (skeleton_view b.now) items.now (branches_view branches.old.items) }
     ensures some { IfOk result (λ found. IfSome found (λ f. IsEmbedding (skeleton_view a.now) (skeleton_view b.now) (map_view f))) }
     ensures none { IfOk result (λ found. IfNone found (TakePlace (skeleton_view a.now) (skeleton_view b.now) items.now

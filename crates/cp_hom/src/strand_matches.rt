@@ -3,7 +3,7 @@ ghost use Rattle.std.specs.Prelude.{◌≡◌, ◌≤◌, length, map, IfOk};
 ghost use Rattle.cp_model.specs.Homomorphism.{substitution_by};
 ghost use Rattle.cp_model.specs.Term.{apply_to};
 ghost use Rattle.cp_strand.specs.View.{event_view, strand_view};
-ghost use Rattle.cp_hom.specs.PartialMaps.{partial_view, Finds};
+ghost use Rattle.cp_hom.specs.PartialMaps.{partial_view, FindsMaps};
 ghost use Rattle.cp_hom.specs.Counterparts.{MakesEvents, MakesMessages, MakesPart};
 
 use crate::partials::{Partial, match_terms};
@@ -19,7 +19,7 @@ fn match_event(
     to: &[Term],
     given: Partial,
 ) -> Result<Option<Partial>, AllocError>
-    ensures { IfOk result (Finds
+    ensures { IfOk result (FindsMaps
         (λ f. apply_to f.terms (apply_to (substitution_by from.now) message.now) ≡ apply_to (substitution_by to.now) message.now)
         (partial_view given)) }
 {
@@ -36,7 +36,7 @@ fn match_events(
     to: &[Term],
     given: Partial,
 ) -> Result<Option<Partial>, AllocError>
-    ensures { IfOk result (Finds
+    ensures { IfOk result (FindsMaps
         (λ f. MakesEvents f.terms (map event_view events.now) (substitution_by from.now) (substitution_by to.now))
         (partial_view given)) }
 {
@@ -58,7 +58,7 @@ fn match_messages(
     given: Partial,
 ) -> Result<Option<Partial>, AllocError>
     requires { length events.now ≤ length others.now }
-    ensures { IfOk result (Finds
+    ensures { IfOk result (FindsMaps
         (λ f. MakesMessages f.terms (map event_view events.now) (map event_view others.now))
         (partial_view given)) }
 {
@@ -84,7 +84,7 @@ pub(crate) fn match_strands(
     to: &Strand,
     given: Partial,
 ) -> Result<Option<Partial>, AllocError>
-    ensures { IfOk result (Finds (λ f. MakesPart f.terms (strand_view from.now) (strand_view to.now)) (partial_view given)) }
+    ensures { IfOk result (FindsMaps (λ f. MakesPart f.terms (strand_view from.now) (strand_view to.now)) (partial_view given)) }
 {
     match (from.shape(), to.shape()) {
         (StrandShape::Instance(first), StrandShape::Instance(second)) => {

@@ -1,7 +1,7 @@
 // The test of a text that was sent under a key, and the pattern that guards it.
 use crate::stated::{skeleton_of, text};
-use cp_guarding::{all_within, is_guarded, is_test};
 use cp_model::Node;
+use cp_pattern::{all_within, is_guarded, is_test};
 use cp_skel::{Skeleton, StrandShape};
 use cp_term::{Locals, Pattern, Sort, Term, VarId, enc, var};
 use std::alloc::{AllocError, Global};

@@ -9,7 +9,7 @@ use Rattle.cp_language.specs.Faults.{place_of}
 use Rattle.cp_language.specs.Roles.{text_of_symbol}
 use Rattle.cp_report.specs.Misfits.{misfit, misfit_unless, unless_misfit, where_fitting, symbol_misfits, entries_misfits}
 use Rattle.cp_report.specs.Labels.{operation_word, is_operation}
-use Rattle.cp_variables.specs.FirstMisfit.{earlier_of, first_onto}
+use Rattle.cp_spelled.specs.FirstMisfit.{earlier_of, first_onto}
 use Rattle.cp_items.specs.Parts.{is_fitting, kinds_behind, operation_item_misfits}
 
 some_found : (p : Place) (qs : List Place) → is_none (first_onto (Some p) qs) ≡ false

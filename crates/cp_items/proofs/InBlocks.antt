@@ -10,10 +10,10 @@ use Rattle.cp_sexpr.specs.declared.form.Form as program
 use Rattle.cp_model.specs.Skeleton.{SkeletonStrand}
 use Rattle.cp_language.specs.Roles.{text_of_symbol}
 use Rattle.cp_language.specs.Problems.{number_of, Problem}
-use Rattle.cp_report.specs.Misfits.{stands_before, misfit, unless_misfit, entries_misfits, symbol_misfits}
-use Rattle.cp_report.specs.Labels.{OperationWord, problem_word, collapsed_word, contracted_word, displaced_word, added_strand_word, added_listener_word, generalised_word, no_operation_word, operation_word, is_operation, operation_kinds, operation_misfits, block_misfits, blocks}
-use Rattle.cp_variables.specs.FirstMisfit.{first_onto}
-use Rattle.cp_forms.proofs.FirstOf.{first_onto-append}
+use Rattle.cp_report.specs.Misfits.{place_before, misfit, unless_misfit, entries_misfits, symbol_misfits}
+use Rattle.cp_report.specs.Labels.{OperationWord, problem_word, collapsed_word, contracted_word, displaced_word, added_strand_word, added_listener_word, generalised_word, no_operation_word, operation_word, is_operation, operation_kinds, operation_misfits, block_misfits, block_checks}
+use Rattle.cp_spelled.specs.FirstMisfit.{first_onto}
+use Rattle.cp_scope.proofs.FirstOf.{first_onto-append}
 use Rattle.cp_items.specs.Parts.{blocks_of, kinds_behind, operation_item_misfits}
 
 -- what is left of mapped forms
@@ -36,7 +36,7 @@ module _ (ns : List ℕ) (at : Place) (fs : List program.Form) where
   block-taken k (suc m) n sum less o all inv f is p noted =
       let rest = entries_misfits (blocks_of ns (suc k) m) at (map view (drop (suc k) fs)) in
       let one : (k + 1) + m ≡ n = omega arith in
-      let now : first_onto p rest ≡ all = ap (λ q. first_onto q rest) noted ∙ sym (first_onto-append stands_before o (block_misfits ns k f) rest)
+      let now : first_onto p rest ≡ all = ap (λ q. first_onto q rest) noted ∙ sym (first_onto-append place_before o (block_misfits ns k f) rest)
       ∙ sym (ap (λ gs. first_onto o (entries_misfits (blocks_of ns k (suc m)) at gs)) (left_of fs k f is)) ∙ inv in
       (m, one, subst (λ i. first_onto p (entries_misfits (blocks_of ns i m) at (map view (drop i fs))) ≡ all) (sym (add-one k)) now)
 
@@ -59,7 +59,7 @@ module _ (ns : List ℕ) (at : Place) (fs : List program.Form) where
       drop_map (suc i) (g ∷ gs) = drop_map i gs
 
 -- the kinds of the entries see only how many strands there are
-pub blocks-counted : (ns : List ℕ) (i : ℕ) (ks : List SkeletonStrand) → blocks_of ns i (length ks) ≡ blocks ns i ks
+pub blocks-counted : (ns : List ℕ) (i : ℕ) (ks : List SkeletonStrand) → blocks_of ns i (length ks) ≡ block_checks ns i ks
 blocks-counted ns i [] = refl
 blocks-counted ns i (k ∷ ks) = ap (λ bs. block_misfits ns i ∷ bs) (blocks-counted ns (suc i) ks)
 

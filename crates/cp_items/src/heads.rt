@@ -6,9 +6,9 @@ ghost use Rattle.cp_language.specs.Problems.{name_in_front};
 ghost use Rattle.cp_report.specs.Heads.{has_head, item_with, mark_heads, up_to_strands, is_of_tree, is_label};
 ghost use Rattle.cp_report.specs.Labels.{items_of_label};
 
-use cp_forms::{first_items, headed, is_word, items_behind, symbol_or_empty};
+use cp_scope::{first_items, headed, is_word, items_behind, symbol_or_empty};
 use cp_sexpr::Form;
-use cp_variables::has_head;
+use cp_spelled::has_head;
 
 /// The heads of marks.
 pub const MARK_HEADS: &[&str] = &["shape", "dead", "seen", "instance-of", "limit"];

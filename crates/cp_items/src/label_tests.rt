@@ -8,18 +8,19 @@ ghost use Rattle.cp_report.specs.Misfits.{each_misfits};
 ghost use Rattle.cp_report.specs.Spelled.{pattern_misfits, pattern_of};
 ghost use Rattle.cp_report.specs.Skeletons.{node_misfits, node_or_first};
 ghost use Rattle.cp_report.specs.Labels.{unrealised_misfits, test_misfits, test_of};
-ghost use Rattle.cp_variables.specs.FirstMisfit.{first_onto};
+ghost use Rattle.cp_spelled.specs.FirstMisfit.{first_onto};
 ghost use Rattle.cp_spelled.specs.Views.{scope_view};
 ghost use Rattle.cp_items.specs.Parts.{escape_item_misfits};
 
 use cp_base::Place;
-use cp_forms::{item_at, items_behind};
+use cp_scope::{item_at, items_behind};
 use cp_sexpr::Form;
 use cp_skel::{Node, Strand, Test};
-use cp_spelled::{Scope, pattern_misfits, pattern_of, term_or_tag};
+use cp_spelled::{
+    FirstMisfit, Scope, Variables, lacking, pattern_misfits, pattern_of, term_or_tag,
+};
 use cp_stated::{node_misfits, node_or_first, one_term_misfits};
 use cp_term::Pattern;
-use cp_variables::{FirstMisfit, Variables, lacking};
 use std::alloc::{AllocError, Global};
 
 /// Each of these forms must be a node that exists.

@@ -6,18 +6,18 @@ ghost use Rattle.cp_language.specs.Problems.{number_of, name_in_front};
 ghost use Rattle.cp_skel.specs.Trees.{operation_view};
 ghost use Rattle.cp_report.specs.Misfits.{any_number_misfits, entries_misfits, symbol_misfits};
 ghost use Rattle.cp_report.specs.Labels.{operation_word, is_operation, makes_root, is_number, block_misfits, node_stated, operation_by};
-ghost use Rattle.cp_variables.specs.FirstMisfit.{first_onto};
+ghost use Rattle.cp_spelled.specs.FirstMisfit.{first_onto};
 ghost use Rattle.cp_items.specs.Parts.{blocks_of, kinds_behind, operation_item_misfits, is_fitting};
 ghost use Rattle.cp_items.specs.Words.{word_view};
 
 use crate::heads::name_in_front;
 use crate::numbers::{number_stated, numbers_of};
 use cp_base::Place;
-use cp_forms::{is_word, item_at, later_items, place_of, symbol_or_empty};
+use cp_scope::{is_word, item_at, later_items, place_of, symbol_or_empty};
 use cp_sexpr::Form;
 use cp_skel::{Node, Operation};
+use cp_spelled::{FirstMisfit, no_more, one_number_misfits};
 use cp_stated::{number_of, two_numbers_misfits};
-use cp_variables::{FirstMisfit, no_more, one_number_misfits};
 use std::alloc::{AllocError, Global};
 
 /// What the word after `by` names.

@@ -3,16 +3,16 @@ ghost use Rattle.std.specs.Prelude.{◌≡◌, map};
 ghost use Rattle.cp_sexpr.specs.View.{view};
 ghost use Rattle.cp_strand.specs.View.{strand_view};
 ghost use Rattle.cp_report.specs.Labels.{index_misfits, operation_place_misfits};
-ghost use Rattle.cp_variables.specs.FirstMisfit.{first_onto};
+ghost use Rattle.cp_spelled.specs.FirstMisfit.{first_onto};
 ghost use Rattle.cp_items.specs.Parts.{node_place_misfits, strand_place_misfits};
 ghost use Rattle.cp_items.specs.Words.{word_view};
 
 use crate::operations::OperationWord;
-use cp_forms::place_of;
+use cp_scope::place_of;
 use cp_sexpr::Form;
 use cp_skel::{Node, Strand};
+use cp_spelled::FirstMisfit;
 use cp_stated::{is_there, number_of, strand_number_misfits};
-use cp_variables::FirstMisfit;
 
 /// The form must be the index of an event on this strand.
 fn index_misfits(strands: &[Strand], strand: usize, form: &Form, first: &mut FirstMisfit)

@@ -2,7 +2,7 @@
 use Rattle.std.specs.Prelude.{ℕ, List, [], ◌∷◌, Bool, Option, Some, None, if◌then◌else◌}
 use Rattle.cp_base.specs.declared.place.Place.{Place}
 use Rattle.cp_base.specs.declared.place.Refusal.{Refusal}
-use Rattle.cp_language.specs.FirstFault.{comes_before}
+use Rattle.cp_language.specs.FirstFault.{refusal_before}
 
 -- A place, by its line and its column.
 abbrev pub p : ℕ → ℕ → Place
@@ -20,4 +20,4 @@ first_by before (x ∷ xs) = Some (best_by before x xs)
 
 -- The first of all faults.
 abbrev pub first : List Refusal → Option Refusal
-first rs = first_by comes_before rs
+first rs = first_by refusal_before rs

@@ -8,7 +8,7 @@ use Rattle.cp_base.specs.declared.place.Refusal.{Refusal}
 use Rattle.cp_lists.specs.Lists.{item_at, IsIn, here, there}
 use Rattle.cp_lists.proofs.Members.{none_in_empty}
 use Rattle.cp_sexpr.specs.Syntax.{Forms}
-use Rattle.cp_language.specs.FirstFault.{rank_of, comes_before, IsFirstFault}
+use Rattle.cp_language.specs.FirstFault.{rank_of, refusal_before, IsFirstFault}
 use Rattle.cp_language.specs.Input.{Entry, faults_of, input_of}
 use Rattle.cp_language.specs.StatedInput.{IsInput}
 
@@ -80,7 +80,7 @@ pub not_both : (l m c d a b : ℕ) →
     (nat_lt m l || ((m == l) && (nat_lt d c || ((d == c) && nat_lt b a)))) ≡ false
 not_both l m c d a b g = grind (arith, nat_tests)
 
-same_fault : (r s : Refusal) → comes_before r s ≡ false → comes_before s r ≡ false → r ≡ s
+same_fault : (r s : Refusal) → refusal_before r s ≡ false → refusal_before s r ≡ false → r ≡ s
 same_fault r s g h =
     let e = same_numbers r.place.line s.place.line r.place.col s.place.col (rank_of r.code) (rank_of s.code) g h in
     let c : r.code ≡ s.code = same_rank r.code s.code e.2 in
@@ -92,15 +92,15 @@ one_first faults r s g h = same_fault r s (h.first r g.listed) (g.first s h.list
 
 -- and one if it is not empty
 IsFirstOf : Refusal → List Refusal → Type 0
-IsFirstOf r faults = (s : Refusal) → IsIn s faults → comes_before s r ≡ false
+IsFirstOf r faults = (s : Refusal) → IsIn s faults → refusal_before s r ≡ false
 
-earlier : (r s : Refusal) → (comes_before r s ≡ true) ⊎ (comes_before r s ≡ false)
-earlier r s = elim (comes_before r s) as (λ b. (b ≡ true) ⊎ (b ≡ false)) [ true ↦ inl refl | false ↦ inr refl ]
+earlier : (r s : Refusal) → (refusal_before r s ≡ true) ⊎ (refusal_before r s ≡ false)
+earlier r s = elim (refusal_before r s) as (λ b. (b ≡ true) ⊎ (b ≡ false)) [ true ↦ inl refl | false ↦ inr refl ]
 
 pub first_fault : (r : Refusal) (faults : List Refusal) → (s : Refusal) × IsFirstFault (r ∷ faults) s
 first_fault r [] = (r, record { listed = here; first = only })
   where
-    only : (s : Refusal) → IsIn s (r ∷ []) → comes_before s r ≡ false
+    only : (s : Refusal) → IsIn s (r ∷ []) → refusal_before s r ≡ false
     only s here = not_before_self r.place.line r.place.col (rank_of r.code)
     only s (there m) = elim m [ ]
 first_fault r (q ∷ qs) = with_first (first_fault q qs)
@@ -108,16 +108,16 @@ first_fault r (q ∷ qs) = with_first (first_fault q qs)
     with_first : ((s : Refusal) × IsFirstFault (q ∷ qs) s) → (s : Refusal) × IsFirstFault (r ∷ q ∷ qs) s
     with_first (s, h) = choose (earlier r s)
       where
-        choose : (comes_before r s ≡ true) ⊎ (comes_before r s ≡ false) → (t : Refusal) × IsFirstFault (r ∷ q ∷ qs) t
+        choose : (refusal_before r s ≡ true) ⊎ (refusal_before r s ≡ false) → (t : Refusal) × IsFirstFault (r ∷ q ∷ qs) t
         choose (inl b) = (r, record { listed = here; first = all })
           where
-            all : (t : Refusal) → IsIn t (r ∷ q ∷ qs) → comes_before t r ≡ false
+            all : (t : Refusal) → IsIn t (r ∷ q ∷ qs) → refusal_before t r ≡ false
             all t here = not_before_self r.place.line r.place.col (rank_of r.code)
             all t (there m) = not_before r.place.line s.place.line t.place.line r.place.col s.place.col t.place.col (rank_of r.code) (rank_of s.code) (rank_of t.code)
                 (not_both r.place.line s.place.line r.place.col s.place.col (rank_of r.code) (rank_of s.code) b) (h.first t m)
         choose (inr b) = (s, record { listed = there h.listed; first = all })
           where
-            all : (t : Refusal) → IsIn t (r ∷ q ∷ qs) → comes_before t s ≡ false
+            all : (t : Refusal) → IsIn t (r ∷ q ∷ qs) → refusal_before t s ≡ false
             all t here = b
             all t (there m) = h.first t m
 

@@ -35,12 +35,12 @@ rank_of BadNode = 24
 rank_of CyclicOrder = 25
 
 -- r comes before s: by line, then by column, then by kind.
-abbrev pub comes_before : Refusal → Refusal → Bool
-comes_before r s =
+abbrev pub refusal_before : Refusal → Refusal → Bool
+refusal_before r s =
     nat_lt r.place.line s.place.line || ((r.place.line == s.place.line) &&
     (nat_lt r.place.col s.place.col || ((r.place.col == s.place.col) && nat_lt (rank_of r.code) (rank_of s.code))))
 
 -- The first of the faults: one of them, and none comes before it.
 pub record IsFirstFault (faults : List Refusal) (r : Refusal) : Type 0 where
   pub listed : IsIn r faults
-  pub first : (s : Refusal) → IsIn s faults → comes_before s r ≡ false
+  pub first : (s : Refusal) → IsIn s faults → refusal_before s r ≡ false

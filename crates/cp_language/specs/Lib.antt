@@ -10,3 +10,5 @@ pub mod Names
 pub mod Printed
 pub mod Report
 pub mod ShapesText
+pub mod Role
+pub mod Example

@@ -9,7 +9,7 @@ use Rattle.cp_model.specs.Bundle.{node_at}
 use Rattle.cp_model.specs.declared.node.Node.{Node}
 use Rattle.cp_model.specs.Skeleton.{SkeletonStrand, instance, listener, skeleton_trace, term_event_at, UniqueAt, Assumptions, Skeleton}
 use Rattle.cp_model.specs.declared.node.OrderPair.{OrderPair}
-pub use Rattle.cp_model.specs.OrderTests.{at_or_after, any_pair, reaches}
+pub use Rattle.cp_model.specs.OrderTests.{at_or_after, any_pair, reaches_within}
 use Rattle.cp_model.specs.Homomorphism.{substitution_by}
 use Rattle.cp_model.specs.Problem.{numbers_from, variable_terms}
 use Rattle.cp_sexpr.specs.Syntax.{Form, symbol, number, list}
@@ -168,14 +168,14 @@ abbrev pub name_in_front : List Form → List ℕ
 name_in_front [] = []
 name_in_front (f ∷ fs) = text_of_symbol f
 
-abbrev pub heard : List Declaration → List Form → Term
-heard ds [] = tag_term []
-heard ds (f ∷ fs) = term_of ds f
+abbrev pub listened_term : List Declaration → List Form → Term
+listened_term ds [] = tag_term []
+listened_term ds (f ∷ fs) = term_of ds f
 
 -- One strand, by the head of its list, and the variables made for it; other items make none.
 abbrev pub strand_by : List Role → List Declaration → ℕ → ItemHead → List Form → Option (SkeletonStrand × List Declaration)
 strand_by roles ds next strand_item fs = Some (instance_by (role_named roles (name_in_front fs)) ds next fs)
-strand_by roles ds next listener_item fs = Some (listener (heard ds fs), [])
+strand_by roles ds next listener_item fs = Some (listener (listened_term ds fs), [])
 strand_by roles ds next _ fs = None
 
 abbrev pub fresh_of : Option (SkeletonStrand × List Declaration) → List Declaration
@@ -226,21 +226,21 @@ on_one_strand p = p.earlier.strand == p.later.strand
 
 -- The pair goes back or stays on one strand, or closes a cycle with strand order and the pairs before it.
 abbrev pub closes_cycle : List OrderPair → OrderPair → Bool
-closes_cycle before p = if on_one_strand p then nat_le p.later.index p.earlier.index else reaches (length before) before p.later p.earlier
+closes_cycle before p = if on_one_strand p then nat_le p.later.index p.earlier.index else reaches_within (length before) before p.later p.earlier
 
-abbrev pub is_transmission : Option (Event Term) → Bool
-is_transmission (Some (send m)) = true
-is_transmission _ = false
+abbrev pub is_some_transmission : Option (Event Term) → Bool
+is_some_transmission (Some (send m)) = true
+is_some_transmission _ = false
 
-abbrev pub is_reception : Option (Event Term) → Bool
-is_reception (Some (recv m)) = true
-is_reception _ = false
+abbrev pub is_some_reception : Option (Event Term) → Bool
+is_some_reception (Some (recv m)) = true
+is_some_reception _ = false
 
 -- Between two strands the first node is a transmission and the second a reception.
 abbrev pub direction_faults : List SkeletonStrand → Form → Form → OrderPair → List Refusal
 direction_faults strands f g p =
     if on_one_strand p then [] else
-    fault_unless (is_transmission (term_event_at strands p.earlier)) (place_of f) BadNode ++ fault_unless (is_reception (term_event_at strands p.later)) (place_of g) BadNode
+    fault_unless (is_some_transmission (term_event_at strands p.earlier)) (place_of f) BadNode ++ fault_unless (is_some_reception (term_event_at strands p.later)) (place_of g) BadNode
 
 abbrev pub pair_of_nodes : Option Node → Option Node → Option OrderPair
 pair_of_nodes (Some x) (Some y) = Some (record { earlier = x; later = y })
@@ -305,7 +305,7 @@ abbrev pub unique_faults : List SkeletonStrand → List Declaration → Form →
 unique_faults strands ds f = unless_faulty (atom_faults ds f) (fault_unless (is_not_empty (origins_from 0 strands (as_atom (term_of ds f)))) (place_of f) UniqNowhere)
 
 -- Strands stand before items: whether a strand and whether an item stood before.
-pub record Stage : Type 0 where
+pub record ItemStage : Type 0 where
   pub after_strand : Bool
   pub after_item : Bool
 
@@ -313,7 +313,7 @@ abbrev pub misplaced_unless : Bool → Place → List Refusal → List Refusal
 misplaced_unless true at others = others
 misplaced_unless false at others = fault at UnknownForm
 
-abbrev pub problem_item_faults : List Role → List Declaration → List SkeletonStrand → List OrderPair → Stage → Place → ItemHead → List Form → List Refusal
+abbrev pub problem_item_faults : List Role → List Declaration → List SkeletonStrand → List OrderPair → ItemStage → Place → ItemHead → List Form → List Refusal
 problem_item_faults roles ds strands before stage at strand_item fs = misplaced_unless (not stage.after_item) at (instance_faults roles ds at fs)
 problem_item_faults roles ds strands before stage at listener_item fs = misplaced_unless (not stage.after_item) at (listener_faults ds at fs)
 problem_item_faults roles ds strands before stage at non_item fs = misplaced_unless stage.after_strand at (each_faults (atom_faults ds) fs)
@@ -341,14 +341,14 @@ abbrev pub is_precedes_item : ItemHead → Bool
 is_precedes_item precedes_item = true
 is_precedes_item _ = false
 
-abbrev pub stage_after : Stage → ItemHead → Stage
+abbrev pub stage_after : ItemStage → ItemHead → ItemStage
 stage_after stage h = record { after_strand = stage.after_strand || is_strand_item h; after_item = stage.after_item || is_assumption_or_order h }
 
 abbrev pub pairs_if : Bool → List Form → List OrderPair
 pairs_if true fs = pairs_in fs
 pairs_if false fs = []
 
-abbrev pub body_faults : List Role → List Declaration → List SkeletonStrand → List OrderPair → Stage → List Form → List Refusal
+abbrev pub body_faults : List Role → List Declaration → List SkeletonStrand → List OrderPair → ItemStage → List Form → List Refusal
 body_faults roles ds strands before stage [] = []
 body_faults roles ds strands before stage (f ∷ fs) =
     item_faults (problem_item_faults roles ds strands before stage) f

@@ -14,7 +14,7 @@ use Rattle.cp_model.specs.Tree.{Operation, by_problem, by_collapse, by_contracti
 use Rattle.cp_sexpr.specs.Syntax.{Form}
 use Rattle.cp_sexpr.specs.Spelling.{top_spelling}
 use Rattle.cp_model.specs.Same.{same_node, has_variable}
-use Rattle.cp_language.specs.Problems.{Problem, reaches}
+use Rattle.cp_language.specs.Problems.{Problem, reaches_within}
 use Rattle.cp_language.specs.Input.{Entry}
 use Rattle.cp_language.specs.Names.{problem_names, label_names, has_number, sort_text}
 use Rattle.cp_language.specs.Printed.{word, numeral, headed_list, plain_list, variable, term_form, atom_form, pattern_form}
@@ -108,7 +108,7 @@ nodes_from s [] = []
 nodes_from s (k ∷ ks) = nodes_on s 0 (skeleton_trace k) ++ nodes_from (suc s) ks
 
 abbrev pub is_before : List OrderPair → Node → Node → Bool
-is_before pairs x y = not (same_node x y) && reaches (length pairs) pairs x y
+is_before pairs x y = not (same_node x y) && reaches_within (length pairs) pairs x y
 
 abbrev pub any_node : (Node → Bool) → List Node → Bool
 any_node test [] = false
@@ -195,14 +195,14 @@ outcome_words complete = word (codes "complete") ∷ []
 outcome_words at_step_limit = word (codes "limit") ∷ word (codes "steps") ∷ []
 outcome_words at_strand_limit = word (codes "limit") ∷ word (codes "strands") ∷ []
 
-abbrev pub is_shape : Option Mark → ℕ
-is_shape (Some shape) = 1
-is_shape _ = 0
+abbrev pub one_if_shape : Option Mark → ℕ
+one_if_shape (Some shape) = 1
+one_if_shape _ = 0
 
 -- How many labels are shapes.
 abbrev pub shape_count : List Label → ℕ
 shape_count [] = 0
-shape_count (l ∷ ls) = is_shape l.mark + shape_count ls
+shape_count (l ∷ ls) = one_if_shape l.mark + shape_count ls
 
 -- The outcome, and how many labels there are, how many were expanded, and how many are shapes.
 abbrev pub status_form : Tree → Form

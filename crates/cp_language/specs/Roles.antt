@@ -170,8 +170,8 @@ abbrev pub events_in : List Declaration → List Form → List (Event Term)
 events_in ds [] = []
 events_in ds (f ∷ fs) = event_of ds (headed f) ∷ events_in ds fs
 
-abbrev pub events_of : List Declaration → Form → List (Event Term)
-events_of ds f = events_in ds (items_behind (headed f))
+abbrev pub events_stated : List Declaration → Form → List (Event Term)
+events_stated ds f = events_in ds (items_behind (headed f))
 
 -- ---- roles
 
@@ -220,7 +220,7 @@ name_faults_at before duplicate f = fault (place_of f) BadShape
 abbrev pub role_faults : List (List ℕ) → Place → List Form → List Refusal
 role_faults before at (name ∷ vars ∷ trace ∷ items) =
     name_faults_at before (λ p. fault p DuplicateRole) name ++ vars_faults vars ++ trace_faults (declarations_of vars) trace
-    ++ each_faults (item_faults (role_item_faults (declarations_of vars) (events_of (declarations_of vars) trace))) items
+    ++ each_faults (item_faults (role_item_faults (declarations_of vars) (events_stated (declarations_of vars) trace))) items
 role_faults before at _ = fault at BadShape
 
 abbrev pub atoms_in : List Declaration → List Form → List AtomTerm
@@ -253,7 +253,7 @@ role_of (name ∷ vars ∷ trace ∷ items) =
     let ds = declarations_of vars in record {
       name = text_of_symbol name;
       variables = ds;
-      trace = events_of ds trace;
+      trace = events_stated ds trace;
       non_originating = atoms_in ds (forms_under is_non_item items);
       penetrator_non_originating = atoms_in ds (forms_under is_penetrator_non_item items);
       uniquely_originating = atoms_in ds (forms_under is_unique_item items);

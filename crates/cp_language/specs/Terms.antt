@@ -68,10 +68,10 @@ is_sort s None = true
 is_sort s (Some of_all) = false
 is_sort s (Some (of_atoms r)) = same_sort s r
 
-abbrev pub is_atom : Option TermSort → Bool
-is_atom None = true
-is_atom (Some of_all) = false
-is_atom (Some (of_atoms r)) = true
+abbrev pub admits_atom : Option TermSort → Bool
+admits_atom None = true
+admits_atom (Some of_all) = false
+admits_atom (Some (of_atoms r)) = true
 
 -- A term that has another sort than the one asked for; where its sort cannot be known, its own faults are answered.
 abbrev pub sort_faults : List Declaration → Sort → Form → List Refusal
@@ -166,7 +166,7 @@ abbrev mutual
 
 -- The faults of an item of an assumption: it has the sort of an atom.
 abbrev pub atom_faults : List Declaration → Form → List Refusal
-atom_faults ds f = fault_unless (is_atom (sort_of ds f)) (place_of f) NotAtom ++ term_faults ds f
+atom_faults ds f = fault_unless (admits_atom (sort_of ds f)) (place_of f) NotAtom ++ term_faults ds f
 
 -- ---- what terms stand for, where they have no fault
 

@@ -1,36 +1,13 @@
 //! The input language: which forms are well formed, what they state, and which fault is reported first; and the report:
-//! its forms and its text. Only definitions and their laws.
+//! its forms and its text. Only definitions and their laws, each the contract of a function that does nothing: the problems of
+//! well-formed input are skeletons over their protocols and map to themselves, and the roles of these protocols are well formed.
 #![tactic(auto)]
 
-ghost use Rattle.std.specs.Prelude.{◌≡◌, ◌↔◌, List, length, Result, true};
-ghost use Rattle.cp_base.specs.declared.place.Refusal.{Refusal};
-ghost use Rattle.cp_language.specs.Input.{Entry};
-ghost use Rattle.cp_language.specs.StatedInput.{IsInput};
-ghost use Rattle.cp_language.specs.Problems.{reaches};
-ghost use Rattle.cp_language.specs.Report.{report_text};
-ghost use Rattle.cp_language.specs.ShapesText.{chosen_text};
-ghost use Rattle.cp_model.specs.declared.node.Node.{Node};
-ghost use Rattle.cp_model.specs.Order.{LeadsTo};
-ghost use Rattle.cp_model.specs.declared.node.OrderPair.{OrderPair};
-ghost use Rattle.cp_model.specs.Tree.{Tree};
-ghost use Rattle.cp_sexpr.specs.Syntax.{Forms};
+mod laws;
+mod wellformed;
 
-/// Forms have exactly one answer: what they state if they are well formed, otherwise the first of their faults.
-#[tactic(auto, using(crate::proofs::OneAnswer::one_answer, crate::proofs::OneAnswer::some_answer))]
-pub fn forms_have_one_answer()
-    ensures one { (fs : Forms) (a b : Result (List Entry) Refusal) → IsInput fs a → IsInput fs b → a ≡ b }
-    ensures some { (fs : Forms) → (a : Result (List Entry) Refusal) × IsInput fs a }
-{}
-
-/// A search along as many pairs as there are finds everything that leads from one node to another: no pair needs to be
-/// taken twice.
-#[tactic(auto, using(crate::proofs::BoundedSearch::reaches_all))]
-pub fn search_is_complete()
-    ensures { (pairs : List OrderPair) (x y : Node) → (reaches (length pairs) pairs x y ≡ true) ↔ LeadsTo pairs x y }
-{}
-
-/// The report of chosen labels is the whole report if all are chosen.
-#[tactic(auto, using(crate::proofs::ChosenLabels::all_text))]
-pub fn report_of_all_labels()
-    ensures { (entries : List Entry) (trees : List Tree) → chosen_text (λ _. true) entries trees ≡ report_text entries trees }
-{}
+pub use laws::{forms_have_one_answer, report_of_all_labels, search_is_complete};
+pub use wellformed::{
+    names_of_input_are_their_own, problems_of_input_are_skeletons, roles_declare_their_variables,
+    roles_of_input_are_well_formed, well_formed_example,
+};

@@ -12,47 +12,47 @@ use Rattle.cp_base.specs.declared.place.Refusal.{Refusal}
 use Rattle.cp_model.specs.Skeleton.{SkeletonStrand, term_event_at}
 use Rattle.cp_model.specs.declared.node.OrderPair.{OrderPair}
 use Rattle.cp_model.specs.declared.node.Node.{Node}
-use Rattle.cp_model.specs.Order.{IsAtOrAfter, LeadsTo, on_strand, over_pair}
+use Rattle.cp_model.specs.Order.{IsAtOrAfter, ReachesAlong, on_strand, over_pair}
 use Rattle.cp_model.proofs.BoundedSearch.{none_in}
 use Rattle.cp_sexpr.specs.Syntax.{Form}
 use Rattle.cp_sexpr.specs.View.{view}
 use Rattle.cp_sexpr.specs.declared.form.Form as program
 use Rattle.cp_language.specs.Faults.{fault, fault_unless, place_of}
-use Rattle.cp_language.specs.FirstFault.{comes_before}
+use Rattle.cp_language.specs.FirstFault.{refusal_before}
 use Rattle.cp_language.specs.Roles.{unless_faulty, list_items}
 use Rattle.cp_language.specs.Terms.{exceeds}
-use Rattle.cp_language.specs.Problems.{on_one_strand, at_or_after, any_pair, reaches, closes_cycle, node_of, node_faults, pair_of_nodes, is_transmission, is_reception, direction_faults, order_faults, pair_items_faults, pair_faults, pair_of, pairs_in, pairs_faults}
+use Rattle.cp_language.specs.Problems.{on_one_strand, at_or_after, any_pair, reaches_within, closes_cycle, node_of, node_faults, pair_of_nodes, is_some_transmission, is_some_reception, direction_faults, order_faults, pair_items_faults, pair_faults, pair_of, pairs_in, pairs_faults}
 use Rattle.cp_language.proofs.BoundedSearch.{reaches_all}
-use Rattle.cp_order.specs.LeadingNodes.{Target}
-use Rattle.cp_forms.proofs.FirstOf as first
-use Rattle.cp_forms.specs.FirstFault.{first_onto, merged, stands_before}
-use Rattle.cp_forms.proofs.Firsts.{first_onto-append, none_found, first_then_four, merged-unless}
+use Rattle.cp_order.specs.PredecessorNodes.{Target}
+use Rattle.cp_scope.proofs.FirstOf as first
+use Rattle.cp_scope.specs.FirstFault.{first_onto, merged, stands_before}
+use Rattle.cp_scope.proofs.Firsts.{first_onto-append, none_found, first_then_four, merged-unless}
 use Rattle.cp_load.specs.Behind.{is_behind_fault}
 
 -- ---- cycles
 
 -- what a search of the order found is what the order is
-pub order-searched : (pairs : List OrderPair) (x y : Node) (l : Target) (b : Bool) → l ≡ record { pairs = pairs; node = y } → (b ≡ true) ↔ LeadsTo l.pairs x l.node → b ≡ reaches (length pairs) pairs x y
+pub order-searched : (pairs : List OrderPair) (x y : Node) (l : Target) (b : Bool) → l ≡ record { pairs = pairs; node = y } → (b ≡ true) ↔ ReachesAlong l.pairs x l.node → b ≡ reaches_within (length pairs) pairs x y
 order-searched pairs x y l b is h =
-    let leads : (b ≡ true) ↔ LeadsTo pairs x y = subst (λ (t : Target). (b ≡ true) ↔ LeadsTo t.pairs x t.node) is h in
-    same_from_decides b (reaches (length pairs) pairs x y) leads (reaches_all pairs x y)
+    let leads : (b ≡ true) ↔ ReachesAlong pairs x y = subst (λ (t : Target). (b ≡ true) ↔ ReachesAlong t.pairs x t.node) is h in
+    same_from_decides b (reaches_within (length pairs) pairs x y) leads (reaches_all pairs x y)
 
-pub cycle-searched : (before : List OrderPair) (p : OrderPair) (l : Target) (b : Bool) → on_one_strand p ≡ false → l ≡ record { pairs = before; node = p.earlier } → (b ≡ true) ↔ LeadsTo l.pairs p.later l.node → b ≡ closes_cycle before p
+pub cycle-searched : (before : List OrderPair) (p : OrderPair) (l : Target) (b : Bool) → on_one_strand p ≡ false → l ≡ record { pairs = before; node = p.earlier } → (b ≡ true) ↔ ReachesAlong l.pairs p.later l.node → b ≡ closes_cycle before p
 cycle-searched before p l b other is h =
     order-searched before p.later p.earlier l b is h
-    ∙ sym (cond-false (on_one_strand p) (nat_le p.later.index p.earlier.index) (reaches (length before) before p.later p.earlier) other)
+    ∙ sym (cond-false (on_one_strand p) (nat_le p.later.index p.earlier.index) (reaches_within (length before) before p.later p.earlier) other)
 
 pub not_after : (s t i j : ℕ) → ((s == t) && nat_le i j) ≡ false → (s ≡ t) × (i ≤ j) → ⊥
 not_after s t i j h a = grind (arith, nat_tests)
 
--- No pair leaves the strand behind x: what x leads to is on its strand.
-pub stays_behind : (pairs : List OrderPair) (x y : Node) → any_pair (λ p. at_or_after x p.earlier) pairs ≡ false → LeadsTo pairs x y → IsAtOrAfter x y
+-- No pair leaves the strand behind x: what x reaches is on its strand.
+pub stays_behind : (pairs : List OrderPair) (x y : Node) → any_pair (λ p. at_or_after x p.earlier) pairs ≡ false → ReachesAlong pairs x y → IsAtOrAfter x y
 stays_behind pairs x y none (on_strand a) = a
 stays_behind pairs x y none (over_pair {p} m a l) =
     absurd (not_after x.strand p.earlier.strand x.index p.earlier.index (none_in (λ q. at_or_after x q.earlier) pairs p none m) a)
 
--- No pair comes to the strand before y: what leads to y is on its strand.
-stays_before : (pairs : List OrderPair) (x y : Node) → any_pair (λ p. at_or_after p.later y) pairs ≡ false → LeadsTo pairs x y → IsAtOrAfter x y
+-- No pair comes to the strand before y: what reaches y is on its strand.
+stays_before : (pairs : List OrderPair) (x y : Node) → any_pair (λ p. at_or_after p.later y) pairs ≡ false → ReachesAlong pairs x y → IsAtOrAfter x y
 stays_before pairs x y none (on_strand a) = a
 stays_before pairs x y none (over_pair {p} m a l) =
     absurd (not_after p.later.strand y.strand p.later.index y.index (none_in (λ q. at_or_after q.later y) pairs p none m) (stays_before pairs p.later y none l))
@@ -60,12 +60,12 @@ stays_before pairs x y none (over_pair {p} m a l) =
 one_strand : (s t i j : ℕ) → (s == t) ≡ false → (t ≡ s) × (j ≤ i) → ⊥
 one_strand s t i j other a = grind (arith, nat_tests)
 
-no_way : (before : List OrderPair) (p : OrderPair) → on_one_strand p ≡ false → (LeadsTo before p.later p.earlier → IsAtOrAfter p.later p.earlier) → false ≡ closes_cycle before p
+no_way : (before : List OrderPair) (p : OrderPair) → on_one_strand p ≡ false → (ReachesAlong before p.later p.earlier → IsAtOrAfter p.later p.earlier) → false ≡ closes_cycle before p
 no_way before p other stays =
     sym
-    (false_from_ne_true (reaches (length before) before p.later p.earlier)
+    (false_from_ne_true (reaches_within (length before) before p.later p.earlier)
     (λ e. one_strand p.earlier.strand p.later.strand p.earlier.index p.later.index other (stays ((reaches_all before p.later p.earlier).0 e))))
-    ∙ sym (cond-false (on_one_strand p) (nat_le p.later.index p.earlier.index) (reaches (length before) before p.later p.earlier) other)
+    ∙ sym (cond-false (on_one_strand p) (nat_le p.later.index p.earlier.index) (reaches_within (length before) before p.later p.earlier) other)
 
 pub no-way-from : (before : List OrderPair) (p : OrderPair) → on_one_strand p ≡ false → any_pair (λ q. at_or_after p.later q.earlier) before ≡ false → false ≡ closes_cycle before p
 no-way-from before p other none = no_way before p other (stays_behind before p.later p.earlier none)
@@ -87,7 +87,7 @@ module _ (o m i k : Option Refusal) (b : Bool) (ns rs others : List Refusal) (fo
   nodes-there h e = e ∙ sym (ap (λ fs. first_onto o (unless_faulty fs others)) (none_found (ns ++ rs) (sym both ∙ no_fault i (sym test ∙ h))))
 
   pub nodes-faulty : b ≡ false → k ≡ merged o i → k ≡ first_onto o (unless_faulty (ns ++ rs) others)
-  nodes-faulty h e = merged-unless o i i k (ns ++ rs) others both (first.onto_none-not comes_before i i others (sym test ∙ h) refl) e
+  nodes-faulty h e = merged-unless o i i k (ns ++ rs) others both (first.onto_none-not refusal_before i i others (sym test ∙ h) refl) e
 
 -- ---- behind a fault
 
@@ -97,7 +97,7 @@ two_true false c h = absurd (cc)
 
 unless_changed : (o : Option Refusal) (b : Bool) (at : Place) (code : Code) → stands_before o (record { place = at; code = code }) ≡ true → o ≡ first_onto o (fault_unless b at code)
 unless_changed o true at code h = refl
-unless_changed o false at code h = first.none_changed comes_before o (record { place = at; code = code }) h
+unless_changed o false at code h = first.none_changed refusal_before o (record { place = at; code = code }) h
 
 -- no fault of the order of a pair is the first then
 pub behind-fault : (o : Option Refusal) (strands : List SkeletonStrand) (before : List OrderPair) (at : Place) (f g : Form) (p : Option OrderPair) → is_behind_fault o at f g ≡ true
@@ -127,8 +127,8 @@ behind-fault o strands before at f g (Some p) h = by_cycle (closes_cycle before 
         ∙ sym (first_onto-append o (fault_unless c (place_of f) BadNode) (fault_unless d (place_of g) BadNode))
 
     by_cycle : (b : Bool) → o ≡ first_onto o (if b then fault at CyclicOrder else direction_faults strands f g p)
-    by_cycle true = first.none_changed comes_before o cyclic front.0
-    by_cycle false = by_strand (on_one_strand p) (is_transmission (term_event_at strands p.earlier)) (is_reception (term_event_at strands p.later))
+    by_cycle true = first.none_changed refusal_before o cyclic front.0
+    by_cycle false = by_strand (on_one_strand p) (is_some_transmission (term_event_at strands p.earlier)) (is_some_reception (term_event_at strands p.later))
 
 -- ---- one pair
 

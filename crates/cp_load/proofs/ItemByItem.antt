@@ -9,12 +9,12 @@ use Rattle.cp_model.specs.declared.node.OrderPair.{OrderPair}
 use Rattle.cp_sexpr.specs.View.{view}
 use Rattle.cp_sexpr.specs.declared.form.Form as program
 use Rattle.cp_language.specs.Roles.{headed, item_or_none, items_behind, item_faults}
-use Rattle.cp_language.specs.Problems.{Stage, stage_after, pairs_if, is_precedes_item, problem_item_faults, body_faults}
-use Rattle.cp_forms.specs.FirstFault.{first_onto}
-use Rattle.cp_forms.proofs.Firsts.{first_onto-append}
+use Rattle.cp_language.specs.Problems.{ItemStage, stage_after, pairs_if, is_precedes_item, problem_item_faults, body_faults}
+use Rattle.cp_scope.specs.FirstFault.{first_onto}
+use Rattle.cp_scope.proofs.Firsts.{first_onto-append}
 
 module _ (roles : List Role) (ds : List Declaration) (strands : List SkeletonStrand) (fs : List program.Form) (k : ℕ) where
-  pub body-taken : (f : program.Form) → k < length fs → f ≡ get_or fs k f → (ps qs : List OrderPair) (s t : Stage) (o p all : Option Refusal)
+  pub body-taken : (f : program.Form) → k < length fs → f ≡ get_or fs k f → (ps qs : List OrderPair) (s t : ItemStage) (o p all : Option Refusal)
       → p ≡ first_onto o (item_faults (problem_item_faults roles ds strands ps s) (view f))
       → qs ≡ ps ++ pairs_if (is_precedes_item (item_or_none (headed (view f)))) (items_behind (headed (view f)))
       → t ≡ stage_after s (item_or_none (headed (view f)))

@@ -7,5 +7,5 @@ pub mod ProblemParts
 pub mod TopForms
 pub mod UniqueOrigins
 pub mod OwnParts
-pub mod SoundDrafts
+pub mod SoundUnchecked
 pub mod NoCycles

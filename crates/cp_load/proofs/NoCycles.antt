@@ -10,16 +10,16 @@ use Rattle.cp_lists.specs.Lists.{IsIn, here, there}
 use Rattle.cp_lists.proofs.Fronts.{in_longer_front, in_front}
 use Rattle.cp_model.specs.declared.node.Node.{Node}
 use Rattle.cp_model.specs.declared.node.OrderPair.{OrderPair}
-use Rattle.cp_model.specs.Order.{IsAtOrAfter, LeadsTo, on_strand, over_pair}
+use Rattle.cp_model.specs.Order.{IsAtOrAfter, ReachesAlong, on_strand, over_pair}
 use Rattle.cp_sexpr.specs.Syntax.{Form}
 use Rattle.cp_sexpr.specs.View.{view}
 use Rattle.cp_sexpr.specs.declared.form.Form as program
-use Rattle.cp_language.specs.Problems.{on_one_strand, at_or_after, any_pair, reaches, closes_cycle, node_of, pair_of_nodes, option_node, first_form, second_form, pair_of, pairs_in, between_strands}
+use Rattle.cp_language.specs.Problems.{on_one_strand, at_or_after, any_pair, reaches_within, closes_cycle, node_of, pair_of_nodes, option_node, first_form, second_form, pair_of, pairs_in, between_strands}
 use Rattle.cp_language.specs.Roles.{list_items}
 use Rattle.cp_language.proofs.BoundedSearch.{reaches_all}
-use Rattle.cp_order.specs.LeadingNodes.{Tops, is_below}
+use Rattle.cp_order.specs.PredecessorNodes.{Tops, is_under_tops}
 use Rattle.cp_order.proofs.AlongPairs.{leads_within_more}
-use Rattle.cp_load.specs.Acyclic.{IsAcyclic, IsAcyclicIf, IsAcyclicUpTo, IsSwept, pair_in, pairs_under, pairs_stated}
+use Rattle.cp_load.specs.Acyclic.{IsAcyclic, IsAcyclicIf, IsAcyclicUpTo, IsSwept, pair_of_items, pairs_of_item, pairs_stated}
 use Rattle.cp_model.proofs.BoundedSearch.{none_in}
 use Rattle.cp_load.proofs.Cycles.{not_after, stays_behind}
 
@@ -67,13 +67,13 @@ module _ (items : List program.Form) (k : ℕ) (f : program.Form) (lt : k < leng
   counted-pair n b below h a e =
       front_acyclic n (before ++ pair_of (view f)) (pairs_in (map view (drop (k + 1) items))) whole (one_more_at_most before (view f) n b below e) (left_over h) a
 
-  split : before ++ pairs_stated (map view (drop k items)) ≡ whole → (before ++ pairs_under (view f)) ++ pairs_stated (map view (drop (k + 1) items)) ≡ whole
-  split h = append_assoc before (pairs_under (view f)) (pairs_stated (map view (drop (k + 1) items))) ∙ sym (ap (λ gs. before ++ pairs_stated (map view gs)) (drop_read items k f lt is)) ∙ h
+  split : before ++ pairs_stated (map view (drop k items)) ≡ whole → (before ++ pairs_of_item (view f)) ++ pairs_stated (map view (drop (k + 1) items)) ≡ whole
+  split h = append_assoc before (pairs_of_item (view f)) (pairs_stated (map view (drop (k + 1) items))) ∙ sym (ap (λ gs. before ++ pairs_stated (map view gs)) (drop_read items k f lt is)) ∙ h
 
-  pub first-item : (n : ℕ) → before ++ pairs_stated (map view (drop k items)) ≡ whole → IsAcyclicUpTo n whole → IsAcyclicUpTo n (before ++ pairs_under (view f))
-  first-item n h = front_up_to n (before ++ pairs_under (view f)) (pairs_stated (map view (drop (k + 1) items))) whole (split h)
+  pub first-item : (n : ℕ) → before ++ pairs_stated (map view (drop k items)) ≡ whole → IsAcyclicUpTo n whole → IsAcyclicUpTo n (before ++ pairs_of_item (view f))
+  first-item n h = front_up_to n (before ++ pairs_of_item (view f)) (pairs_stated (map view (drop (k + 1) items))) whole (split h)
 
-  pub items-stated : (after : List OrderPair) → after ≡ before ++ pairs_under (view f) → before ++ pairs_stated (map view (drop k items)) ≡ whole → after ++ pairs_stated (map view (drop (k + 1) items)) ≡ whole
+  pub items-stated : (after : List OrderPair) → after ≡ before ++ pairs_of_item (view f) → before ++ pairs_stated (map view (drop k items)) ≡ whole → after ++ pairs_stated (map view (drop (k + 1) items)) ≡ whole
   items-stated after e h = ap (λ ps. ps ++ pairs_stated (map view (drop (k + 1) items))) e ∙ split h
 
 pub stated-all : (items : List program.Form) (k : ℕ) → length items ≤ k → (ps whole : List OrderPair) → ps ++ pairs_stated (map view (drop k items)) ≡ whole → ps ≡ whole
@@ -85,13 +85,13 @@ pub known-acyclic : (before : List OrderPair) (p : OrderPair) (b : Bool) → on_
 known-acyclic before p b other e h =
     let all : IsAcyclicIf b (before ++ p ∷ []) = subst (λ c. IsAcyclicIf b (before ++ (if c then [] else p ∷ []))) other h in
     sym
-    (false_from_ne_true (reaches (length before) before p.later p.earlier)
+    (false_from_ne_true (reaches_within (length before) before p.later p.earlier)
     (λ r. all e p (in_append_right before here) (leads_within_more before (before ++ p ∷ []) (λ q m. in_append_left (p ∷ []) m) p.later p.earlier ((reaches_all before p.later p.earlier).0 r))))
-    ∙ sym (cond-false (on_one_strand p) (nat_le p.later.index p.earlier.index) (reaches (length before) before p.later p.earlier) other)
+    ∙ sym (cond-false (on_one_strand p) (nat_le p.later.index p.earlier.index) (reaches_within (length before) before p.later p.earlier) other)
 
 -- the pair of the first two items
 pub pair-in-front : (b : Bool) (before : List OrderPair) (items : List program.Form) (f g : program.Form) → 2 ≤ length items → f ≡ get_or items 0 f → g ≡ get_or items 1 g
-    → IsAcyclicIf b (before ++ pair_in (map view items)) → IsAcyclicIf b (before ++ between_strands (pair_of_nodes (node_of (view f)) (node_of (view g))))
+    → IsAcyclicIf b (before ++ pair_of_items (map view items)) → IsAcyclicIf b (before ++ between_strands (pair_of_nodes (node_of (view f)) (node_of (view g))))
 pair-in-front b before [] f g l e i h = absurd (omega arith)
 pair-in-front b before (x ∷ []) f g l e i h = absurd (omega arith)
 pair-in-front b before (x ∷ y ∷ items) f g l e i h =
@@ -110,11 +110,11 @@ module _ (done : List OrderPair) (p : OrderPair) (none : any_pair (λ q. at_or_a
   never_after : (q : OrderPair) → IsIn q (p ∷ done) → IsAtOrAfter p.later q.earlier → ⊥
   never_after q m a = not_after p.later.strand q.earlier.strand p.later.index q.earlier.index (none_in (λ r. at_or_after p.later r.earlier) (p ∷ done) q none m) a
 
-  -- what leads over the new pair goes no further than its later node's strand
-  without : (x y : Node) → LeadsTo (p ∷ done) x y → LeadsTo done x y ⊎ IsAtOrAfter p.later y
+  -- a path over the new pair goes no further than its later node's strand
+  without : (x y : Node) → ReachesAlong (p ∷ done) x y → ReachesAlong done x y ⊎ IsAtOrAfter p.later y
   without x y (on_strand a) = inl (on_strand a)
   without x y (over_pair here a l) = inr (stays_behind (p ∷ done) p.later y none l)
-  without x y (over_pair {p = q} (there m) a l) = elim (without q.later y l) as (λ _. LeadsTo done x y ⊎ IsAtOrAfter p.later y) [
+  without x y (over_pair {p = q} (there m) a l) = elim (without q.later y l) as (λ _. ReachesAlong done x y ⊎ IsAtOrAfter p.later y) [
     | inl k ↦ inl (over_pair m a k)
     | inr k ↦ inr k
   ]
@@ -126,7 +126,7 @@ module _ (done : List OrderPair) (p : OrderPair) (none : any_pair (λ q. at_or_a
     | inr k ↦ never_after q (there m) k
   ]
 
-pub swept-first : (all : List OrderPair) (tops : Tops) → ((x : Node) → is_below tops x ≡ false) → IsSwept all all [] tops
+pub swept-first : (all : List OrderPair) (tops : Tops) → ((x : Node) → is_under_tops tops x ≡ false) → IsSwept all all [] tops
 swept-first all tops none = record {
   acyclic = λ p m l. elim m [ ];
   tops_are = none;
@@ -134,15 +134,15 @@ swept-first all tops none = record {
 }
 
 module _ (all rest more done : List OrderPair) (old new : Tops) (p : OrderPair) (left : rest ≡ p ∷ more) (s : IsSwept all rest done old)
-    (raised : (x : Node) → is_below new x ≡ (is_below old x || at_or_after x p.earlier)) where
-  raised_tops : (x : Node) → is_below new x ≡ any_pair (λ q. at_or_after x q.earlier) (p ∷ done)
-  raised_tops x = or_swap (any_pair (λ q. at_or_after x q.earlier) done) (at_or_after x p.earlier) (is_below new x) (raised x ∙ ap (λ b. b || at_or_after x p.earlier) (s.tops_are x))
+    (raised : (x : Node) → is_under_tops new x ≡ (is_under_tops old x || at_or_after x p.earlier)) where
+  raised_tops : (x : Node) → is_under_tops new x ≡ any_pair (λ q. at_or_after x q.earlier) (p ∷ done)
+  raised_tops x = or_swap (any_pair (λ q. at_or_after x q.earlier) done) (at_or_after x p.earlier) (is_under_tops new x) (raised x ∙ ap (λ b. b || at_or_after x p.earlier) (s.tops_are x))
 
   one_of : (q : OrderPair) → IsIn q (p ∷ more) → IsIn q (p ∷ done) ⊎ IsIn q more
   one_of q here = inl here
   one_of q (there m) = inr m
 
-  pub swept-next : is_below new p.later ≡ false → IsSwept all more (p ∷ done) new
+  pub swept-next : is_under_tops new p.later ≡ false → IsSwept all more (p ∷ done) new
   swept-next h = record {
     acyclic = one_more done p (sym (raised_tops p.later) ∙ h) s.acyclic;
     tops_are = raised_tops;
@@ -153,7 +153,7 @@ module _ (all rest more done : List OrderPair) (old new : Tops) (p : OrderPair) 
   }
 
 pub swept-step : {A : Type 0} (f : A → OrderPair) (xs : List A) (k : ℕ) (d : A) (old new : Tops) → k < length xs → (done : List OrderPair) × IsSwept (map f xs) (map f (drop k xs)) done old
-    → ((x : Node) → is_below new x ≡ (is_below old x || at_or_after x (f (get_or xs k d)).earlier)) → is_below new (f (get_or xs k d)).later ≡ false
+    → ((x : Node) → is_under_tops new x ≡ (is_under_tops old x || at_or_after x (f (get_or xs k d)).earlier)) → is_under_tops new (f (get_or xs k d)).later ≡ false
     → (done : List OrderPair) × IsSwept (map f xs) (map f (drop (k + 1) xs)) done new
 swept-step f xs k d old new h s raised e =
     let x = get_or xs k d in

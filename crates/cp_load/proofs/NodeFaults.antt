@@ -12,10 +12,10 @@ use Rattle.cp_sexpr.specs.View.{view, views}
 use Rattle.cp_sexpr.specs.declared.form.Form as program
 use Rattle.cp_language.specs.Terms.{lacks}
 use Rattle.cp_language.specs.Problems.{number_faults, two_number_faults, range_faults, node_of, node_faults}
-use Rattle.cp_forms.specs.FirstFault.{first_onto}
+use Rattle.cp_scope.specs.FirstFault.{first_onto}
 use Rattle.cp_load.specs.Directions.{number_faults_if}
-use Rattle.cp_forms.proofs.Firsts.{first_then, first_then_three}
-use Rattle.cp_forms.proofs.Views.{view-List, items_of-forms_of}
+use Rattle.cp_scope.proofs.Firsts.{first_then, first_then_three}
+use Rattle.cp_scope.proofs.Views.{view-List, items_of-forms_of}
 
 two-numbers : (fs : List Form) → number_faults_if (item_at fs 0) ++ number_faults_if (item_at fs 1) ≡ two_number_faults fs
 two-numbers [] = refl

@@ -13,10 +13,10 @@ use Rattle.cp_sexpr.specs.declared.form.Form as program
 use Rattle.cp_language.specs.Faults.{fault, fault_unless}
 use Rattle.cp_language.specs.Roles.{text_of_symbol, vars_faults, declarations_of}
 use Rattle.cp_language.specs.Problems.{has_strand, roles_of, protocol_or_none, protocol_named, protocol_name_faults, problem_strands, body_faults, problem_faults, Problem, own_skeleton, problem_with, problem_of}
-use Rattle.cp_forms.specs.FirstFault.{first_onto}
-use Rattle.cp_instances.specs.MadeStrands.{AreMade}
+use Rattle.cp_scope.specs.FirstFault.{first_onto}
+use Rattle.cp_roles.specs.MadeStrands.{AreMade}
 use Rattle.cp_load.specs.Stages.{no_stage}
-use Rattle.cp_forms.proofs.Firsts.{first_then_four}
+use Rattle.cp_scope.proofs.Firsts.{first_then_four}
 
 pub same-roles : (o : Option Protocol) → (protocol_or_none o).roles ≡ roles_of o
 same-roles None = refl

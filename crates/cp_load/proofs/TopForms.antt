@@ -18,16 +18,16 @@ use Rattle.cp_language.specs.Problems.{Problem}
 use Rattle.cp_language.specs.Input.{protocol_names, headed_top_faults, protocols_onto, protocols_behind, faults_from, stated_problem, Entry, entries_from, faults_of}
 use Rattle.cp_language.specs.StatedInput.{protocols_in, protocols_of, IsInput}
 use Rattle.cp_roles.specs.Above.{names_of_protocols, turned}
-use Rattle.cp_forms.specs.FirstFault.{first_onto}
-use Rattle.cp_load.specs.Drafts.{draft_view}
+use Rattle.cp_scope.specs.FirstFault.{first_onto}
+use Rattle.cp_load.specs.UncheckedProblems.{unchecked_view}
 use Rattle.cp_load.specs.Inputs.{problem_view, entries_view}
-use Rattle.cp_load.specs.declared.drafts.Draft.{Draft}
+use Rattle.cp_load.specs.declared.unchecked_problems.UncheckedProblem.{UncheckedProblem}
 use Rattle.cp_load.specs.declared.input.Problem as loaded
-use Rattle.cp_forms.proofs.Firsts.{first_onto-append, first_found, none_found}
+use Rattle.cp_scope.proofs.Firsts.{first_onto-append, first_found, none_found}
 use Rattle.cp_scope.proofs.DeclaredIdentifiers.{AreSameNames, names-swap}
 use Rattle.cp_roles.proofs.RoleNames.{name-names}
 use Rattle.cp_roles.proofs.ProtocolNames.{turned-push}
-use Rattle.cp_forms.proofs.Views.{items_of-forms_of}
+use Rattle.cp_scope.proofs.Views.{items_of-forms_of}
 
 -- ---- the names of protocols
 
@@ -70,13 +70,13 @@ problems-length : (above : List Protocol) (fs : List Form) → length (problems_
 problems-length above [] = refl
 problems-length above (f ∷ fs) = ap suc (problems-length (protocols_behind (headed f) above) fs)
 
-pub draft-pushed : (xs ys : List (Option Draft)) (d : Option Draft) → ys ≡ xs ++ d ∷ []
-    → map (option_map draft_view) ys ≡ map (option_map draft_view) xs ++ option_map draft_view d ∷ []
-draft-pushed xs ys d e = ap (map (option_map draft_view)) e ∙ pushed xs
+pub unchecked-pushed : (xs ys : List (Option UncheckedProblem)) (d : Option UncheckedProblem) → ys ≡ xs ++ d ∷ []
+    → map (option_map unchecked_view) ys ≡ map (option_map unchecked_view) xs ++ option_map unchecked_view d ∷ []
+unchecked-pushed xs ys d e = ap (map (option_map unchecked_view)) e ∙ pushed xs
   where
-    pushed : (zs : List (Option Draft)) → map (option_map draft_view) (zs ++ d ∷ []) ≡ map (option_map draft_view) zs ++ option_map draft_view d ∷ []
+    pushed : (zs : List (Option UncheckedProblem)) → map (option_map unchecked_view) (zs ++ d ∷ []) ≡ map (option_map unchecked_view) zs ++ option_map unchecked_view d ∷ []
     pushed [] = refl
-    pushed (z ∷ zs) = ap (λ us. option_map draft_view z ∷ us) (pushed zs)
+    pushed (z ∷ zs) = ap (λ us. option_map unchecked_view z ∷ us) (pushed zs)
 
 -- the problems of the entries
 problems-entered : (above : List Protocol) (fs : List Form) → problems_from above fs ≡ map (λ e. e.problem) (entries_from above fs)
@@ -121,17 +121,17 @@ module _ (fs : List program.Form) (k : ℕ) where
   pub protocols-done : length fs ≤ k → (ps all : List Protocol) → ps ++ protocols_in (map view (drop k fs)) ≡ all → ps ≡ all
   protocols-done h ps all i = sym (append-nil ps) ∙ sym (ap (λ gs. ps ++ protocols_in (map view gs)) (drop_all k fs h)) ∙ i
 
-  pub drafts-done : length fs ≤ k → (above : List Protocol) (ds : List (Option Draft))
-      → map (option_map draft_view) ds ++ problems_from above (map view (drop k fs)) ≡ problems_from [] (map view fs) → map (option_map draft_view) ds ≡ map (λ e. e.problem) (entries_from [] (map view fs))
-  drafts-done h above ds i = problems-done h above (map (option_map draft_view) ds) (problems_from [] (map view fs)) i ∙ problems-entered [] (map view fs)
+  pub unchecked_problems-done : length fs ≤ k → (above : List Protocol) (ds : List (Option UncheckedProblem))
+      → map (option_map unchecked_view) ds ++ problems_from above (map view (drop k fs)) ≡ problems_from [] (map view fs) → map (option_map unchecked_view) ds ≡ map (λ e. e.problem) (entries_from [] (map view fs))
+  unchecked_problems-done h above ds i = problems-done h above (map (option_map unchecked_view) ds) (problems_from [] (map view fs)) i ∙ problems-entered [] (map view fs)
 
-  pub counted : length fs ≤ k → (above : List Protocol) (ds : List (Option Draft))
-      → map (option_map draft_view) ds ++ problems_from above (map view (drop k fs)) ≡ problems_from [] (map view fs) → length ds ≡ length fs
+  pub counted : length fs ≤ k → (above : List Protocol) (ds : List (Option UncheckedProblem))
+      → map (option_map unchecked_view) ds ++ problems_from above (map view (drop k fs)) ≡ problems_from [] (map view fs) → length ds ≡ length fs
   counted h above ds i =
-      sym (length-map ds (option_map draft_view)) ∙ ap length (problems-done h above (map (option_map draft_view) ds) (problems_from [] (map view fs)) i)
+      sym (length-map ds (option_map unchecked_view)) ∙ ap length (problems-done h above (map (option_map unchecked_view) ds) (problems_from [] (map view fs)) i)
       ∙ problems-length [] (map view fs) ∙ length-map fs view
 
--- ---- the problems of drafts
+-- ---- unchecked problems
 
 entries-with : (above : List Protocol) (gs : List Form) (ps : List (Option loaded.Problem)) → map (option_map problem_view) ps ≡ map (λ e. e.problem) (entries_from above gs) → entries_view gs ps ≡ entries_from above gs
 entries-with above [] ps e = refl
@@ -142,8 +142,8 @@ entries-with above (g ∷ gs) (p ∷ ps) e =
     ap (λ x. (let entry : Entry = record { form = g; problem = x } in entry) ∷ entries_view gs ps) first
     ∙ ap (λ es. (let entry : Entry = record { form = g; problem = stated_problem above (headed g) } in entry) ∷ es) (entries-with (protocols_behind (headed g) above) gs ps rest)
 
-pub entries-finished : (ds : List (Option Draft)) (ps : List (Option loaded.Problem)) → map (option_map problem_view) ps ≡ map (option_map draft_view) ds
-    → (gs : List Form) → map (option_map draft_view) ds ≡ map (λ e. e.problem) (entries_from [] gs) → entries_view gs ps ≡ entries_from [] gs
+pub entries-finished : (ds : List (Option UncheckedProblem)) (ps : List (Option loaded.Problem)) → map (option_map problem_view) ps ≡ map (option_map unchecked_view) ds
+    → (gs : List Form) → map (option_map unchecked_view) ds ≡ map (λ e. e.problem) (entries_from [] gs) → entries_view gs ps ≡ entries_from [] gs
 entries-finished ds ps same gs e = entries-with [] gs ps (same ∙ e)
 
 -- ---- all forms

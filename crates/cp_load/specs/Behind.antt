@@ -5,7 +5,7 @@ use Rattle.cp_base.specs.declared.place.Code.TheVariants.{BadNode, CyclicOrder}
 use Rattle.cp_base.specs.declared.place.Refusal.{Refusal}
 use Rattle.cp_sexpr.specs.Syntax.{Form}
 use Rattle.cp_language.specs.Faults.{place_of}
-use Rattle.cp_forms.specs.FirstFault.{stands_before}
+use Rattle.cp_scope.specs.FirstFault.{stands_before}
 
 -- A fault was met, and neither a cycle at this place nor a wrong direction at one of the two nodes comes before it.
 abbrev pub is_behind_fault : Option Refusal → Place → Form → Form → Bool

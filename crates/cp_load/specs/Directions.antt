@@ -14,12 +14,12 @@ direction_of (Some (send m)) = Some Transmission
 direction_of (Some (recv m)) = Some Reception
 
 -- The number that a form is.
-abbrev pub number_in : Option Form → Option ℕ
-number_in None = None
-number_in (Some (symbol at t)) = None
-number_in (Some (string at t)) = None
-number_in (Some (number at n)) = Some n
-number_in (Some (list at fs)) = None
+abbrev pub number_form : Option Form → Option ℕ
+number_form None = None
+number_form (Some (symbol at t)) = None
+number_form (Some (string at t)) = None
+number_form (Some (number at n)) = Some n
+number_form (Some (list at fs)) = None
 
 abbrev pub number_faults_if : Option Form → List Refusal
 number_faults_if None = []

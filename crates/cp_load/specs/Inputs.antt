@@ -24,5 +24,5 @@ entries_view (f ∷ fs) [] = []
 entries_view (f ∷ fs) (p ∷ ps) = record { form = f; problem = option_map problem_view p } ∷ entries_view fs ps
 
 -- The forms of the input, each with its problem.
-abbrev pub entries_of : Input → List Entry
-entries_of i = entries_view (map view i.forms.now) i.problems.items
+abbrev pub input_entries : Input → List Entry
+input_entries i = entries_view (map view i.forms.now) i.problems.items

@@ -1,6 +1,6 @@
 pub mod Directions
 pub mod Inputs
-pub mod Drafts
+pub mod UncheckedProblems
 pub mod Stages
 pub mod Originations
 pub mod Acyclic

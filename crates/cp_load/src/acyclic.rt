@@ -7,12 +7,12 @@ ghost use Rattle.cp_model.specs.Skeleton as model;
 ghost use Rattle.cp_model.specs.declared.node.OrderPair.{OrderPair};
 ghost use Rattle.cp_sexpr.specs.View.{view};
 ghost use Rattle.cp_model.specs.OrderTests.{at_or_after};
-ghost use Rattle.cp_order.specs.LeadingNodes.{tops_of, is_below};
-ghost use Rattle.cp_load.specs.Acyclic.{IsAcyclicIf, IsAcyclicUpTo, pairs_under, pairs_stated};
+ghost use Rattle.cp_order.specs.PredecessorNodes.{tops_of, is_under_tops};
+ghost use Rattle.cp_load.specs.Acyclic.{IsAcyclicIf, IsAcyclicUpTo, pairs_of_item, pairs_stated};
 
 use crate::pairs::add_pairs;
 use crate::ranks::ranks_of;
-use cp_forms::{ItemHead, headed, item_head};
+use cp_scope::{ItemHead, headed, item_head};
 use cp_sexpr::Form;
 use cp_skel::{Node, OrderPair};
 use std::alloc::{AllocError, Global};
@@ -41,7 +41,7 @@ fn in_order(alloc: Global, pairs: &[OrderPair], ranks: &[usize]) -> Result<Vec<R
 
 /// Whether a node is at the top of its strand or before it.
 fn is_below(tops: &HashMap<usize, usize>, node: Node) -> bool
-    ensures { result ≡ is_below (tops_of tops.now) node }
+    ensures { result ≡ is_under_tops (tops_of tops.now) node }
 {
     match tops.get(&node.strand) {
         Some(top) => node.index <= *top,
@@ -51,7 +51,7 @@ fn is_below(tops: &HashMap<usize, usize>, node: Node) -> bool
 
 /// Raises the top of a node's strand to this node, if it is before it.
 fn raise(tops: &mut HashMap<usize, usize>, node: Node) -> Result<(), AllocError>
-    ensures { OnOk result ((x : Node) → is_below (tops_of tops.new) x ≡ (is_below (tops_of tops.old) x || at_or_after x node)) }
+    ensures { OnOk result ((x : Node) → is_under_tops (tops_of tops.new) x ≡ (is_under_tops (tops_of tops.old) x || at_or_after x node)) }
 {
     if !is_below(tops, node) {
         tops.insert(node.strand, node.index)?;
@@ -108,7 +108,7 @@ fn count_without_cycle(alloc: Global, pairs: &[OrderPair]) -> Result<usize, Allo
 
 /// Appends the pairs that an item of a problem states.
 fn add_pairs_under(item: &Form, pairs: &mut Vec<OrderPair>) -> Result<(), AllocError>
-    ensures { OnOk result (pairs.new.items ≡ pairs.old.items ++ pairs_under (view item.now)) }
+    ensures { OnOk result (pairs.new.items ≡ pairs.old.items ++ pairs_of_item (view item.now)) }
 {
     let Some(list) = headed(item) else {
         return Ok(());

@@ -5,10 +5,10 @@ ghost use Rattle.cp_language.specs.Terms.{atom_faults};
 ghost use Rattle.cp_language.specs.Roles.{headed, item_or_none, items_behind, item_faults, each_faults};
 ghost use Rattle.cp_language.specs.Problems.{misplaced_unless, instance_faults, listener_faults, unique_faults, pairs_faults, pairs_in, pairs_if, is_precedes_item, stage_after, problem_item_faults, body_faults};
 ghost use Rattle.cp_strand.specs.View.{declaration_view, strand_view};
-ghost use Rattle.cp_forms.specs.FirstFault.{first_onto};
+ghost use Rattle.cp_scope.specs.FirstFault.{first_onto};
 ghost use Rattle.cp_roles.specs.Named.{shared_roles_view};
 ghost use Rattle.cp_load.specs.Stages.{stage_view, no_stage};
-ghost use Rattle.cp_load.specs.Acyclic.{IsAcyclicUpTo, pairs_under};
+ghost use Rattle.cp_load.specs.Acyclic.{IsAcyclicUpTo, pairs_of_item};
 
 use crate::acyclic::stated_without_cycle;
 use crate::items::{is_assumption_or_order, is_strand_item};
@@ -16,9 +16,8 @@ use crate::orders::pairs_faults;
 use crate::pairs::add_pairs;
 use crate::values::unique_faults;
 use cp_base::{Code, Place};
-use cp_forms::{FirstFault, ItemHead, headed, item_head, place_of};
-use cp_instances::{instance_faults, listener_faults};
-use cp_scope::atoms_faults;
+use cp_roles::{instance_faults, listener_faults};
+use cp_scope::{FirstFault, ItemHead, atoms_faults, headed, item_head, place_of};
 use cp_sexpr::Form;
 use cp_skel::{Declaration, OrderPair, Role, Strand};
 use std::alloc::{AllocError, Global};
@@ -162,7 +161,7 @@ fn item_faults(
     form: &Form,
     first: &mut FirstFault,
 ) -> Result<(), AllocError>
-    requires { IsAcyclicUpTo acyclic_count (before.old.items ++ pairs_under (view form.now)) }
+    requires { IsAcyclicUpTo acyclic_count (before.old.items ++ pairs_of_item (view form.now)) }
     ensures faults { OnOk result (first.new ≡ first_onto first.old (item_faults (problem_item_faults (shared_roles_view scope.entry.roles.now)
         (map declaration_view scope.entry.variables.now) (map strand_view scope.entry.strands.now) before.old.items (stage_view stage)) (view form.now))) }
     ensures pairs { OnOk result (before.new.items

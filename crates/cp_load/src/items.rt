@@ -4,7 +4,7 @@ ghost use Rattle.cp_sexpr.specs.View.{view};
 ghost use Rattle.cp_language.specs.Problems.{has_strand, is_strand_item, is_assumption_or_order, before_items};
 ghost use Rattle.cp_language.specs.Roles.{headed, item_or_none};
 
-use cp_forms::{ItemHead, first_items, headed, item_head};
+use cp_scope::{ItemHead, first_items, headed, item_head};
 use cp_sexpr::Form;
 
 /// Whether an item has the head of a strand.

@@ -6,7 +6,6 @@
 
 mod acyclic;
 mod bodies;
-mod drafts;
 mod error;
 mod input;
 mod items;
@@ -16,11 +15,11 @@ mod orders;
 mod pairs;
 mod problems;
 mod ranks;
+mod unchecked_problems;
 mod unique_origins;
 mod values;
 
 pub use acyclic::have_no_cycle;
-pub use drafts::{Draft, SkeletonDraft, all_finished};
 pub use error::LoadError;
 pub use input::{Input, Problem};
 pub use loader::{load, top_form};
@@ -29,5 +28,6 @@ pub use orders::{closes_cycle, pair_of_nodes};
 pub use pairs::{
     add_pair, add_pairs, is_on_one_strand, is_reception, is_transmission, node_if_there, pair_of,
 };
+pub use unchecked_problems::{UncheckedProblem, UncheckedSkeleton, all_finished};
 pub use unique_origins::carries_under;
 pub use values::table_of;

@@ -7,19 +7,18 @@ ghost use Rattle.cp_language.specs.Roles.{headed, protocol_faults, protocol_of};
 ghost use Rattle.cp_language.specs.Input.{protocol_names, headed_top_faults, stated_problem, protocols_behind, faults_from, entries_from};
 ghost use Rattle.cp_language.specs.StatedInput.{protocols_in, protocols_of, IsInput};
 ghost use Rattle.cp_roles.specs.Above.{protocols_view, names_of_protocols, turned};
-ghost use Rattle.cp_forms.specs.FirstFault.{first_onto};
-ghost use Rattle.cp_load.specs.Drafts.{draft_view};
-ghost use Rattle.cp_load.specs.Inputs.{entries_of};
+ghost use Rattle.cp_scope.specs.FirstFault.{first_onto};
+ghost use Rattle.cp_load.specs.UncheckedProblems.{unchecked_view};
+ghost use Rattle.cp_load.specs.Inputs.{input_entries};
 ghost use Rattle.cp_load.specs.declared.error.LoadError.TheVariants.{Refused};
 
-use crate::drafts::{Draft, all_finished};
 use crate::error::LoadError;
 use crate::input::Input;
 use crate::problems::problem_of;
+use crate::unchecked_problems::{UncheckedProblem, all_finished};
 use cp_base::{Code, Place, Text};
-use cp_forms::{FirstFault, TopHead, headed, place_of, top_head};
 use cp_roles::protocol_of;
-use cp_scope::Taken;
+use cp_scope::{FirstFault, NameSet, TopHead, headed, place_of, top_head};
 use cp_sexpr::Form;
 use cp_skel::Protocol;
 use std::alloc::{AllocError, Global};
@@ -29,7 +28,7 @@ use std::rc::Rc;
 fn add_protocol(
     alloc: Global,
     above: &mut Vec<Rc<Protocol>>,
-    names: &mut Taken,
+    names: &mut NameSet,
     place: Place,
     items: &[Form],
     first: &mut FirstFault,
@@ -52,13 +51,13 @@ fn add_protocol(
 pub fn top_form(
     alloc: Global,
     above: &mut Vec<Rc<Protocol>>,
-    names: &mut Taken,
+    names: &mut NameSet,
     form: &Form,
     first: &mut FirstFault,
-) -> Result<Option<Draft>, AllocError>
+) -> Result<Option<UncheckedProblem>, AllocError>
     requires { names.old ≡ names_of_protocols (protocols_view above.old.items) }
     ensures faults { OnOk result (first.new ≡ first_onto first.old (headed_top_faults (turned (protocols_view above.old.items) []) (place_of (view form.now)) (headed (view form.now)))) }
-    ensures problem { IfOk result (λ d. option_map draft_view d ≡ stated_problem (turned (protocols_view above.old.items) []) (headed (view form.now))) }
+    ensures problem { IfOk result (λ d. option_map unchecked_view d ≡ stated_problem (turned (protocols_view above.old.items) []) (headed (view form.now))) }
     ensures protocols { OnOk result (protocols_view above.new.items ≡ protocols_view above.old.items ++ protocols_behind (headed (view form.now)) []) }
     ensures names { OnOk result (names.new ≡ names_of_protocols (protocols_view above.new.items)) }
 {
@@ -70,8 +69,8 @@ pub fn top_form(
     match top_head(list.head) {
         TopHead::Protocol => add_protocol(alloc, above, names, place, list.items, first)?,
         TopHead::Problem => {
-            let draft = problem_of(alloc, above, place, list.items, first)?;
-            return Ok(Some(draft));
+            let unchecked = problem_of(alloc, above, place, list.items, first)?;
+            return Ok(Some(unchecked));
         }
         TopHead::Free => {}
         TopHead::OutOfProfile => first.note(place, Code::OutOfProfile),
@@ -80,28 +79,31 @@ pub fn top_form(
     Ok(None)
 }
 
-/// What forms state: their protocols in order, and for each form the draft of its problem.
+/// What forms state: their protocols in order, and for each form its unchecked problem.
 #[derive(Drop)]
 struct Stated {
     protocols: Vec<Rc<Protocol>>,
-    drafts: Vec<Option<Draft>>,
+    unchecked_problems: Vec<Option<UncheckedProblem>>,
 }
 
 /// What these forms state. Notes their faults; what stands for a form with faults has no meaning.
 fn read_forms(alloc: Global, forms: &[Form], first: &mut FirstFault) -> Result<Stated, AllocError>
     ensures faults { OnOk result (first.new ≡ first_onto first.old (faults_from [] (map view forms.now))) }
-    ensures problems { IfOk result (λ s. map (option_map draft_view) s.drafts.items ≡ map (λ e. e.problem) (entries_from [] (map view forms.now))) }
-    ensures counted { IfOk result (λ s. length s.drafts.items ≡ length forms.now) }
+    ensures problems { IfOk result (λ s. map (option_map unchecked_view) s.unchecked_problems.items ≡ map (λ e. e.problem) (entries_from [] (map view forms.now))) }
+    ensures counted { IfOk result (λ s. length s.unchecked_problems.items ≡ length forms.now) }
     ensures protocols { IfOk result (λ s. protocols_view s.protocols.items ≡ protocols_in (map view forms.now)) }
 {
     let mut protocols = Vec::new(alloc);
-    let mut names = Taken::new(alloc);
-    let mut drafts = Vec::new(alloc);
+    let mut names = NameSet::new(alloc);
+    let mut unchecked_problems = Vec::new(alloc);
     for form in forms {
-        let draft = top_form(alloc, &mut protocols, &mut names, form, first)?;
-        drafts.push(draft)?;
+        let unchecked = top_form(alloc, &mut protocols, &mut names, form, first)?;
+        unchecked_problems.push(unchecked)?;
     }
-    Ok(Stated { protocols, drafts })
+    Ok(Stated {
+        protocols,
+        unchecked_problems,
+    })
 }
 
 /// Loads forms: the input, which keeps the forms, with its protocols and, for each form, the problem that it states, if
@@ -110,20 +112,23 @@ fn read_forms(alloc: Global, forms: &[Form], first: &mut FirstFault) -> Result<S
 /// Forms with faults are refused for the first fault by line, then by column, then by kind. The other error is
 /// `Memory`.
 pub fn load<'a>(alloc: Global, forms: &'a [Form]) -> Result<Input<'a>, LoadError>
-    ensures input { IfOk result (λ i. IsInput (views forms.now) (Ok (entries_of i))) }
+    ensures input { IfOk result (λ i. IsInput (views forms.now) (Ok (input_entries i))) }
     ensures forms { IfOk result (λ i. i.forms.now ≡ forms.now) }
     ensures problems { IfOk result (λ i. length i.problems.items ≡ length forms.now) }
     ensures protocols { IfOk result (λ i. protocols_view i.protocols.items ≡ protocols_of (views forms.now)) }
     ensures refused { IfErr result (λ e. (r : Fault) → e ≡ Refused r → IsInput (views forms.now) (Err r)) }
 {
     let mut first = FirstFault::new();
-    let Stated { protocols, drafts } = read_forms(alloc, forms, &mut first)?;
+    let Stated {
+        protocols,
+        unchecked_problems,
+    } = read_forms(alloc, forms, &mut first)?;
     match first.found() {
         Some(fault) => Err(LoadError::Refused(fault)),
         None => Ok(Input {
             forms,
             protocols,
-            problems: all_finished(alloc, drafts)?,
+            problems: all_finished(alloc, unchecked_problems)?,
         }),
     }
 }

@@ -5,12 +5,11 @@ ghost use Rattle.cp_model.specs.Skeleton.{skeleton_trace, term_event_at};
 ghost use Rattle.cp_sexpr.specs.View.{view};
 ghost use Rattle.cp_language.specs.Problems.{node_of, range_faults, two_number_faults, node_faults};
 ghost use Rattle.cp_strand.specs.View.{event_view, strand_view};
-ghost use Rattle.cp_forms.specs.FirstFault.{first_onto};
-ghost use Rattle.cp_load.specs.Directions.{direction_of, number_in, number_faults_if};
+ghost use Rattle.cp_scope.specs.FirstFault.{first_onto};
+ghost use Rattle.cp_load.specs.Directions.{direction_of, number_form, number_faults_if};
 
 use cp_base::{Code, Place};
-use cp_forms::{FirstFault, item_at, list_items, place_of};
-use cp_scope::lacks;
+use cp_scope::{FirstFault, item_at, lacks, list_items, place_of};
 use cp_sexpr::Form;
 use cp_skel::{Event, Node, Strand, StrandShape, prefix_of};
 
@@ -61,7 +60,7 @@ pub fn node_direction(strands: &[Strand], node: Node) -> Option<Direction>
 
 /// The number that a form is, if it is one.
 fn number(form: Option<&Form>) -> Option<usize>
-    ensures { result ≡ number_in (option_map (λ f. view f.now) form.entry) }
+    ensures { result ≡ number_form (option_map (λ f. view f.now) form.entry) }
 {
     match form {
         Some(Form::Number(_, number)) => Some(*number),

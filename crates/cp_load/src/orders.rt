@@ -4,17 +4,16 @@ ghost use Rattle.cp_sexpr.specs.View.{view};
 ghost use Rattle.cp_language.specs.Roles.{unless_faulty};
 ghost use Rattle.cp_language.specs.Problems.{node_of, node_faults, pair_of_nodes, at_or_after, any_pair, closes_cycle, order_faults, pair_items_faults, pair_faults, pairs_in, pairs_faults, between_strands, pair_of};
 ghost use Rattle.cp_strand.specs.View.{strand_view};
-ghost use Rattle.cp_forms.specs.FirstFault.{first_onto};
-ghost use Rattle.cp_load.specs.Acyclic.{IsAcyclicIf, IsAcyclicUpTo, pair_in};
+ghost use Rattle.cp_scope.specs.FirstFault.{first_onto};
+ghost use Rattle.cp_load.specs.Acyclic.{IsAcyclicIf, IsAcyclicUpTo, pair_of_items};
 ghost use Rattle.cp_load.specs.Behind.{is_behind_fault};
 
 use crate::nodes::{node_faults, node_of};
 use crate::pairs::{add_pair, direction_faults, is_on_one_strand, pair_of};
 use cp_base::{Code, Place};
-use cp_forms::{FirstFault, list_items, place_of};
-use cp_scope::exceeds;
+use cp_scope::{FirstFault, exceeds, list_items, place_of};
 use cp_sexpr::Form;
-use cp_skel::{Leading, Node, OrderPair, Strand};
+use cp_skel::{Node, OrderPair, Predecessors, Strand};
 use std::alloc::{AllocError, Global};
 
 /// Whether the other node is this one or comes after it on its strand.
@@ -73,7 +72,7 @@ pub fn closes_cycle(
     if !some_ends_before(before, pair.earlier) {
         return Ok(false);
     }
-    let leading = Leading::new(alloc, before, pair.earlier)?;
+    let leading = Predecessors::new(alloc, before, pair.earlier)?;
     Ok(leading.has(pair.later))
 }
 
@@ -176,7 +175,7 @@ fn pair_items_faults(
     items: &[Form],
     first: &mut FirstFault,
 ) -> Result<(), AllocError>
-    requires { IsAcyclicIf before.acyclic (before.pairs.now ++ pair_in (map view items.now)) }
+    requires { IsAcyclicIf before.acyclic (before.pairs.now ++ pair_of_items (map view items.now)) }
     ensures { OnOk result (first.new ≡ first_onto first.old (pair_items_faults (map strand_view before.entry.strands.now) before.entry.pairs.now place (map view items.now))) }
 {
     let [earlier, later, rest @ ..] = items else {

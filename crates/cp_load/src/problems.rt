@@ -4,20 +4,18 @@ ghost use Rattle.cp_sexpr.specs.View.{view};
 ghost use Rattle.cp_language.specs.Problems.{protocol_name_faults, has_strand, protocol_named, protocol_or_none, problem_strands, problem_faults, problem_of};
 ghost use Rattle.cp_strand.specs.View.{declaration_view, strand_view};
 ghost use Rattle.cp_roles.specs.Above.{protocols_view, turned};
-ghost use Rattle.cp_forms.specs.FirstFault.{first_onto};
-ghost use Rattle.cp_load.specs.Drafts.{draft_view};
-ghost use Rattle.cp_instances.specs.MadeStrands.{AreMade};
+ghost use Rattle.cp_scope.specs.FirstFault.{first_onto};
+ghost use Rattle.cp_load.specs.UncheckedProblems.{unchecked_view};
+ghost use Rattle.cp_roles.specs.MadeStrands.{AreMade};
 ghost use Rattle.cp_roles.specs.Named.{shared_roles_view};
 
 use crate::bodies::{Scope, body_faults};
-use crate::drafts::Draft;
 use crate::items::{before_items, has_strand};
+use crate::unchecked_problems::UncheckedProblem;
 use crate::values::own_skeleton;
 use cp_base::{Code, Place};
-use cp_forms::{FirstFault, later_items, place_of, symbol_or_empty};
-use cp_instances::{copies_of, strands};
-use cp_roles::{no_protocol, protocol_named};
-use cp_scope::variables_of;
+use cp_roles::{copies_of, no_protocol, protocol_named, strands};
+use cp_scope::{FirstFault, later_items, place_of, symbol_or_empty, variables_of};
 use cp_sexpr::Form;
 use cp_skel::{Declaration, Protocol, Strand};
 use std::alloc::{AllocError, Global};
@@ -82,10 +80,10 @@ fn parts_of(
 }
 
 /// Placeholder for an ill-formed problem.
-fn no_problem(alloc: Global) -> Result<Draft, AllocError>
-    ensures { IfOk result (λ d. draft_view d ≡ problem_of [] []) }
+fn no_problem(alloc: Global) -> Result<UncheckedProblem, AllocError>
+    ensures { IfOk result (λ d. unchecked_view d ≡ problem_of [] []) }
 {
-    Ok(Draft {
+    Ok(UncheckedProblem {
         protocol: Rc::new(alloc, no_protocol(alloc)?)?,
         declared: 0,
         skeleton: own_skeleton(alloc, &[], Vec::new(alloc), &[], &[])?,
@@ -100,9 +98,9 @@ pub(crate) fn problem_of(
     place: Place,
     items: &[Form],
     first: &mut FirstFault,
-) -> Result<Draft, AllocError>
+) -> Result<UncheckedProblem, AllocError>
     ensures faults { OnOk result (first.new ≡ first_onto first.old (problem_faults (turned (protocols_view above.now) []) place (map view items.now))) }
-    ensures problem { IfOk result (λ d. draft_view d ≡ problem_of (turned (protocols_view above.now) []) (map view items.now)) }
+    ensures problem { IfOk result (λ d. unchecked_view d ≡ problem_of (turned (protocols_view above.now) []) (map view items.now)) }
 {
     let [name, variables, body @ ..] = items else {
         first.note(place, Code::BadShape);
@@ -121,7 +119,7 @@ pub(crate) fn problem_of(
     };
     body_faults(scope, body, first)?;
     let skeleton = own_skeleton(alloc, &declared, strands, body, &variables)?;
-    Ok(Draft {
+    Ok(UncheckedProblem {
         protocol,
         declared: declared.len(),
         skeleton,

@@ -8,16 +8,18 @@ ghost use Rattle.cp_language.specs.Roles.{headed, item_or_none, atoms_in, forms_
 ghost use Rattle.cp_strand.specs.View.{declaration_view, strand_view};
 ghost use Rattle.cp_skel.specs.View.{skeleton_view};
 ghost use Rattle.cp_skel.specs.Trees.{variables_view};
-ghost use Rattle.cp_forms.specs.FirstFault.{first_onto};
-ghost use Rattle.cp_load.specs.Drafts.{skeleton_drafted};
+ghost use Rattle.cp_scope.specs.FirstFault.{first_onto};
+ghost use Rattle.cp_load.specs.UncheckedProblems.{skeleton_unchecked};
 ghost use Rattle.cp_scope.specs.Kinds.{is_of_kind};
 
-use crate::drafts::SkeletonDraft;
 use crate::pairs::add_pairs;
+use crate::unchecked_problems::UncheckedSkeleton;
 use crate::unique_origins::{add_own_uniques, originates};
 use cp_base::Code;
-use cp_forms::{FirstFault, ItemHead, headed, item_head, items_behind, place_of};
-use cp_scope::{Kind, Variable, atom_faults, atom_of, atoms_of, variable_term};
+use cp_scope::{
+    FirstFault, ItemHead, Kind, Variable, atom_faults, atom_of, atoms_of, headed, item_head,
+    items_behind, place_of, variable_term,
+};
 use cp_sexpr::Form;
 use cp_skel::{
     Assumptions, Atom, Declaration, FromProblem, Order, OrderPair, Strand, UniqueAt, add_atoms,
@@ -158,15 +160,15 @@ pub(crate) fn own_skeleton(
     strands: Vec<Strand>,
     body: &[Form],
     all: &[Declaration],
-) -> Result<SkeletonDraft, AllocError>
-    ensures skeleton { IfOk result (λ k. skeleton_view (skeleton_drafted k) ≡ own_skeleton (map declaration_view declared.now) (map strand_view strands.items) (map view body.now) (map declaration_view all.now)) }
+) -> Result<UncheckedSkeleton, AllocError>
+    ensures skeleton { IfOk result (λ k. skeleton_view (skeleton_unchecked k) ≡ own_skeleton (map declaration_view declared.now) (map strand_view strands.items) (map view body.now) (map declaration_view all.now)) }
     ensures variables { IfOk result (λ k. variables_view k.variables ≡ map declaration_view all.now) }
 {
     let own = own_assumptions(alloc, declared, &strands, body)?;
     let mut assumptions = own.copy(alloc)?;
     add_given(alloc, &strands, &mut assumptions)?;
     let pairs = pairs_of(alloc, body)?;
-    Ok(SkeletonDraft {
+    Ok(UncheckedSkeleton {
         variables: table_of(alloc, all)?,
         order: Order::of(Vec::from_slice(alloc, &pairs)?),
         assumptions,

@@ -9,23 +9,23 @@ use Rattle.cp_model.specs.Bundle.{node_at}
 use Rattle.cp_model.specs.declared.node.Node.{Node}
 use Rattle.cp_model.specs.Skeleton.{term_event_at, skeleton_trace_or_none, IsNodeOf, Skeleton, OrderStep, along_strand_of, along_pair, Before, IsOrderPair}
 use Rattle.cp_model.specs.declared.node.OrderPair.{OrderPair}
-use Rattle.cp_model.specs.Order.{IsAtOrAfter, LeadsTo, on_strand, over_pair}
+use Rattle.cp_model.specs.Order.{IsAtOrAfter, ReachesAlong, on_strand, over_pair}
 
--- ---- what is before leads there
+-- ---- a node that is before another reaches it
 
-leads_from_before : (pairs : List OrderPair) (x y z : Node) → IsAtOrAfter x y → LeadsTo pairs y z → LeadsTo pairs x z
+leads_from_before : (pairs : List OrderPair) (x y z : Node) → IsAtOrAfter x y → ReachesAlong pairs y z → ReachesAlong pairs x z
 leads_from_before pairs x y z a (on_strand b) = on_strand (a.0 ∙ b.0, omega (arith, a.1, b.1))
 leads_from_before pairs x y z a (over_pair m b l) = over_pair m (a.0 ∙ b.0, omega (arith, a.1, b.1)) l
 
-step_leads : (k : Skeleton) (x y z : Node) → OrderStep k x y → LeadsTo k.pairs y z → LeadsTo k.pairs x z
+step_leads : (k : Skeleton) (x y z : Node) → OrderStep k x y → ReachesAlong k.pairs y z → ReachesAlong k.pairs x z
 step_leads k x y z (along_strand_of {s} {i} e) l = leads_from_before k.pairs (node_at s i) (node_at s (suc i)) z (refl, omega arith) l
 step_leads k x y z (along_pair {p} m) l = over_pair m (refl, omega arith) l
 
-pub before_leads : (k : Skeleton) (x y : Node) → Before k x y → LeadsTo k.pairs x y
+pub before_leads : (k : Skeleton) (x y : Node) → Before k x y → ReachesAlong k.pairs x y
 before_leads k x y (one_step s) = step_leads k x y y s (on_strand (refl, omega arith))
 before_leads k x z (more_steps {y} s l) = step_leads k x y z s (before_leads k y z l)
 
--- ---- what leads there is before
+-- ---- a node that reaches another is before it
 
 -- up a strand to an event
 along : (k : Skeleton) (s i j : ℕ) → i < j → IsNodeOf k.strands (node_at s j) → Before k (node_at s i) (node_at s j)
@@ -56,7 +56,7 @@ module _ (k : Skeleton) (order_pairs : (p : OrderPair) → IsIn p k.pairs → Is
   is_node : (p : OrderPair) → IsIn p k.pairs → IsNodeOf k.strands p.earlier
   is_node p m = (send (order_pairs p m).sent, (order_pairs p m).transmission)
 
-  pub leads_before : (x y : Node) → IsNodeOf k.strands y → LeadsTo k.pairs x y → (x ≡ y) ⊎ Before k x y
+  pub leads_before : (x y : Node) → IsNodeOf k.strands y → ReachesAlong k.pairs x y → (x ≡ y) ⊎ Before k x y
   leads_before x y n (on_strand a) = same_or_along k x y a n
   leads_before x y n (over_pair {p} m a l) =
       inr (then_before k x p.earlier y (same_or_along k x p.earlier a (is_node p m))
@@ -66,7 +66,7 @@ module _ (k : Skeleton) (order_pairs : (p : OrderPair) → IsIn p k.pairs → Is
   differ x y other (inl e) = absurd (other e)
   differ x y other (inr b) = b
 
-  pub before_by_pairs : ((n : Node) → Before k n n → ⊥) → (x y : Node) → IsNodeOf k.strands y → Before k x y ↔ (LeadsTo k.pairs x y × (x ≡ y → ⊥))
+  pub before_by_pairs : ((n : Node) → Before k n n → ⊥) → (x y : Node) → IsNodeOf k.strands y → Before k x y ↔ (ReachesAlong k.pairs x y × (x ≡ y → ⊥))
   before_by_pairs no_cycle x y n =
       (λ b. (before_leads k x y b, λ e. no_cycle x (subst (Before k x) (sym e) b)), λ h. differ x y h.1 (leads_before x y n h.0))
 

@@ -32,3 +32,5 @@ pub mod BoundedSearch
 pub mod DeclaredVariables
 pub mod Numbers
 pub mod OccurringVariables
+pub mod PrefixVariables
+pub mod UnderVariables

@@ -33,3 +33,7 @@ pub mod Senders
 pub mod FirstCarriers
 pub mod Same
 pub mod Given
+pub mod Positions
+pub mod PrefixVariables
+pub mod GivenAssumptions
+pub mod Extensions

@@ -120,9 +120,9 @@ tokens (pair a b) = tokens a ++ (tokens b ++ (pair_token ∷ []))
 tokens (enc a k) = tokens a ++ (enc_token k ∷ [])
 
 -- One step of the machine: what a token does to the stack, whose top stands first.
-abbrev paired : List Message → List Message
-paired (b ∷ (a ∷ stack)) = pair a b ∷ stack
-paired stack = stack
+abbrev paired_top : List Message → List Message
+paired_top (b ∷ (a ∷ stack)) = pair a b ∷ stack
+paired_top stack = stack
 
 abbrev encrypted : Key → List Message → List Message
 encrypted k (a ∷ stack) = enc a k ∷ stack
@@ -131,7 +131,7 @@ encrypted k [] = []
 abbrev step : Token → List Message → List Message
 step (tag_token bytes) stack = tag bytes ∷ stack
 step (atom_token a) stack = atom a ∷ stack
-step pair_token stack = paired stack
+step pair_token stack = paired_top stack
 step (enc_token k) stack = encrypted k stack
 
 -- The machine: what tokens do to the stack, one after another.

@@ -8,8 +8,8 @@ use Rattle.cp_model.specs.declared.node.OrderPair.{OrderPair}
 abbrev pub IsAtOrAfter : Node → Node → Type 0
 IsAtOrAfter x y = (x.strand ≡ y.strand) × (x.index ≤ y.index)
 
--- x leads to y: y is x or comes after it on its strand; or x is, or stands before, the earlier node of a pair whose
--- later node leads to y.
-pub data LeadsTo (pairs : List OrderPair) : Node → Node → Type 0 where
-  on_strand : {x y : Node} → IsAtOrAfter x y → LeadsTo pairs x y
-  over_pair : {p : OrderPair} {x y : Node} → IsIn p pairs → IsAtOrAfter x p.earlier → LeadsTo pairs p.later y → LeadsTo pairs x y
+-- x reaches y: y is x or comes after it on its strand; or x is, or stands before, the earlier node of a pair whose
+-- later node reaches y.
+pub data ReachesAlong (pairs : List OrderPair) : Node → Node → Type 0 where
+  on_strand : {x y : Node} → IsAtOrAfter x y → ReachesAlong pairs x y
+  over_pair : {p : OrderPair} {x y : Node} → IsIn p pairs → IsAtOrAfter x p.earlier → ReachesAlong pairs p.later y → ReachesAlong pairs x y

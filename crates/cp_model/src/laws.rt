@@ -9,7 +9,7 @@ ghost use Rattle.cp_model.specs.Run.{Run, IsRun, IsBundleOf};
 ghost use Rattle.cp_lists.specs.Lists.{IsIn};
 ghost use Rattle.cp_model.specs.Skeleton.{IsNodeOf, Skeleton, Before, IsOrderPair, IsSkeleton};
 ghost use Rattle.cp_model.specs.declared.node.OrderPair.{OrderPair};
-ghost use Rattle.cp_model.specs.Order.{LeadsTo};
+ghost use Rattle.cp_model.specs.Order.{ReachesAlong};
 ghost use Rattle.cp_model.specs.Standing.{Standing, StandsIn};
 ghost use Rattle.cp_model.specs.Homomorphism.{SkeletonMap, IsHomomorphism, Embeds};
 ghost use Rattle.cp_model.specs.Composition.{through};
@@ -53,8 +53,8 @@ pub fn run_makes_a_bundle()
 {}
 
 /// Let the pairs of a skeleton go from transmissions to receptions of other strands, and its order have no cycle. Then a node is
-/// before an existing one exactly if it is a different node that leads there along strands and pairs.
+/// before an existing one exactly if it is a different node that reaches it along strands and pairs.
 #[tactic(auto, using(crate::proofs::LawOrder::before_by_pairs))]
 pub fn before_is_leading_to_another()
-    ensures { (k : Skeleton) → ((p : OrderPair) → IsIn p k.pairs → IsOrderPair k p) → ((n : Node) → Before k n n → ⊥) → (x y : Node) → IsNodeOf k.strands y → Before k x y ↔ (LeadsTo k.pairs x y × (x ≡ y → ⊥)) }
+    ensures { (k : Skeleton) → ((p : OrderPair) → IsIn p k.pairs → IsOrderPair k p) → ((n : Node) → Before k n n → ⊥) → (x y : Node) → IsNodeOf k.strands y → Before k x y ↔ (ReachesAlong k.pairs x y × (x ≡ y → ⊥)) }
 {}

@@ -15,6 +15,7 @@ mod origin;
 mod runs;
 mod single;
 mod sort;
+mod step;
 mod strand;
 
 pub use bundle::{Bundle, Run};
@@ -32,4 +33,5 @@ pub use single::{
     one_strand_is_its_own_complete_list, skeleton_keeps_what_it_states, skeleton_maps_from_itself,
 };
 pub use sort::Sort;
+pub use step::Step;
 pub use strand::{Event, Strand};

@@ -1,9 +1,9 @@
 pub mod MarkMeanings
-pub mod DeclaredMarks
+pub mod DeclaredFlags
 pub mod FreeNames
 pub mod Tables
-pub mod NamesByMarks
+pub mod NamesByFlags
 pub mod LaterNames
 pub mod LocalsInOrder
 pub mod LocalsFound
-pub mod PrefixMarks
+pub mod PrefixFlags

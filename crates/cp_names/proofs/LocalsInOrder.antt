@@ -6,7 +6,7 @@ use Rattle.cp_model.specs.Term.{Sort, Variable}
 use Rattle.cp_model.specs.Same.{same_sort, has_variable}
 use Rattle.cp_model.proofs.SameTests.{sort_is}
 use Rattle.cp_language.specs.Printed.{without, locals_in_order}
-use Rattle.cp_names.proofs.NamesByMarks.{branch}
+use Rattle.cp_names.proofs.NamesByFlags.{branch}
 
 same_variable : (x y : Variable) → (same_sort x.sort y.sort && (x.number == y.number)) ≡ true → x ≡ y
 same_variable x y e =

@@ -5,10 +5,10 @@ ghost use Rattle.cp_language.specs.Report.{variables_of_test, occurring};
 ghost use Rattle.cp_scope.specs.Terms.{variable_view};
 ghost use Rattle.cp_strand.specs.View.{declaration_view};
 ghost use Rattle.cp_skel.specs.Trees.{test_view, label_view};
-ghost use Rattle.cp_names.specs.Marks.{AreMarksOf};
+ghost use Rattle.cp_names.specs.Flags.{AreFlagsOf};
 
+use crate::flags::flags_of;
 use crate::locals::add_patterns;
-use crate::marks::marks_of;
 use crate::names::{declarations, label_names};
 use crate::occurrences::{add_assumptions, add_strands, add_term, add_terms};
 use cp_scope::Variable;
@@ -47,7 +47,7 @@ fn occurring(alloc: Global, label: &TreeNode) -> Result<Vec<Variable>, AllocErro
 #[derive(Drop)]
 pub struct LabelVariables {
     pub declared: Vec<Declaration>,
-    pub marks: Vec<bool>,
+    pub flags: Vec<bool>,
     pub names: Vec<Text>,
 }
 
@@ -58,16 +58,16 @@ pub fn variables_of_label(
     label: &TreeNode,
 ) -> Result<LabelVariables, AllocError>
     ensures declared { IfOk result (λ xs. map declaration_view xs.declared.items ≡ (label_view label.now).variables) }
-    ensures marks { IfOk result (λ xs. AreMarksOf (occurring (label_view label.now)) (length (label_view label.now).variables) xs.marks.items) }
+    ensures flags { IfOk result (λ xs. AreFlagsOf (occurring (label_view label.now)) (length (label_view label.now).variables) xs.flags.items) }
     ensures names { IfOk result (λ xs. xs.names.items ≡ label_names of_problem.now (occurring (label_view label.now)) (label_view label.now).variables) }
 {
     let declared = declarations(alloc, label.skeleton.variables())?;
     let occurring = occurring(alloc, label)?;
-    let marks = marks_of(alloc, declared.len(), &occurring)?;
-    let names = label_names(alloc, of_problem, &marks, &declared)?;
+    let flags = flags_of(alloc, declared.len(), &occurring)?;
+    let names = label_names(alloc, of_problem, &flags, &declared)?;
     Ok(LabelVariables {
         declared,
-        marks,
+        flags,
         names,
     })
 }

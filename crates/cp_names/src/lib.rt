@@ -3,13 +3,13 @@
 //! Every call that returns `AllocError` fails only if memory runs out.
 #![tactic(auto)]
 
+mod flags;
 mod labels;
 mod locals;
-mod marks;
 mod names;
 mod occurrences;
 
+pub use flags::{is_flagged, is_same_sort, prefix_flags};
 pub use labels::{LabelVariables, variables_of_label};
 pub use locals::locals_of;
-pub use marks::{is_marked, is_same_sort, prefix_marks};
 pub use names::problem_names;

@@ -7,7 +7,7 @@ ghost use Rattle.cp_model.specs.Same.{has_variable};
 ghost use Rattle.cp_term.specs.Patterns.{variable_with};
 ghost use Rattle.cp_scope.specs.Terms.{variable_view};
 
-use crate::marks::is_same_sort;
+use crate::flags::is_same_sort;
 use crate::occurrences::add_term;
 use cp_scope::Variable;
 use cp_term::{Pattern, Sort, VarId};

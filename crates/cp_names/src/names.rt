@@ -3,10 +3,10 @@ ghost use Rattle.std.specs.Prelude.{◌≡◌, ◌++◌, [], ◌∷◌, map, IfO
 ghost use Rattle.cp_language.specs.Names.{numbered_name, free_name, identifiers_in, names_onto, problem_names};
 ghost use Rattle.cp_strand.specs.View.{declaration_view};
 ghost use Rattle.cp_skel.specs.Trees.{variables_view};
-ghost use Rattle.cp_names.specs.Marks.{label_names_by};
+ghost use Rattle.cp_names.specs.Flags.{label_names_by};
 
-use crate::marks::is_marked;
-use cp_scope::Taken;
+use crate::flags::is_flagged;
+use cp_scope::NameSet;
 use cp_skel::Declaration;
 use cp_term::{Text, VarId, VarTable};
 use itoa::Buffer;
@@ -38,7 +38,7 @@ fn numbered_name(alloc: Global, name: &str, number: usize) -> Result<Text, Alloc
 }
 
 /// The first of the name and its numbered forms that is not taken.
-fn free_name(alloc: Global, taken: &Taken, name: &str) -> Result<Text, AllocError>
+fn free_name(alloc: Global, taken: &NameSet, name: &str) -> Result<Text, AllocError>
     ensures { IfOk result (λ t. t ≡ free_name taken.now name.now) }
 {
     if !taken.has(name) {
@@ -56,7 +56,7 @@ fn free_name(alloc: Global, taken: &Taken, name: &str) -> Result<Text, AllocErro
 /// Names, all of which are also taken.
 #[derive(Drop)]
 struct Names {
-    taken: Taken,
+    taken: NameSet,
     names: Vec<Text>,
 }
 
@@ -77,7 +77,7 @@ fn identifiers(alloc: Global, variables: &[Declaration]) -> Result<Names, AllocE
     ensures names { IfOk result (λ names. names.names.items ≡ identifiers_in (map declaration_view variables.now)) }
 {
     let mut names = Names {
-        taken: Taken::new(alloc),
+        taken: NameSet::new(alloc),
         names: Vec::new(alloc),
     };
     for variable in variables {
@@ -122,7 +122,7 @@ fn copied(alloc: Global, of_problem: &[Text]) -> Result<Names, AllocError>
     ensures names { IfOk result (λ names. names.names.items ≡ of_problem.now) }
 {
     let mut names = Names {
-        taken: Taken::new(alloc),
+        taken: NameSet::new(alloc),
         names: Vec::new(alloc),
     };
     for name in of_problem {
@@ -153,20 +153,20 @@ fn give_later(
     }
 }
 
-/// The names of a label's variables. `of_problem` are the names of the problem's variables; the marks say for each
+/// The names of a label's variables. `of_problem` are the names of the problem's variables; the flags say for each
 /// variable whether it occurs.
 pub(crate) fn label_names(
     alloc: Global,
     of_problem: &[Text],
-    marks: &[bool],
+    flags: &[bool],
     variables: &[Declaration],
 ) -> Result<Vec<Text>, AllocError>
-    ensures { IfOk result (λ names. names.items ≡ label_names_by of_problem.now marks.now (map declaration_view variables.now)) }
+    ensures { IfOk result (λ names. names.items ≡ label_names_by of_problem.now flags.now (map declaration_view variables.now)) }
 {
     let mut names = copied(alloc, of_problem)?;
     for number in of_problem.len()..variables.len() {
         let identifier = variables[number].identifier.as_str();
-        give_later(alloc, is_marked(marks, number), identifier, &mut names)?;
+        give_later(alloc, is_flagged(flags, number), identifier, &mut names)?;
     }
     Ok(names.names)
 }

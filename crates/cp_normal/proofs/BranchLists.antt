@@ -5,14 +5,14 @@ use Rattle.cp_lists.specs.Lists.{IsIn, here, there}
 use Rattle.cp_model.specs.Term.{AtomTerm, Term, atom_term, Substitution, apply_to}
 use Rattle.cp_model.specs.Skeleton.{Skeleton as Plain}
 use Rattle.cp_lists.proofs.Members.{in_append, in_append_left, in_append_right}
-use Rattle.cp_completeness.specs.Normal.{skeleton_under}
+use Rattle.cp_theory.specs.Normal.{skeleton_under}
 use Rattle.cp_unify.specs.Bindings.{Binding, as_substitution}
-use Rattle.cp_unify.specs.Unifiers.{IsMostGeneral, HasNoUnifier}
+use Rattle.cp_unify.specs.Unifiers.{IsMostGeneralUnifier, HasNoUnifier}
 use Rattle.cp_collapse.specs.SameSkeletons.{SaysTheSame}
 use Rattle.cp_collapse.specs.Directed.{IsMostGeneralFor}
 use Rattle.cp_normal.specs.declared.form.Form.{Form}
 use Rattle.cp_normal.specs.FormView.{form_view}
-use Rattle.cp_normal.specs.Branches.{NeverEqual, HasBranch}
+use Rattle.cp_normal.specs.Branches.{NeverEqualAtoms, HasBranch}
 use Rattle.cp_normal.specs.Branched.{AreInOrder, no_atoms, never_equal_to, unified_with, IsBranch, AreBranchesOf}
 use Rattle.cp_collapse.proofs.AtomUnifiers.{most_general_for, never_equal}
 
@@ -23,16 +23,16 @@ one_more k v a s l xs ls m same no_atoms = unified_with m same no_atoms
 one_more k v a s l xs ls m same (never_equal_to {others = ys} {ls = ms} n p) = never_equal_to n (one_more k v a s l ys ms m same p)
 one_more k v a s l xs ls m same (unified_with {others = ys} {ls = ms} n q p) = unified_with n q (one_more k v a s l ys ms m same p)
 
-none_more : (k : Plain) (v a : AtomTerm) (xs : List AtomTerm) (ls : List Plain) → NeverEqual v a → AreInOrder k v xs ls → AreInOrder k v (xs ++ a ∷ []) ls
+none_more : (k : Plain) (v a : AtomTerm) (xs : List AtomTerm) (ls : List Plain) → NeverEqualAtoms v a → AreInOrder k v xs ls → AreInOrder k v (xs ++ a ∷ []) ls
 none_more k v a xs ls never no_atoms = never_equal_to never no_atoms
 none_more k v a xs ls never (never_equal_to {others = ys} {ls = ms} n p) = never_equal_to n (none_more k v a ys ms never p)
 none_more k v a xs ls never (unified_with {others = ys} {ls = ms} n q p) = unified_with n q (none_more k v a ys ms never p)
 
-later_branch : (k : Plain) (v a : AtomTerm) (l : Plain) (ls : List Plain) → NeverEqual v a ⊎ HasBranch k v a ls → NeverEqual v a ⊎ HasBranch k v a (l ∷ ls)
+later_branch : (k : Plain) (v a : AtomTerm) (l : Plain) (ls : List Plain) → NeverEqualAtoms v a ⊎ HasBranch k v a ls → NeverEqualAtoms v a ⊎ HasBranch k v a (l ∷ ls)
 later_branch k v a l ls (inl n) = inl n
 later_branch k v a l ls (inr b) = inr (record { unifier = b.unifier; most_general = b.most_general; branch = b.branch; listed = there b.listed; same = b.same })
 
-pub all_have_branches : (k : Plain) (v a : AtomTerm) (xs : List AtomTerm) (ls : List Plain) → AreInOrder k v xs ls → IsIn a xs → NeverEqual v a ⊎ HasBranch k v a ls
+pub all_have_branches : (k : Plain) (v a : AtomTerm) (xs : List AtomTerm) (ls : List Plain) → AreInOrder k v xs ls → IsIn a xs → NeverEqualAtoms v a ⊎ HasBranch k v a ls
 all_have_branches k v a xs ls (never_equal_to n p) here = inl n
 all_have_branches k v a xs ls (never_equal_to {others = ys} {ls = ms} n p) (there i) = all_have_branches k v a ys ms p i
 all_have_branches k v a xs ls (unified_with {s = s} {l = l} m same p) here = inr (record { unifier = s; most_general = m; branch = l; listed = here; same = same })
@@ -64,7 +64,7 @@ module _ (k : Form) (v : AtomTerm) where
     pub skipped : HasNoUnifier (atom_term v) (atom_term a) [] → AreBranchesOf k v (take (i + 1) xs) ls
     skipped never = subst (λ ys. AreBranchesOf k v ys ls) (sym taken) (skipped_with never)
 
-    module _ (r : List Binding) (l : Form) (m : IsMostGeneral (atom_term v) (atom_term a) [] r) (same : SaysTheSame (skeleton_under (as_substitution r) (form_view k)) (form_view l)) (variables : l.skeleton.variables ≡ k.skeleton.variables)
+    module _ (r : List Binding) (l : Form) (m : IsMostGeneralUnifier (atom_term v) (atom_term a) [] r) (same : SaysTheSame (skeleton_under (as_substitution r) (form_view k)) (form_view l)) (variables : l.skeleton.variables ≡ k.skeleton.variables)
         (followed : (t : Term) → apply_to (as_substitution l.substitution) t ≡ apply_to (as_substitution r) (apply_to (as_substitution k.substitution) t)) where
       new_branch : IsBranch k v (take i xs ++ a ∷ []) l
       new_branch = record { heard = a; listed = in_append_right (take i xs) here; bindings = r; most_general = m; same = same; variables = variables; followed = followed }
@@ -87,9 +87,9 @@ module _ (k : Form) (v : AtomTerm) where
 -- ---- the answers of unification
 
 module _ (x y : Term) (given : List Binding) (v a : AtomTerm) (is_x : x ≡ atom_term v) (is_y : y ≡ atom_term a) (is_given : given ≡ []) where
-  pub unifier_of : (r : List Binding) → IsMostGeneral x y given r → IsMostGeneral (atom_term v) (atom_term a) [] r
+  pub unifier_of : (r : List Binding) → IsMostGeneralUnifier x y given r → IsMostGeneralUnifier (atom_term v) (atom_term a) [] r
   unifier_of r m =
-      subst (λ g. IsMostGeneral (atom_term v) (atom_term a) g r) is_given (subst (λ t. IsMostGeneral (atom_term v) t given r) is_y (subst (λ t. IsMostGeneral t y given r) is_x m))
+      subst (λ g. IsMostGeneralUnifier (atom_term v) (atom_term a) g r) is_given (subst (λ t. IsMostGeneralUnifier (atom_term v) t given r) is_y (subst (λ t. IsMostGeneralUnifier t y given r) is_x m))
 
   pub no_unifier_of : HasNoUnifier x y given → HasNoUnifier (atom_term v) (atom_term a) []
   no_unifier_of n = subst (λ g. HasNoUnifier (atom_term v) (atom_term a) g) is_given (subst (λ t. HasNoUnifier (atom_term v) t given) is_y (subst (λ t. HasNoUnifier t y given) is_x n))

@@ -1,4 +1,4 @@
--- The branches of a skeleton in which a unique value strays lose no standing.
+-- The branches of a skeleton in which a unique value is misplaced lose no standing.
 use Rattle.std.proofs.Common.{◌≡◌, ◌⊎◌, inl, inr, List, sym}
 use Rattle.cp_model.specs.Message.{atom}
 use Rattle.cp_model.specs.Term.{Variable, AtomTerm, atom_of_variable, atom_term, value_of_atom, after, Assignment, Substitution}
@@ -7,12 +7,12 @@ use Rattle.cp_model.specs.Bundle.{Bundle}
 use Rattle.cp_model.specs.declared.node.Node.{Node}
 use Rattle.cp_model.specs.Skeleton.{UniqueAt, Skeleton, IsSkeleton}
 use Rattle.cp_model.specs.Standing.{Standing, StandsIn, StandsApart}
-use Rattle.cp_completeness.specs.Normal.{IsHeardBefore, IsSolution, skeleton_under, StandsAmong, LosesNoStanding}
-use Rattle.cp_completeness.proofs.Heard.{heard_before}
-use Rattle.cp_completeness.proofs.Under.{stands_under, apart_under, factors_under, factors_then}
-use Rattle.cp_normal.specs.NormalForms.{IsStray, IsHeardAt}
+use Rattle.cp_theory.specs.Normal.{IsHeardBefore, IsSolution, skeleton_under, StandsAmong, LosesNoStanding}
+use Rattle.cp_theory.proofs.HeardBefore.{heard_before}
+use Rattle.cp_theory.proofs.Under.{stands_under, apart_under, factors_under, factors_then}
+use Rattle.cp_normal.specs.NormalForms.{IsMisplaced, IsReceivedBefore}
 use Rattle.cp_collapse.specs.Directed.{IsMostGeneralFor}
-use Rattle.cp_normal.specs.Branches.{NeverEqual, HasBranch, HasBranches}
+use Rattle.cp_normal.specs.Branches.{NeverEqualAtoms, HasBranch, HasBranches}
 use Rattle.cp_collapse.proofs.SameStandings.{same_stands, same_apart, same_factors}
 
 -- An assignment that gives two atoms one value solves every skeleton by their most general unifier.
@@ -22,7 +22,7 @@ solution_of k a b s g m e =
     λ x. let p : atom (value_of_atom (after g s) (atom_of_variable x)) ≡ atom (value_of_atom g (atom_of_variable x)) = m.general g e (atom_term (atom_of_variable x)) in cc in
     record { inside = λ x i. same x; of_problem = λ x i. same x }
 
-heard_at : (k : Skeleton) (g : Assignment) (v : AtomTerm) (x : Node) (h : IsHeardBefore k g v x) → IsHeardAt k h.heard x
+heard_at : (k : Skeleton) (g : Assignment) (v : AtomTerm) (x : Node) (h : IsHeardBefore k g v x) → IsReceivedBefore k h.heard x
 heard_at k g v x h = record { index = h.index; earlier = h.earlier; received = h.received; reception = h.reception; carried = h.carried }
 
 module _ (k : Skeleton) (v : AtomTerm) (ls : List Skeleton) (b : Bundle) (h : Standing) (stands : StandsIn k b h) (apart : StandsApart k h) where
@@ -37,11 +37,11 @@ module _ (k : Skeleton) (v : AtomTerm) (ls : List Skeleton) (b : Bundle) (h : St
         factors = factors_then k (skeleton_under r.unifier k) r.branch h h h (factors_under r.unifier k h solution) (same_factors (skeleton_under r.unifier k) r.branch r.same h);
       }
 
-  in_some : (heard : AtomTerm) → value_of_atom h.values v ≡ value_of_atom h.values heard → NeverEqual v heard ⊎ HasBranch k v heard ls → StandsAmong ls k b h
+  in_some : (heard : AtomTerm) → value_of_atom h.values v ≡ value_of_atom h.values heard → NeverEqualAtoms v heard ⊎ HasBranch k v heard ls → StandsAmong ls k b h
   in_some heard e (inl never) = absurd (never h.values e)
   in_some heard e (inr r) = in_branch heard e r
 
-pub branches_lose_none : (protocol : Protocol) (k : Skeleton) (u : UniqueAt) (x : Node) (ls : List Skeleton) → IsSkeleton protocol k → IsStray k u x → HasBranches k u x ls → LosesNoStanding protocol k ls
-branches_lose_none protocol k u x ls sk stray branches b h is stands apart =
-    let heard : IsHeardBefore k h.values u.value x = heard_before protocol k b h u x sk stray.listed stray.originates stray.elsewhere stands apart in
+pub branches_lose_none : (protocol : Protocol) (k : Skeleton) (u : UniqueAt) (x : Node) (ls : List Skeleton) → IsSkeleton protocol k → IsMisplaced k u x → HasBranches k u x ls → LosesNoStanding protocol k ls
+branches_lose_none protocol k u x ls sk misplaced branches b h is stands apart =
+    let heard : IsHeardBefore k h.values u.value x = heard_before protocol k b h u x sk misplaced.listed misplaced.originates misplaced.elsewhere stands apart in
     in_some k u.value ls b h stands apart heard.heard (sym heard.equal) (branches heard.heard (heard_at k h.values u.value x heard))

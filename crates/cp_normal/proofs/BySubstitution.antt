@@ -11,8 +11,8 @@ use Rattle.cp_model.specs.Standing.{Standing, StandsIn, StandsApart}
 use Rattle.cp_model.specs.Homomorphism.{FactorsThrough}
 use Rattle.cp_lists.proofs.Members.{in_append_left}
 use Rattle.cp_model.proofs.LawTerms.{value_after}
-use Rattle.cp_completeness.specs.Normal.{skeleton_under, with_pairs, variables_of_terms, SaysNoMore, LosesNoStanding}
-use Rattle.cp_completeness.proofs.Weaker.{stands_too}
+use Rattle.cp_theory.specs.Normal.{skeleton_under, with_pairs, variables_of_terms, SaysNoMore, LosesNoStanding}
+use Rattle.cp_theory.proofs.Weaker.{stands_too}
 use Rattle.cp_collapse.specs.SameSkeletons.{SaysTheSame}
 use Rattle.cp_normal.specs.BySubstitution.{StaysWithin, ComesBySubstitution, StandsAmongForms, ComeBySubstitutions}
 use Rattle.cp_normal.specs.Candidates.{unifiers_of}
@@ -38,7 +38,7 @@ record ComesUnder (k l : Skeleton) : Type 0 where
 step_stays_within : (k l : Skeleton) (step : IsNarrowed k l) → StaysWithin k step.unifier
 step_stays_within k l step =
     let others = variables_of_terms k.from_problem.values in
-    let o = step.stray.originates.1 in
+    let o = step.misplaced.originates.1 in
     let d = step.heard_before in
     unifier_stays_within k step.entry.value step.heard step.unifier
     (λ x i. in_append_left others (carried_occurs k step.node (send o.sent) step.entry.value o.transmission o.carried x i))

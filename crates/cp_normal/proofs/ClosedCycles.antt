@@ -5,11 +5,11 @@ use Rattle.cp_model.specs.Strand.{send}
 use Rattle.cp_model.specs.declared.node.Node.{Node}
 use Rattle.cp_model.specs.Skeleton.{UniqueAt, Skeleton, OrderStep, along_strand_of, along_pair, Before, IsOrderPair, IsOrigin, IsNodeOf, term_event_at}
 use Rattle.cp_model.specs.declared.node.OrderPair.{OrderPair}
-use Rattle.cp_model.specs.Order.{LeadsTo, on_strand}
+use Rattle.cp_model.specs.Order.{ReachesAlong, on_strand}
 use Rattle.cp_model.proofs.LawOrder.{before_leads, leads_before, before_wider}
-use Rattle.cp_completeness.specs.Normal.{with_pairs}
+use Rattle.cp_theory.specs.Normal.{with_pairs}
 use Rattle.cp_collapse.specs.Property.{Has}
-use Rattle.cp_collapse.specs.Cycles.{IsClosedAt}
+use Rattle.cp_collapse.specs.Cycles.{ClosesCycleAt}
 use Rattle.cp_normal.specs.Findings.{IsAddedPair, AreNormalPairs, ClosesCycle}
 
 module _ (k : Skeleton) (pairs : List OrderPair) (normal : AreNormalPairs k pairs) where
@@ -64,25 +64,25 @@ module _ (k : Skeleton) (pairs : List OrderPair) (normal : AreNormalPairs k pair
   reaches_both x y z (inr a) (inl e) = inr (subst (Before (with_pairs k pairs) x) e a)
   reaches_both x y z (inr a) (inr b) = inr (joined x y z a b)
 
-  leads : (x y : Node) → Reaches x y → LeadsTo pairs x y
+  leads : (x y : Node) → Reaches x y → ReachesAlong pairs x y
   leads x y (inl e) = on_strand (ap (λ n. n.strand) e, let i = ap (λ (n : Node). n.index) e in omega (arith, i))
   leads x y (inr b) = before_leads (with_pairs k pairs) x y b
 
   -- A cycle is closed at the recorded origin of a unique value.
-  closed_of_over : (n : Node) → IsOver n n → Has (λ u. IsClosedAt pairs u.origin) k.assumptions.uniquely_originating
+  closed_of_over : (n : Node) → IsOver n n → Has (λ u. ClosesCycleAt pairs u.origin) k.assumptions.uniquely_originating
   closed_of_over n o =
       let back : Reaches o.pair.later o.pair.earlier = reaches_both o.pair.later n o.pair.earlier o.to o.from in
       let origin = o.added.0 in (
         origin.entry,
         origin.listed,
-        (o.pair, (normal o.pair).1 (inr o.added), (origin.from_origin, subst (LeadsTo pairs o.pair.later) origin.from_origin (leads o.pair.later o.pair.earlier back))),
+        (o.pair, (normal o.pair).1 (inr o.added), (origin.from_origin, subst (ReachesAlong pairs o.pair.later) origin.from_origin (leads o.pair.later o.pair.earlier back))),
       )
 
-  closed_of_splits : ((n : Node) → Before k n n → ⊥) → (n : Node) → Splits n n → Has (λ u. IsClosedAt pairs u.origin) k.assumptions.uniquely_originating
+  closed_of_splits : ((n : Node) → Before k n n → ⊥) → (n : Node) → Splits n n → Has (λ u. ClosesCycleAt pairs u.origin) k.assumptions.uniquely_originating
   closed_of_splits no_cycle n (inl b) = absurd (no_cycle n b)
   closed_of_splits no_cycle n (inr o) = closed_of_over n o
 
-  pub closed_if_cycle : ((n : Node) → Before k n n → ⊥) → (n : Node) → Before (with_pairs k pairs) n n → Has (λ u. IsClosedAt pairs u.origin) k.assumptions.uniquely_originating
+  pub closed_if_cycle : ((n : Node) → Before k n n → ⊥) → (n : Node) → Before (with_pairs k pairs) n n → Has (λ u. ClosesCycleAt pairs u.origin) k.assumptions.uniquely_originating
   closed_if_cycle no_cycle n b = closed_of_splits no_cycle n (splits n n b)
 
   -- ---- what is closed is a cycle
@@ -107,10 +107,10 @@ module _ (k : Skeleton) (pairs : List OrderPair) (normal : AreNormalPairs k pair
   closes p inp n e (inr b) = subst (λ (m : Node). Before (with_pairs k pairs) m n) e (more_steps (along_pair inp) b)
 
   pub cycle_if_closed : ((p : OrderPair) → IsIn p k.pairs → IsOrderPair k p) → ((u : UniqueAt) → IsIn u k.assumptions.uniquely_originating → IsOrigin k u) →
-      Has (λ u. IsClosedAt pairs u.origin) k.assumptions.uniquely_originating → ClosesCycle k
+      Has (λ u. ClosesCycleAt pairs u.origin) k.assumptions.uniquely_originating → ClosesCycle k
   cycle_if_closed own origins h =
       let o = origins h.0 h.1 in
-      let c : IsClosedAt pairs h.0.origin = h.2 in
+      let c : ClosesCycleAt pairs h.0.origin = h.2 in
       let node : IsNodeOf k.strands h.0.origin = (send o.sent, o.transmission) in
       let back = leads_before (with_pairs k pairs) (λ p inp. is_order_pair own origins p ((normal p).0 inp)) c.0.later h.0.origin node c.2.1 in
       record { pairs = pairs; normal = normal; node = h.0.origin; cycle = closes c.0 c.1 h.0.origin c.2.0 back }

@@ -2,7 +2,7 @@
 use Rattle.std.proofs.Common.{◌≡◌, ◌⊎◌, inl, inr, ◌<◌, ◌≤◌, ◌+◌, ℕ, Bool, true, false, cond, ◌||◌, List, [], ◌∷◌, refl, sym, ap, ◌∙◌, subst, arith}
 use Rattle.cp_lists.specs.Lists.{IsIn, here, there}
 use Rattle.cp_model.specs.Term.{Variable}
-use Rattle.cp_unify.specs.Unifiers.{AreAmong}
+use Rattle.cp_unify.specs.Unifiers.{AreVariablesAmong}
 use Rattle.cp_unify.proofs.VariableTests.{is_variable, is_variable_tells, occurs, occurs_tells, occurs_in, occurs_not}
 use Rattle.cp_unify.proofs.Members.{among_cons}
 
@@ -57,7 +57,7 @@ in_without x y xs ne i = in_occurs (without y xs) x (without_other y x ne xs ∙
 one_less : (y : Variable) (xs : List Variable) → IsIn y xs → distinct xs ≡ 1 + distinct (without y xs)
 one_less y xs i = count_without y xs ∙ ap (λ (b : Bool). cond b 1 0 + distinct (without y xs)) (occurs_in xs y i)
 
-not_more_at : (y : Variable) (ys xs : List Variable) → AreAmong (y ∷ ys) xs → ((zs : List Variable) → AreAmong ys zs → distinct ys ≤ distinct zs) →
+not_more_at : (y : Variable) (ys xs : List Variable) → AreVariablesAmong (y ∷ ys) xs → ((zs : List Variable) → AreVariablesAmong ys zs → distinct ys ≤ distinct zs) →
     ((occurs ys y ≡ true) × IsIn y ys) ⊎ ((occurs ys y ≡ false) × (IsIn y ys → ⊥)) → distinct (y ∷ ys) ≤ distinct xs
 not_more_at y ys xs h rest (inl p) = let l = rest xs (λ x i. h x (there i)) in rw p.0 (omega (arith, l))
 not_more_at y ys xs h rest (inr p) =
@@ -66,11 +66,11 @@ not_more_at y ys xs h rest (inr p) =
     rw p.0 (omega (arith, l, e))
 
 -- Of variables that are all among others there are not more, and fewer where one of those is not among them.
-pub not_more : (ys xs : List Variable) → AreAmong ys xs → distinct ys ≤ distinct xs
+pub not_more : (ys xs : List Variable) → AreVariablesAmong ys xs → distinct ys ≤ distinct xs
 not_more [] xs h = omega arith
 not_more (y ∷ ys) xs h = not_more_at y ys xs h (λ zs k. not_more ys zs k) (occurs_tells ys y)
 
-pub fewer_distinct : (ys xs : List Variable) (x : Variable) → AreAmong ys xs → IsIn x xs → (IsIn x ys → ⊥) → distinct ys < distinct xs
+pub fewer_distinct : (ys xs : List Variable) (x : Variable) → AreVariablesAmong ys xs → IsIn x xs → (IsIn x ys → ⊥) → distinct ys < distinct xs
 fewer_distinct ys xs x h i gone =
     let l : cond (occurs ys x) 0 1 + distinct ys ≤ distinct xs = not_more (x ∷ ys) xs (among_cons x ys xs i h) in
     let m : 1 + distinct ys ≤ distinct xs = subst (λ (b : Bool). cond b 0 1 + distinct ys ≤ distinct xs) (occurs_not ys x gone) l in

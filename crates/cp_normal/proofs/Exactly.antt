@@ -1,7 +1,7 @@
 -- What takes the place of a skeleton in a list has its normal forms, wherever it stands.
 use Rattle.std.proofs.Common.{◌≡◌, List, [], ◌∷◌, ◌++◌, sym, ap, ◌∙◌, subst, append_assoc}
 use Rattle.cp_model.specs.Skeleton.{Skeleton}
-use Rattle.cp_normal.specs.Exact.{HaveForms, no_skeletons, refuted_one, stray_one, cyclic_one, normal_one}
+use Rattle.cp_normal.specs.Exact.{HaveForms, no_skeletons, refuted_one, misplaced_one, cyclic_one, normal_one}
 
 module _ (c : Skeleton) (new : List Skeleton) (own : (rest rs : List Skeleton) → HaveForms (new ++ rest) rs → HaveForms (c ∷ rest) rs) where
   at_place : (rest all rs done : List Skeleton) → all ≡ done ++ (new ++ rest) → HaveForms all rs → HaveForms (done ++ c ∷ rest) rs
@@ -11,12 +11,12 @@ module _ (c : Skeleton) (new : List Skeleton) (own : (rest rs : List Skeleton) �
       let q : k ≡ d = cc in
       let t : ks ≡ done ++ (new ++ rest) = cc in
       subst (λ (z : Skeleton). HaveForms (z ∷ (done ++ c ∷ rest)) qs) q (refuted_one r (at_place rest ks qs done t h))
-  at_place rest all rs (d ∷ done) e (stray_one {k = k} {branches = bs} {ks = ks} {rs = qs} n s b h) =
+  at_place rest all rs (d ∷ done) e (misplaced_one {k = k} {branches = bs} {ks = ks} {rs = qs} n s b h) =
       let q : k ≡ d = cc in
       let t : ks ≡ done ++ (new ++ rest) = cc in
       let u : bs ++ ks ≡ (bs ++ done) ++ (new ++ rest) = ap (λ zs. bs ++ zs) t ∙ sym (append_assoc bs done (new ++ rest)) in
       let g : HaveForms (bs ++ (done ++ c ∷ rest)) qs = subst (λ (zs : List Skeleton). HaveForms zs qs) (append_assoc bs done (c ∷ rest)) (at_place rest (bs ++ ks) qs (bs ++ done) u h) in
-      subst (λ (z : Skeleton). HaveForms (z ∷ (done ++ c ∷ rest)) qs) q (stray_one n s b g)
+      subst (λ (z : Skeleton). HaveForms (z ∷ (done ++ c ∷ rest)) qs) q (misplaced_one n s b g)
   at_place rest all rs (d ∷ done) e (cyclic_one {k = k} {ks = ks} {rs = qs} s x h) =
       let q : k ≡ d = cc in
       let t : ks ≡ done ++ (new ++ rest) = cc in

@@ -6,8 +6,8 @@ use Rattle.cp_model.specs.declared.node.Node.{Node}
 use Rattle.cp_model.specs.Skeleton.{UniqueAt, Skeleton, Before, IsSkeleton}
 use Rattle.cp_model.specs.declared.node.OrderPair.{OrderPair}
 use Rattle.cp_model.specs.Realisation.{OriginatesAtTerm, KeepsAssumptions}
-use Rattle.cp_completeness.specs.Normal.{with_pairs}
-use Rattle.cp_completeness.proofs.Skeletons.{with_pairs_is_skeleton}
+use Rattle.cp_theory.specs.Normal.{with_pairs}
+use Rattle.cp_theory.proofs.Skeletons.{with_pairs_is_skeleton}
 use Rattle.cp_normal.specs.Findings.{IsAddedPair, AreNormalPairs, IsContradictory}
 use Rattle.cp_normal.specs.NormalForms.{none, IsNormal, IsNormalFormOf}
 use Rattle.cp_normal.proofs.Losses.{only_origin_pairs}
@@ -69,7 +69,7 @@ same_or_other m n = node_or_other m n (number_or_other m.strand n.strand (compar
 
 only_at_origin : (k : Skeleton) → IsNormal k → (u : UniqueAt) (n : Node) → IsIn u k.assumptions.uniquely_originating → OriginatesAtTerm k u.value n → (n ≡ u.origin) ⊎ (n ≢ u.origin) → n ≡ u.origin
 only_at_origin k normal u n i o (inl e) = e
-only_at_origin k normal u n i o (inr ne) = absurd (normal.no_stray u n (record { listed = i; originates = o; elsewhere = ne }))
+only_at_origin k normal u n i o (inr ne) = absurd (normal.no_misplaced u n (record { listed = i; originates = o; elsewhere = ne }))
 
 -- A recorded origin is lost only where an earlier event carries the value.
 at_origin : (protocol : Protocol) (k : Skeleton) → IsSkeleton protocol k → IsNormal k → (u : UniqueAt) → IsIn u k.assumptions.uniquely_originating → OriginatesAtTerm k u.value u.origin

@@ -10,12 +10,12 @@ use Rattle.cp_model.specs.Standing.{Standing, StandsIn, StandsApart}
 use Rattle.cp_model.specs.Senders.{ArePaired}
 use Rattle.cp_model.proofs.LawTerms.{term_composed}
 use Rattle.cp_unify.specs.Bindings.{Binding, as_substitution}
-use Rattle.cp_completeness.specs.Normal.{with_pairs, StandsAmong}
+use Rattle.cp_theory.specs.Normal.{with_pairs, StandsAmong}
 use Rattle.cp_normal.specs.NormalForms.{IsNormalFormOf}
 use Rattle.cp_normal.specs.Exact.{HasForms}
 use Rattle.cp_normal.specs.FormView.{form_view}
-use Rattle.cp_normal.specs.Formed.{Formed, StandsAmongFormed, AreNormalForms, IsFormBeside, AreFormsBeside}
-use Rattle.cp_normal.specs.Candidates.{unifiers_of, ComesOn, IsFormOf}
+use Rattle.cp_normal.specs.Formed.{Formed, StandsAmongFormed, AreFormedNormalForms, IsFormBeside, AreFormsBeside}
+use Rattle.cp_normal.specs.Candidates.{unifiers_of, ComesOn, IsNormalFormOfSettled}
 use Rattle.cp_normal.specs.declared.form.Form.{Form}
 use Rattle.cp_normal.proofs.BySubstitution.{form_comes, form_solved, form_unifiers}
 use Rattle.cp_normal.proofs.Forms.{normal_form, normal_form_unifiers}
@@ -80,7 +80,7 @@ module _ (k : Skeleton) (forms : List Formed) (made : (f : Formed) → IsIn f fo
       let among = lose_no_standing protocol k (map (λ (f : Formed). f.skeleton) forms) sk exact b h is stands apart in
       among_formed b h stands among (from_map (λ (f : Formed). f.skeleton) forms among.listed)
 
-  pub formed_are_normal : AreNormalForms k forms
+  pub formed_are_normal : AreFormedNormalForms k forms
   formed_are_normal = record {
     exact = exact;
     formed = λ f i. let m : IsMadeBy k f = made f i in record { comes = form_comes k f.skeleton m.normal; by = m.by };
@@ -93,7 +93,7 @@ module _ (k : Skeleton) (forms : List Formed) (made : (f : Formed) → IsIn f fo
 pub record IsMadeFrom (f r : Form) : Type 0 where
   pub last : Form
   pub comes_on : ComesOn f last
-  pub form : IsFormOf last r
+  pub form : IsNormalFormOfSettled last r
   pub variables : r.skeleton.variables ≡ f.skeleton.variables
 
 module _ (f : Form) where

@@ -1,4 +1,4 @@
--- A skeleton with no stray value and the pairs that its unique values add is a normal form.
+-- A skeleton with no misplaced value and the pairs that its unique values add is a normal form.
 use Rattle.std.proofs.Common.{◌≡◌, ◌⊎◌, inl, inr, List, [], ◌∷◌, refl}
 use Rattle.cp_lists.specs.Lists.{IsIn, one_step}
 use Rattle.cp_model.specs.Term.{AtomTerm}
@@ -7,12 +7,12 @@ use Rattle.cp_model.specs.Skeleton.{UniqueAt, Skeleton, along_pair, IsSkeleton}
 use Rattle.cp_model.specs.declared.node.OrderPair.{OrderPair}
 use Rattle.cp_model.specs.Realisation.{OriginatesAtTerm}
 use Rattle.cp_model.specs.Strand.{Protocol}
-use Rattle.cp_completeness.specs.Normal.{IsCarriedAt, with_pairs, LosesNoStanding}
-use Rattle.cp_completeness.proofs.NoStandingLost.{pairs_lose_none}
+use Rattle.cp_theory.specs.Normal.{IsCarriedAt, with_pairs, LosesNoStanding}
+use Rattle.cp_theory.proofs.NoStandingLost.{pairs_lose_none}
 use Rattle.cp_normal.proofs.Losses.{only_origin_pairs}
 use Rattle.cp_normal.specs.Findings.{ClosesCycle, IsAddedPair, AreNormalPairs, IsContradictory}
 use Rattle.cp_normal.specs.Candidates.{unifiers_of}
-use Rattle.cp_normal.specs.NormalForms.{IsStray, NarrowsTo, IsNormal, IsNormalFormOf}
+use Rattle.cp_normal.specs.NormalForms.{IsMisplaced, NarrowsTo, IsNormal, IsNormalFormOf}
 
 module _ (k : Skeleton) (pairs : List OrderPair) where
   originates_of : (v : AtomTerm) (n : Node) → OriginatesAtTerm (with_pairs k pairs) v n → OriginatesAtTerm k v n
@@ -21,8 +21,8 @@ module _ (k : Skeleton) (pairs : List OrderPair) where
   originates_with : (v : AtomTerm) (n : Node) → OriginatesAtTerm k v n → OriginatesAtTerm (with_pairs k pairs) v n
   originates_with v n o = (record { role = o.0.role; height = o.0.height; terms = o.0.terms; on_instance = o.0.on_instance }, o.1)
 
-  pub stray_of : (u : UniqueAt) (x : Node) → IsStray (with_pairs k pairs) u x → IsStray k u x
-  stray_of u x s = record { listed = s.listed; originates = originates_of u.value x s.originates; elsewhere = s.elsewhere }
+  pub misplaced_of : (u : UniqueAt) (x : Node) → IsMisplaced (with_pairs k pairs) u x → IsMisplaced k u x
+  misplaced_of u x s = record { listed = s.listed; originates = originates_of u.value x s.originates; elsewhere = s.elsewhere }
 
   pub added_of : (p : OrderPair) → IsAddedPair (with_pairs k pairs) p → IsAddedPair k p
   added_of p a = (record { entry = a.0.entry; listed = a.0.listed; from_origin = a.0.from_origin; received = a.0.received; reception = a.0.reception; carried = a.0.carried }, a.1)
@@ -50,14 +50,14 @@ module _ (k : Skeleton) (pairs : List OrderPair) where
     contradictory_of (inr (inr (inl l))) = inr (inr (inl (record { entry = l.entry; listed = l.listed; lost = λ there. l.lost (originates_with l.entry.value l.entry.origin there) })))
     contradictory_of (inr (inr (inr c))) = inr (inr (inr (cycle_of c)))
 
-    pub normal_with_pairs : (IsContradictory k → ⊥) → ((u : UniqueAt) (x : Node) → IsStray k u x → ⊥) → IsNormal (with_pairs k pairs)
+    pub normal_with_pairs : (IsContradictory k → ⊥) → ((u : UniqueAt) (x : Node) → IsMisplaced k u x → ⊥) → IsNormal (with_pairs k pairs)
     normal_with_pairs consistent settled = record {
       consistent = λ c. consistent (contradictory_of c);
-      no_stray = λ u x s. settled u x (stray_of u x s);
+      no_misplaced = λ u x s. settled u x (misplaced_of u x s);
       ordered = λ p a. one_step (along_pair ((normal p).1 (inr (added_of p a))));
     }
 
-pub normal_form : (k narrowed : Skeleton) (pairs : List OrderPair) → NarrowsTo k narrowed → AreNormalPairs narrowed pairs × (IsContradictory narrowed → ⊥) → ((u : UniqueAt) (x : Node) → IsStray narrowed u x → ⊥) →
+pub normal_form : (k narrowed : Skeleton) (pairs : List OrderPair) → NarrowsTo k narrowed → AreNormalPairs narrowed pairs × (IsContradictory narrowed → ⊥) → ((u : UniqueAt) (x : Node) → IsMisplaced narrowed u x → ⊥) →
     IsNormalFormOf k (with_pairs narrowed pairs)
 normal_form k narrowed pairs steps found settled = record {
   narrowed = narrowed;
@@ -68,7 +68,7 @@ normal_form k narrowed pairs steps found settled = record {
 }
 
 -- It comes by the unifiers of the steps.
-pub normal_form_unifiers : (k narrowed : Skeleton) (pairs : List OrderPair) (steps : NarrowsTo k narrowed) (found : AreNormalPairs narrowed pairs × (IsContradictory narrowed → ⊥)) (settled : (u : UniqueAt) (x : Node) → IsStray narrowed u x → ⊥) →
+pub normal_form_unifiers : (k narrowed : Skeleton) (pairs : List OrderPair) (steps : NarrowsTo k narrowed) (found : AreNormalPairs narrowed pairs × (IsContradictory narrowed → ⊥)) (settled : (u : UniqueAt) (x : Node) → IsMisplaced narrowed u x → ⊥) →
     unifiers_of (normal_form k narrowed pairs steps found settled).by_steps ≡ unifiers_of steps
 unfolding normal_form
 normal_form_unifiers k narrowed pairs steps found settled = refl

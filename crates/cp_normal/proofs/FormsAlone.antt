@@ -6,7 +6,7 @@ use Rattle.cp_model.specs.Skeleton.{Skeleton, IsSkeleton}
 use Rattle.cp_model.specs.Strand.{Protocol}
 use Rattle.cp_model.specs.Senders.{ArePaired}
 use Rattle.cp_unify.specs.Bindings.{Binding}
-use Rattle.cp_completeness.specs.Normal.{LosesNoStanding}
+use Rattle.cp_theory.specs.Normal.{LosesNoStanding}
 use Rattle.cp_model.specs.Data.{SkeletonData as Program}
 use Rattle.cp_skel.specs.View.{skeleton_view}
 use Rattle.cp_normal.specs.BySubstitution.{ComeBySubstitutions}

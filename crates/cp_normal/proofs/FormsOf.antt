@@ -8,17 +8,17 @@ use Rattle.cp_model.specs.declared.node.Node.{Node}
 use Rattle.cp_model.specs.Given.{listed}
 use Rattle.cp_model.specs.Skeleton.{UniqueAt, Skeleton, IsSkeleton}
 use Rattle.cp_lists.proofs.Members.{in_append, in_append_left, in_append_right}
-use Rattle.cp_completeness.specs.Normal.{LosesNoStanding}
-use Rattle.cp_completeness.proofs.NoStandingLost.{among_more, through_each}
+use Rattle.cp_theory.specs.Normal.{LosesNoStanding}
+use Rattle.cp_theory.proofs.NoStandingLost.{among_more, through_each}
 use Rattle.cp_skel.proofs.EachOnce.{listed-unique}
 use Rattle.cp_normal.specs.Branched.{AreInOrder, no_atoms, never_equal_to, unified_with}
-use Rattle.cp_normal.specs.Branches.{NeverEqual, HasBranch, HasBranches}
+use Rattle.cp_normal.specs.Branches.{NeverEqualAtoms, HasBranch, HasBranches}
 use Rattle.cp_normal.specs.Exact.{IsRefuted, HasForms, refuted, branching, cyclic, normal, EachHasForms, no_more, and_then}
-use Rattle.cp_normal.specs.HeardAtoms.{heard_before}
-use Rattle.cp_normal.specs.NormalForms.{IsStray, IsHeardAt, IsNarrowed, none, one, IsNormalFormOf}
+use Rattle.cp_normal.specs.ReceivedAtomLists.{heard_before}
+use Rattle.cp_normal.specs.NormalForms.{IsMisplaced, IsReceivedBefore, IsNarrowed, none, one, IsNormalFormOf}
 use Rattle.cp_collapse.specs.Directed.{IsMostGeneralFor}
 use Rattle.cp_normal.specs.Findings.{IsContradictory}
-use Rattle.cp_normal.specs.StrayValues.{IsFirstStray}
+use Rattle.cp_normal.specs.MisplacedValues.{IsFirstMisplaced}
 use Rattle.cp_normal.proofs.BranchLists.{all_have_branches}
 use Rattle.cp_normal.proofs.Branches.{branches_lose_none}
 use Rattle.cp_normal.proofs.Forms.{normal_form, pairs_lose_no_standing}
@@ -31,24 +31,24 @@ contradicts k (inl c) = inl c
 contradicts k (inr (inl t)) = inr (inl t)
 contradicts k (inr (inr l)) = inr (inr (inl l))
 
--- ---- the branches by the first unique value that strays
+-- ---- the branches by the first unique value that is misplaced
 
-module _ (k : Skeleton) (v : AtomTerm) (x : Node) (first : IsFirstStray k v x) where
+module _ (k : Skeleton) (v : AtomTerm) (x : Node) (first : IsFirstMisplaced k v x) where
   abbrev entry : UniqueAt
   entry = first.here.entry
 
   is_value : entry.value ≡ v
   is_value = first.here.is_value
 
-  stray : IsStray k entry x
-  stray = record {
+  misplaced : IsMisplaced k entry x
+  misplaced = record {
     listed = ((listed-unique k).same entry).0 (at_place (listed k).uniquely_originating first.here.place entry first.here.at_place);
-    originates = first.here.strays.1;
-    elsewhere = first.here.strays.0;
+    originates = first.here.originates_elsewhere.1;
+    elsewhere = first.here.originates_elsewhere.0;
   }
 
   -- Each is narrowed from k by one step.
-  each_narrowed : (atoms : List AtomTerm) (ls : List Skeleton) → ((a : AtomTerm) → IsIn a atoms → IsHeardAt k a x) → AreInOrder k v atoms ls → (l : Skeleton) → IsIn l ls → IsNarrowed k l
+  each_narrowed : (atoms : List AtomTerm) (ls : List Skeleton) → ((a : AtomTerm) → IsIn a atoms → IsReceivedBefore k a x) → AreInOrder k v atoms ls → (l : Skeleton) → IsIn l ls → IsNarrowed k l
   each_narrowed _ _ heard no_atoms l i = elim i [ ]
   each_narrowed _ _ heard (never_equal_to {others = others} {ls = ls} never more) l i = each_narrowed others ls (λ a j. heard a (there j)) more l i
   each_narrowed _ _ heard (unified_with {a = a} {s = s} m same more) l here = record {
@@ -56,7 +56,7 @@ module _ (k : Skeleton) (v : AtomTerm) (x : Node) (first : IsFirstStray k v x) w
     node = x;
     heard = a;
     unifier = s;
-    stray = stray;
+    misplaced = misplaced;
     heard_before = heard a here;
     most_general = subst (λ (w : AtomTerm). IsMostGeneralFor w a s) (sym is_value) m;
     same = same;
@@ -69,11 +69,11 @@ module _ (k : Skeleton) (v : AtomTerm) (x : Node) (first : IsFirstStray k v x) w
 
     has_branches : HasBranches k entry x branches
     has_branches heard at =
-        subst (λ (w : AtomTerm). NeverEqual w heard ⊎ HasBranch k w heard branches) (sym is_value)
+        subst (λ (w : AtomTerm). NeverEqualAtoms w heard ⊎ HasBranch k w heard branches) (sym is_value)
         (all_have_branches k v heard (heard_before k x) branches in_order (listed_if_heard k x (heard_before k x) heard refl at))
 
     pub first_branches_lose_none : (protocol : Protocol) → IsSkeleton protocol k → LosesNoStanding protocol k branches
-    first_branches_lose_none protocol sk = branches_lose_none protocol k entry x branches sk stray has_branches
+    first_branches_lose_none protocol sk = branches_lose_none protocol k entry x branches sk misplaced has_branches
 
     pub branch_is_skeleton : (protocol : Protocol) → IsSkeleton protocol k → (l : Skeleton) → IsIn l branches → IsSkeleton protocol l
     branch_is_skeleton protocol sk l i = narrows_is_skeleton protocol (one (branch_narrowed l i) none) sk
@@ -90,9 +90,9 @@ IsFormOfOne ks r = (l : Skeleton) × IsIn l ks × IsNormalFormOf l r
 mutual
   pub are_normal_forms : {k : Skeleton} {rs : List Skeleton} → HasForms k rs → (r : Skeleton) → IsIn r rs → IsNormalFormOf k r
   are_normal_forms (refuted never) r i = elim i [ ]
-  are_normal_forms (branching {k = k} {v = v} {x = x} {branches = branches} sound stray in_order each) r i =
+  are_normal_forms (branching {k = k} {v = v} {x = x} {branches = branches} sound misplaced in_order each) r i =
       let one : IsFormOfOne branches r = each_normal_forms each r i in
-      further k one.0 r (branch_narrowed k v x stray branches in_order one.0 one.1) one.2
+      further k one.0 r (branch_narrowed k v x misplaced branches in_order one.0 one.1) one.2
   are_normal_forms (cyclic settled never) r i = elim i [ ]
   are_normal_forms (normal {k = k} {pairs = pairs} settled are sound) r here = normal_form k k pairs none (are, sound) settled
   are_normal_forms (normal {k = k} {pairs = pairs} settled are sound) r (there i) = elim i [ ]
@@ -108,9 +108,9 @@ module _ (protocol : Protocol) where
   mutual
     pub forms_lose_none : {k : Skeleton} {rs : List Skeleton} → HasForms k rs → IsSkeleton protocol k → LosesNoStanding protocol k rs
     forms_lose_none (refuted {k = k} never) sk = none_of_contradictory protocol k sk (contradicts k never)
-    forms_lose_none (branching {k = k} {v = v} {x = x} {branches = branches} {rs = rs} sound stray in_order each) sk =
-        through_each protocol k branches rs (first_branches_lose_none k v x stray branches in_order protocol sk)
-        (each_loses_none each (branch_is_skeleton k v x stray branches in_order protocol sk))
+    forms_lose_none (branching {k = k} {v = v} {x = x} {branches = branches} {rs = rs} sound misplaced in_order each) sk =
+        through_each protocol k branches rs (first_branches_lose_none k v x misplaced branches in_order protocol sk)
+        (each_loses_none each (branch_is_skeleton k v x misplaced branches in_order protocol sk))
     forms_lose_none (cyclic {k = k} settled never) sk = none_of_contradictory protocol k sk never
     forms_lose_none (normal {k = k} {pairs = pairs} settled are sound) sk = pairs_lose_no_standing protocol k pairs sk are
 

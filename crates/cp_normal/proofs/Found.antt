@@ -9,40 +9,40 @@ use Rattle.cp_model.specs.Skeleton.{SkeletonStrand, instance, listener, skeleton
 use Rattle.cp_model.specs.declared.node.OrderPair.{OrderPair}
 use Rattle.cp_model.specs.Derivable.{IsOnInstance}
 use Rattle.cp_model.specs.Realisation.{OriginatesAtTerm}
-use Rattle.cp_skel.specs.Events.{Occurrence, occurrence_view, events_of}
+use Rattle.cp_skel.specs.Events.{LocatedEvent, located_event_view, events_of}
 use Rattle.cp_collapse.specs.Property.{Has}
-use Rattle.cp_normal.specs.Events.{Gathers, CarriesOne, IsElsewhere, IsSentAtOrigin, IsCarriedBefore, IsPairBetween}
-use Rattle.cp_collapse.specs.Partitions.{is_instance}
+use Rattle.cp_normal.specs.Events.{Gathers, CarriesOne, HasOtherOrigin, IsSentAtOrigin, IsCarriedBefore, IsPairBetween}
+use Rattle.cp_collapse.specs.Partitions.{is_some_instance}
 use Rattle.cp_normal.specs.Findings.{CarriesNonOriginating, HasTwoOrigins, LosesOrigin, IsAddedPair}
-use Rattle.cp_skel.specs.declared.events.Occurrence as program
-use Rattle.cp_skel.proofs.EventLists.{listed_event, occurrence_at, listed_at}
+use Rattle.cp_skel.specs.declared.events.LocatedEvent as program
+use Rattle.cp_skel.proofs.EventLists.{listed_event, located_event_at, listed_at}
 use Rattle.cp_collapse.proofs.ItemsWithProperty.{of_views, to_views}
 
-module _ (k : Skeleton) (all read : List program.Occurrence) (listed : map occurrence_view all ≡ events_of k) (is_read : read ≡ all) where
-  the_events : map occurrence_view read ≡ events_of k
-  the_events = ap (map occurrence_view) is_read ∙ listed
+module _ (k : Skeleton) (all read : List program.LocatedEvent) (listed : map located_event_view all ≡ events_of k) (is_read : read ≡ all) where
+  the_events : map located_event_view read ≡ events_of k
+  the_events = ap (map located_event_view) is_read ∙ listed
 
   -- An event with a property is among those that are listed.
-  pub listed_has : (has : Occurrence → Type 0) → Has (λ o. has (occurrence_view o)) read → Has has (events_of k)
-  listed_has has h = subst (Has has) the_events (of_views occurrence_view has read h)
+  pub listed_has : (has : LocatedEvent → Type 0) → Has (λ o. has (located_event_view o)) read → Has has (events_of k)
+  listed_has has h = subst (Has has) the_events (of_views located_event_view has read h)
 
-  pub has_listed : (has : Occurrence → Type 0) → Has has (events_of k) → Has (λ o. has (occurrence_view o)) read
-  has_listed has h = to_views occurrence_view has read (subst (Has has) (sym the_events) h)
+  pub has_listed : (has : LocatedEvent → Type 0) → Has has (events_of k) → Has (λ o. has (located_event_view o)) read
+  has_listed has h = to_views located_event_view has read (subst (Has has) (sym the_events) h)
 
   module _ (values : List AtomTerm) (are_non : values ≡ k.assumptions.non_originating) where
-    pub carries_if_found : Has (λ o. CarriesOne values (occurrence_view o)) read → CarriesNonOriginating k
+    pub carries_if_found : Has (λ o. CarriesOne values (located_event_view o)) read → CarriesNonOriginating k
     carries_if_found h =
         let r : Has (CarriesOne values) (events_of k) = listed_has (CarriesOne values) h in
         record { value = r.2.0; listed = subst (IsIn r.2.0) are_non r.2.1; node = r.0.node; carried = record { event = r.0.event; there = listed_event k r.0 r.1; carried = r.2.2 } }
 
-    pub found_if_carries : CarriesNonOriginating k → Has (λ o. CarriesOne values (occurrence_view o)) read
+    pub found_if_carries : CarriesNonOriginating k → Has (λ o. CarriesOne values (located_event_view o)) read
     found_if_carries c =
         has_listed (CarriesOne values)
-        (occurrence_at k c.node c.carried.event, listed_at k c.node c.carried.event c.carried.there, (c.value, subst (IsIn c.value) (sym are_non) c.listed, c.carried.carried))
+        (located_event_at k c.node c.carried.event, listed_at k c.node c.carried.event c.carried.there, (c.value, subst (IsIn c.value) (sym are_non) c.listed, c.carried.carried))
 
   -- ---- origins
 
-  pub originates_if_found : (u : UniqueAt) → IsOnInstance k u.origin → Has (λ o. IsSentAtOrigin u (occurrence_view o)) read → (Has (λ o. IsCarriedBefore u (occurrence_view o)) read → ⊥) → OriginatesAtTerm k u.value u.origin
+  pub originates_if_found : (u : UniqueAt) → IsOnInstance k u.origin → Has (λ o. IsSentAtOrigin u (located_event_view o)) read → (Has (λ o. IsCarriedBefore u (located_event_view o)) read → ⊥) → OriginatesAtTerm k u.value u.origin
   originates_if_found u on sent not =
       let r : Has (IsSentAtOrigin u) (events_of k) = listed_has (IsSentAtOrigin u) sent in
       let at : term_event_at k.strands r.0.node ≡ Some r.0.event = listed_event k r.0 r.1 in (
@@ -52,15 +52,15 @@ module _ (k : Skeleton) (all read : List program.Occurrence) (listed : map occur
           transmission = subst (λ (n : Node). term_event_at k.strands n ≡ Some (send r.2.0)) r.2.3 (at ∙ ap Some r.2.1);
           carried = r.2.2;
           first = λ j e l there c.
-              not (has_listed (IsCarriedBefore u) (occurrence_at k (node_at u.origin.strand j) e, listed_at k (node_at u.origin.strand j) e there, (refl, l, c)));
+              not (has_listed (IsCarriedBefore u) (located_event_at k (node_at u.origin.strand j) e, listed_at k (node_at u.origin.strand j) e there, (refl, l, c)));
         },
       )
 
-  pub sent_if_originates : (u : UniqueAt) → OriginatesAtTerm k u.value u.origin → Has (λ o. IsSentAtOrigin u (occurrence_view o)) read
+  pub sent_if_originates : (u : UniqueAt) → OriginatesAtTerm k u.value u.origin → Has (λ o. IsSentAtOrigin u (located_event_view o)) read
   sent_if_originates u or =
-      has_listed (IsSentAtOrigin u) (occurrence_at k u.origin (send or.1.sent), listed_at k u.origin (send or.1.sent) or.1.transmission, (or.1.sent, refl, or.1.carried, refl))
+      has_listed (IsSentAtOrigin u) (located_event_at k u.origin (send or.1.sent), listed_at k u.origin (send or.1.sent) or.1.transmission, (or.1.sent, refl, or.1.carried, refl))
 
-  pub not_before_if_originates : (u : UniqueAt) → OriginatesAtTerm k u.value u.origin → Has (λ o. IsCarriedBefore u (occurrence_view o)) read → ⊥
+  pub not_before_if_originates : (u : UniqueAt) → OriginatesAtTerm k u.value u.origin → Has (λ o. IsCarriedBefore u (located_event_view o)) read → ⊥
   not_before_if_originates u or before =
       let r : Has (IsCarriedBefore u) (events_of k) = listed_has (IsCarriedBefore u) before in
       let at : term_event_at k.strands r.0.node ≡ Some r.0.event = listed_event k r.0 r.1 in
@@ -68,13 +68,13 @@ module _ (k : Skeleton) (all read : List program.Occurrence) (listed : map occur
 
 -- ---- a strand that is an instance
 
-pub on_instance_if : (k : Skeleton) (n : Node) (o : Option SkeletonStrand) → item_at k.strands n.strand ≡ o → is_instance o ≡ true → IsOnInstance k n
+pub on_instance_if : (k : Skeleton) (n : Node) (o : Option SkeletonStrand) → item_at k.strands n.strand ≡ o → is_some_instance o ≡ true → IsOnInstance k n
 on_instance_if k n None e t = absurd (cc)
 on_instance_if k n (Some (instance role height terms)) e t = record { role = role; height = height; terms = terms; on_instance = e }
 on_instance_if k n (Some (listener m)) e t = absurd (cc)
 
-pub if_on_instance : (k : Skeleton) (n : Node) → IsOnInstance k n → is_instance (item_at k.strands n.strand) ≡ true
-if_on_instance k n on = ap is_instance on.on_instance
+pub if_on_instance : (k : Skeleton) (n : Node) → IsOnInstance k n → is_some_instance (item_at k.strands n.strand) ≡ true
+if_on_instance k n on = ap is_some_instance on.on_instance
 
 -- ---- entries of unique values
 
@@ -88,15 +88,15 @@ module _ (k : Skeleton) (all read : List UniqueAt) (are_uniques : all ≡ k.assu
   pub has_unique : (has : UniqueAt → Type 0) → Has has k.assumptions.uniquely_originating → Has has read
   has_unique has h = subst (Has has) (sym the_uniques) h
 
-  pub two_origins_if_found : Has (λ u. Has (λ w. IsElsewhere u w) read) read → HasTwoOrigins k
+  pub two_origins_if_found : Has (λ u. Has (λ w. HasOtherOrigin u w) read) read → HasTwoOrigins k
   two_origins_if_found h =
-      let r : Has (λ u. Has (λ w. IsElsewhere u w) read) k.assumptions.uniquely_originating = unique_has (λ u. Has (λ w. IsElsewhere u w) read) h in
-      let s : Has (IsElsewhere r.0) k.assumptions.uniquely_originating = unique_has (IsElsewhere r.0) r.2 in
+      let r : Has (λ u. Has (λ w. HasOtherOrigin u w) read) k.assumptions.uniquely_originating = unique_has (λ u. Has (λ w. HasOtherOrigin u w) read) h in
+      let s : Has (HasOtherOrigin r.0) k.assumptions.uniquely_originating = unique_has (HasOtherOrigin r.0) r.2 in
       record { first = r.0; second = s.0; first_listed = r.1; second_listed = s.1; same_value = s.2.0; elsewhere = s.2.1 }
 
-  pub found_if_two_origins : HasTwoOrigins k → Has (λ u. Has (λ w. IsElsewhere u w) read) read
+  pub found_if_two_origins : HasTwoOrigins k → Has (λ u. Has (λ w. HasOtherOrigin u w) read) read
   found_if_two_origins t =
-      has_unique (λ u. Has (λ w. IsElsewhere u w) read) (t.first, t.first_listed, has_unique (IsElsewhere t.first) (t.second, t.second_listed, (t.same_value, t.elsewhere)))
+      has_unique (λ u. Has (λ w. HasOtherOrigin u w) read) (t.first, t.first_listed, has_unique (HasOtherOrigin t.first) (t.second, t.second_listed, (t.same_value, t.elsewhere)))
 
   pub loses_if_found : Has (λ u. OriginatesAtTerm k u.value u.origin → ⊥) read → LosesOrigin k
   loses_if_found h =
@@ -108,10 +108,10 @@ module _ (k : Skeleton) (all read : List UniqueAt) (are_uniques : all ≡ k.assu
 
 -- ---- pairs
 
-module _ (k : Skeleton) (all read : List program.Occurrence) (listed : map occurrence_view all ≡ events_of k) (is_read : read ≡ all) (entries read_entries : List UniqueAt)
+module _ (k : Skeleton) (all read : List program.LocatedEvent) (listed : map located_event_view all ≡ events_of k) (is_read : read ≡ all) (entries read_entries : List UniqueAt)
     (are_uniques : entries ≡ k.assumptions.uniquely_originating) (entries_read : read_entries ≡ entries) where
   abbrev AreGiven : OrderPair → Type 0
-  AreGiven p = Has (λ o. Has (λ u. IsPairBetween (occurrence_view o) u p) read_entries) read
+  AreGiven p = Has (λ o. Has (λ u. IsPairBetween (located_event_view o) u p) read_entries) read
 
   pub added_if_given : (p : OrderPair) → AreGiven p → IsAddedPair k p
   added_if_given p h =
@@ -135,9 +135,9 @@ module _ (k : Skeleton) (all read : List program.Occurrence) (listed : map occur
       let o = a.0 in
       let e : p ≡ record { earlier = o.entry.origin; later = p.later } = λ i. record { earlier = o.from_origin i; later = p.later } in
       has_listed k all read listed is_read (λ o. Has (λ u. IsPairBetween o u p) read_entries) (
-        occurrence_at k p.later (recv o.received),
+        located_event_at k p.later (recv o.received),
         listed_at k p.later (recv o.received) o.reception,
-        has_unique k entries read_entries are_uniques entries_read (λ u. IsPairBetween (occurrence_at k p.later (recv o.received)) u p)
+        has_unique k entries read_entries are_uniques entries_read (λ u. IsPairBetween (located_event_at k p.later (recv o.received)) u p)
             (o.entry, o.listed, (o.received, refl, o.carried, λ same. a.1 (ap (λ (n : Node). n.strand) o.from_origin ∙ same), e)),
       )
 
@@ -145,5 +145,5 @@ module _ (k : Skeleton) (all read : List program.Occurrence) (listed : map occur
   none_first p old e (inl h) = elim (subst (IsIn p) e h) [ ]
   none_first p old e (inr h) = h
 
-  pub added_exactly : (old new : List OrderPair) → old ≡ [] → Gathers (λ o p. Has (λ u. IsPairBetween (occurrence_view o) u p) read_entries) read old new → (p : OrderPair) → IsIn p new ↔ IsAddedPair k p
+  pub added_exactly : (old new : List OrderPair) → old ≡ [] → Gathers (λ o p. Has (λ u. IsPairBetween (located_event_view o) u p) read_entries) read old new → (p : OrderPair) → IsIn p new ↔ IsAddedPair k p
   added_exactly old new e gathers p = (λ h. added_if_given p (none_first p old e ((gathers p).0 h)), λ a. (gathers p).1 (inr (given_if_added p a)))

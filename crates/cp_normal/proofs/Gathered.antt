@@ -5,7 +5,7 @@ use Rattle.cp_lists.specs.Lists.{IsIn, here, there}
 use Rattle.cp_model.specs.Skeleton.{Skeleton}
 use Rattle.cp_model.specs.declared.node.OrderPair.{OrderPair}
 use Rattle.cp_lists.proofs.Members.{in_append, in_append_left, in_append_right, from_reverse}
-use Rattle.cp_completeness.specs.Normal.{with_pairs}
+use Rattle.cp_theory.specs.Normal.{with_pairs}
 use Rattle.cp_normal.specs.declared.form.Form.{Form}
 use Rattle.cp_normal.specs.declared.candidates.Candidate.{Candidate}
 use Rattle.cp_normal.specs.declared.candidates.Candidate.TheVariants.{Open, Settled}
@@ -13,13 +13,13 @@ use Rattle.cp_normal.specs.FormView.{form_view}
 use Rattle.cp_normal.specs.Findings.{IsNormalised}
 use Rattle.cp_normal.specs.Branches.{IsSettled}
 use Rattle.cp_normal.specs.Exact.{HaveForms, no_skeletons, normal_one}
-use Rattle.cp_normal.specs.Candidates.{form_of, candidate_view, IsOpen, IsFormOf, PutsForm, AreForms}
+use Rattle.cp_normal.specs.Candidates.{form_in, candidate_view, IsUnnarrowed, IsNormalFormOfSettled, PutsForm, AreFormsOfSettled}
 
 -- Of the candidates, which are taken from the end, those that are left are still to be done.
 pub record AreFormsSoFar (all left : List Candidate) (forms : List Form) : Type 0 where
   pub each_left : (c : Candidate) → IsIn c left → IsIn c all
   pub exact : (rs : List Skeleton) → HaveForms (map candidate_view (reverse left)) rs → HaveForms (map candidate_view (reverse all)) (map form_view forms ++ rs)
-  pub each : (r : Form) → IsIn r forms → (c : Candidate) × IsIn c all × IsFormOf (form_of c) r
+  pub each : (r : Form) → IsIn r forms → (c : Candidate) × IsIn c all × IsNormalFormOfSettled (form_in c) r
 
 pub none_so_far : (all : List Candidate) (forms : List Form) → forms ≡ [] → AreFormsSoFar all all forms
 none_so_far all forms e = record {
@@ -41,8 +41,8 @@ module _ (all left rest : List Candidate) (old new : List Form) (c : Candidate) 
   exact_before : (rs : List Skeleton) → HaveForms (candidate_view c ∷ map candidate_view (reverse rest)) rs → HaveForms (map candidate_view (reverse all)) (map form_view old ++ rs)
   exact_before rs h = so_far.exact rs (subst (λ (ds : List Candidate). HaveForms (map candidate_view ds) rs) (sym next_first) h)
 
-  module _ (r : Form) (f : IsFormOf (form_of c) r) where
-    form_of_one : (s : Form) → IsIn s old ⊎ IsIn s (r ∷ []) → (b : Candidate) × IsIn b all × IsFormOf (form_of b) s
+  module _ (r : Form) (f : IsNormalFormOfSettled (form_in c) r) where
+    form_of_one : (s : Form) → IsIn s old ⊎ IsIn s (r ∷ []) → (b : Candidate) × IsIn b all × IsNormalFormOfSettled (form_in b) s
     form_of_one s (inl i) = so_far.each s i
     form_of_one s (inr here) = (c, is_in_all, f)
     form_of_one s (inr (there i)) = elim i [ ]
@@ -59,13 +59,13 @@ module _ (all left rest : List Candidate) (old new : List Form) (c : Candidate) 
       each = λ s i. form_of_one s (in_append old (r ∷ []) i);
     }
 
-  pub next_form : PutsForm (form_of c) old new → AreFormsSoFar all rest new
+  pub next_form : PutsForm (form_in c) old new → AreFormsSoFar all rest new
   next_form p = subst (AreFormsSoFar all rest) (sym p.behind) (with_form p.form p.is_form)
 
 pub next_is_in : (candidates all left rest : List Candidate) (forms : List Form) (c : Candidate) → all ≡ reverse candidates → AreFormsSoFar all left forms → left ≡ rest ++ c ∷ [] → IsIn c candidates
 next_is_in candidates all left rest forms c e part popped = from_reverse candidates (subst (IsIn c) e (is_in_all all left rest forms forms c part popped))
 
-pub all_forms : (candidates all left : List Candidate) (forms : List Form) → all ≡ reverse candidates → left ≡ [] → AreFormsSoFar all left forms → AreForms candidates forms
+pub all_forms : (candidates all left : List Candidate) (forms : List Form) → all ≡ reverse candidates → left ≡ [] → AreFormsSoFar all left forms → AreFormsOfSettled candidates forms
 all_forms candidates all left forms e done part =
     let none_left : HaveForms (map candidate_view (reverse left)) [] = subst (λ (ds : List Candidate). HaveForms (map candidate_view (reverse ds)) []) (sym done) no_skeletons in
     record {
@@ -78,8 +78,8 @@ all_forms candidates all left forms e done part =
 
 -- The settled skeleton with the pairs of its normal form, found before.
 pub form_made : (l m r : Form) (found pairs : List OrderPair) → l ≡ m → IsSettled (form_view l) → IsNormalised (form_view l) (Some found) → pairs ≡ found → form_view r ≡ with_pairs (form_view l) pairs → r.skeleton.variables ≡ l.skeleton.variables →
-    r.substitution ≡ l.substitution → IsFormOf m r
-form_made l m r found pairs one settled n is same variables substitution = subst (λ (f : Form). IsFormOf f r) one (record {
+    r.substitution ≡ l.substitution → IsNormalFormOfSettled m r
+form_made l m r found pairs one settled n is same variables substitution = subst (λ (f : Form). IsNormalFormOfSettled f r) one (record {
   settled = settled;
   pairs = found;
   normal = n.0;
@@ -89,8 +89,8 @@ form_made l m r found pairs one settled n is same variables substitution = subst
   substitution = substitution;
 })
 
-pub form_put : (c : Candidate) (l r : Form) (old new : List Form) → c ≡ Settled l → IsFormOf l r → new ≡ old ++ r ∷ [] → PutsForm (form_of c) old new
-form_put c l r old new is f e = record { form = r; is_form = subst (λ (d : Candidate). IsFormOf (form_of d) r) (sym is) f; behind = e }
+pub form_put : (c : Candidate) (l r : Form) (old new : List Form) → c ≡ Settled l → IsNormalFormOfSettled l r → new ≡ old ++ r ∷ [] → PutsForm (form_in c) old new
+form_put c l r old new is f e = record { form = r; is_form = subst (λ (d : Candidate). IsNormalFormOfSettled (form_in d) r) (sym is) f; behind = e }
 
-pub not_open : (c : Candidate) (l : Form) → c ≡ Open l → (IsOpen c → ⊥) → ⊥
-not_open c l is none = none (subst IsOpen (sym is) tt)
+pub not_open : (c : Candidate) (l : Form) → c ≡ Open l → (IsUnnarrowed c → ⊥) → ⊥
+not_open c l is none = none (subst IsUnnarrowed (sym is) tt)

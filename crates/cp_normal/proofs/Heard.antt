@@ -12,10 +12,10 @@ use Rattle.cp_model.specs.declared.node.Node.{Node}
 use Rattle.cp_model.specs.Skeleton.{SkeletonStrand, skeleton_trace, skeleton_trace_or_none, Skeleton}
 use Rattle.cp_model.specs.Given.{atoms_onto}
 use Rattle.cp_model.proofs.Gathered.{onto-append, onto-takes, onto-only, atoms as gathering}
-use Rattle.cp_skel.specs.Events.{Occurrence, occurrence_view, is_role_strand, occurrences_on, occurrences_from, events_of}
-use Rattle.cp_skel.specs.declared.events.Occurrence as program
-use Rattle.cp_normal.specs.HeardAtoms.{carried_atoms, received_atoms, heard_in, heard_before, heard_of, heard_among}
-use Rattle.cp_normal.specs.NormalForms.{IsHeardAt}
+use Rattle.cp_skel.specs.Events.{LocatedEvent, located_event_view, is_role_strand, located_events_on, located_events_from, events_of}
+use Rattle.cp_skel.specs.declared.events.LocatedEvent as program
+use Rattle.cp_normal.specs.ReceivedAtomLists.{carried_atoms, received_atoms, heard_in, heard_before, heard_of, heard_among}
+use Rattle.cp_normal.specs.NormalForms.{IsReceivedBefore}
 
 -- ---- the loops that gather them
 
@@ -24,29 +24,29 @@ pair_step old new whole rest l r e n inv =
     ap (λ xs. atoms_onto xs (carried_atoms r)) n ∙ sym (onto-append gathering old (carried_atoms l) (carried_atoms r)) ∙ sym (ap (λ t. atoms_onto old (carried_atoms t)) e) ∙ inv
 
 -- the next event, and what is left behind it
-pub heard_next : (x : Node) (os : List program.Occurrence) (i : ℕ) (o : program.Occurrence) (old new whole : List AtomTerm) → i < length os → o ≡ get_or os i o →
-    new ≡ atoms_onto old (heard_of x (occurrence_view o)) → atoms_onto old (heard_among x (map occurrence_view (drop i os))) ≡ whole → atoms_onto new (heard_among x (map occurrence_view (drop (i + 1) os))) ≡ whole
+pub heard_next : (x : Node) (os : List program.LocatedEvent) (i : ℕ) (o : program.LocatedEvent) (old new whole : List AtomTerm) → i < length os → o ≡ get_or os i o →
+    new ≡ atoms_onto old (heard_of x (located_event_view o)) → atoms_onto old (heard_among x (map located_event_view (drop i os))) ≡ whole → atoms_onto new (heard_among x (map located_event_view (drop (i + 1) os))) ≡ whole
 heard_next x os i o old new whole l is made inv =
-    let rest : List AtomTerm = heard_among x (map occurrence_view (drop (suc i) os)) in
-    let step : heard_among x (map occurrence_view (drop i os)) ≡ heard_of x (occurrence_view o) ++ rest =
-    ap (λ xs. heard_among x (map occurrence_view xs)) (drop-cons os i o l) ∙ ap (λ (y : program.Occurrence). heard_of x (occurrence_view y) ++ rest) (sym is) in
+    let rest : List AtomTerm = heard_among x (map located_event_view (drop (suc i) os)) in
+    let step : heard_among x (map located_event_view (drop i os)) ≡ heard_of x (located_event_view o) ++ rest =
+    ap (λ xs. heard_among x (map located_event_view xs)) (drop-cons os i o l) ∙ ap (λ (y : program.LocatedEvent). heard_of x (located_event_view y) ++ rest) (sym is) in
     rw add-one
-    (ap (λ xs. atoms_onto xs rest) made ∙ sym (onto-append gathering old (heard_of x (occurrence_view o)) rest) ∙ ap (atoms_onto old) (sym step) ∙ inv)
+    (ap (λ xs. atoms_onto xs rest) made ∙ sym (onto-append gathering old (heard_of x (located_event_view o)) rest) ∙ ap (atoms_onto old) (sym step) ∙ inv)
 
-pub heard_end : (x : Node) (os : List program.Occurrence) (i : ℕ) (atoms whole : List AtomTerm) → length os ≤ i → atoms_onto atoms (heard_among x (map occurrence_view (drop i os))) ≡ whole → atoms ≡ whole
-heard_end x os i atoms whole l inv = sym (ap (λ xs. atoms_onto atoms (heard_among x (map occurrence_view xs))) (drop_all i os l)) ∙ inv
+pub heard_end : (x : Node) (os : List program.LocatedEvent) (i : ℕ) (atoms whole : List AtomTerm) → length os ≤ i → atoms_onto atoms (heard_among x (map located_event_view (drop i os))) ≡ whole → atoms ≡ whole
+heard_end x os i atoms whole l inv = sym (ap (λ xs. atoms_onto atoms (heard_among x (map located_event_view xs))) (drop_all i os l)) ∙ inv
 
 -- ---- among the events of a skeleton
 
-heard_both : (x : Node) (xs ys : List Occurrence) → heard_among x (xs ++ ys) ≡ heard_among x xs ++ heard_among x ys
+heard_both : (x : Node) (xs ys : List LocatedEvent) → heard_among x (xs ++ ys) ≡ heard_among x xs ++ heard_among x ys
 heard_both x [] ys = refl
 heard_both x (o ∷ xs) ys = ap (λ zs. heard_of x o ++ zs) (heard_both x xs ys) ∙ sym (append_assoc (heard_of x o) (heard_among x xs) (heard_among x ys))
 
 -- an event that is not before the node on its strand
-not_heard : (x : Node) (o : Occurrence) → ((o.node.strand == x.strand) && nat_lt o.node.index x.index) ≡ false → heard_of x o ≡ []
+not_heard : (x : Node) (o : LocatedEvent) → ((o.node.strand == x.strand) && nat_lt o.node.index x.index) ≡ false → heard_of x o ≡ []
 not_heard x o e = ap (λ b. if b then received_atoms o.event else []) e
 
-is_heard : (x : Node) (o : Occurrence) → ((o.node.strand == x.strand) && nat_lt o.node.index x.index) ≡ true → heard_of x o ≡ received_atoms o.event
+is_heard : (x : Node) (o : LocatedEvent) → ((o.node.strand == x.strand) && nat_lt o.node.index x.index) ≡ true → heard_of x o ≡ received_atoms o.event
 is_heard x o e = ap (λ b. if b then received_atoms o.event else []) e
 
 past_node : (a b c d : ℕ) → d ≤ c → ((a == b) && nat_lt c d) ≡ false
@@ -58,53 +58,53 @@ other_strand a b c d h = grind arith
 before_node : (a b c d : ℕ) → a ≡ b → c < d → ((a == b) && nat_lt c d) ≡ true
 before_node a b c d e h = grind arith
 
-none_past : (x : Node) (s i : ℕ) (r : Bool) (es : List (Event Term)) → x.index ≤ i → heard_among x (occurrences_on s i r es) ≡ []
+none_past : (x : Node) (s i : ℕ) (r : Bool) (es : List (Event Term)) → x.index ≤ i → heard_among x (located_events_on s i r es) ≡ []
 none_past x s i r [] h = refl
 none_past x s i r (e ∷ es) h =
-    let o : Occurrence = record { node = node_at s i; event = e; by_role = r } in
+    let o : LocatedEvent = record { node = node_at s i; event = e; by_role = r } in
     let first : heard_of x o ≡ [] = not_heard x o (past_node s x.strand i x.index h) in
-    ap (λ xs. xs ++ heard_among x (occurrences_on s (suc i) r es)) first ∙ none_past x s (suc i) r es (omega arith)
+    ap (λ xs. xs ++ heard_among x (located_events_on s (suc i) r es)) first ∙ none_past x s (suc i) r es (omega arith)
 
-none_elsewhere : (x : Node) (s i : ℕ) (r : Bool) (es : List (Event Term)) → (s ≡ x.strand → ⊥) → heard_among x (occurrences_on s i r es) ≡ []
+none_elsewhere : (x : Node) (s i : ℕ) (r : Bool) (es : List (Event Term)) → (s ≡ x.strand → ⊥) → heard_among x (located_events_on s i r es) ≡ []
 none_elsewhere x s i r [] h = refl
 none_elsewhere x s i r (e ∷ es) h =
-    let o : Occurrence = record { node = node_at s i; event = e; by_role = r } in
+    let o : LocatedEvent = record { node = node_at s i; event = e; by_role = r } in
     let first : heard_of x o ≡ [] = not_heard x o (other_strand s x.strand i x.index h) in
-    ap (λ xs. xs ++ heard_among x (occurrences_on s (suc i) r es)) first ∙ none_elsewhere x s (suc i) r es h
+    ap (λ xs. xs ++ heard_among x (located_events_on s (suc i) r es)) first ∙ none_elsewhere x s (suc i) r es h
 
-heard_on : (x : Node) (s i j : ℕ) (r : Bool) (es : List (Event Term)) → s ≡ x.strand → x.index ≡ i + j → heard_among x (occurrences_on s i r es) ≡ heard_in (take j es)
+heard_on : (x : Node) (s i j : ℕ) (r : Bool) (es : List (Event Term)) → s ≡ x.strand → x.index ≡ i + j → heard_among x (located_events_on s i r es) ≡ heard_in (take j es)
 heard_on x s i zero r [] e at = refl
 heard_on x s i (suc j) r [] e at = refl
 heard_on x s i zero r (v ∷ es) e at = none_past x s i r (v ∷ es) (omega (arith, at))
 heard_on x s i (suc j) r (v ∷ es) e at =
-    let o : Occurrence = record { node = node_at s i; event = v; by_role = r } in
+    let o : LocatedEvent = record { node = node_at s i; event = v; by_role = r } in
     let first : heard_of x o ≡ received_atoms v = is_heard x o (before_node s x.strand i x.index e (omega (arith, at))) in
-    ap (λ xs. xs ++ heard_among x (occurrences_on s (suc i) r es)) first ∙ ap (λ xs. received_atoms v ++ xs) (heard_on x s (suc i) j r es e (omega (arith, at)))
+    ap (λ xs. xs ++ heard_among x (located_events_on s (suc i) r es)) first ∙ ap (λ xs. received_atoms v ++ xs) (heard_on x s (suc i) j r es e (omega (arith, at)))
 
-none_later : (x : Node) (s : ℕ) (xs : List SkeletonStrand) → x.strand < s → heard_among x (occurrences_from s xs) ≡ []
+none_later : (x : Node) (s : ℕ) (xs : List SkeletonStrand) → x.strand < s → heard_among x (located_events_from s xs) ≡ []
 none_later x s [] h = refl
 none_later x s (y ∷ xs) h =
-    heard_both x (occurrences_on s 0 (is_role_strand y) (skeleton_trace y)) (occurrences_from (suc s) xs)
-    ∙ ap (λ zs. zs ++ heard_among x (occurrences_from (suc s) xs)) (none_elsewhere x s 0 (is_role_strand y) (skeleton_trace y) (λ e. omega (arith, h, e)))
+    heard_both x (located_events_on s 0 (is_role_strand y) (skeleton_trace y)) (located_events_from (suc s) xs)
+    ∙ ap (λ zs. zs ++ heard_among x (located_events_from (suc s) xs)) (none_elsewhere x s 0 (is_role_strand y) (skeleton_trace y) (λ e. omega (arith, h, e)))
     ∙ none_later x (suc s) xs (omega (arith, h))
 
-heard_from : (x : Node) (s t : ℕ) (xs : List SkeletonStrand) → x.strand ≡ s + t → heard_among x (occurrences_from s xs) ≡ heard_in (take x.index (skeleton_trace_or_none (item_at xs t)))
+heard_from : (x : Node) (s t : ℕ) (xs : List SkeletonStrand) → x.strand ≡ s + t → heard_among x (located_events_from s xs) ≡ heard_in (take x.index (skeleton_trace_or_none (item_at xs t)))
 heard_from x s t [] e = sym (ap heard_in (none_taken x.index))
 heard_from x s zero (y ∷ xs) e =
-    heard_both x (occurrences_on s 0 (is_role_strand y) (skeleton_trace y)) (occurrences_from (suc s) xs)
-    ∙ ap (λ zs. heard_among x (occurrences_on s 0 (is_role_strand y) (skeleton_trace y)) ++ zs) (none_later x (suc s) xs (omega (arith, e)))
-    ∙ append-nil (heard_among x (occurrences_on s 0 (is_role_strand y) (skeleton_trace y)))
+    heard_both x (located_events_on s 0 (is_role_strand y) (skeleton_trace y)) (located_events_from (suc s) xs)
+    ∙ ap (λ zs. heard_among x (located_events_on s 0 (is_role_strand y) (skeleton_trace y)) ++ zs) (none_later x (suc s) xs (omega (arith, e)))
+    ∙ append-nil (heard_among x (located_events_on s 0 (is_role_strand y) (skeleton_trace y)))
     ∙ heard_on x s 0 x.index (is_role_strand y) (skeleton_trace y) (omega (arith, e)) (omega arith)
 heard_from x s (suc t) (y ∷ xs) e =
-    heard_both x (occurrences_on s 0 (is_role_strand y) (skeleton_trace y)) (occurrences_from (suc s) xs)
-    ∙ ap (λ zs. zs ++ heard_among x (occurrences_from (suc s) xs)) (none_elsewhere x s 0 (is_role_strand y) (skeleton_trace y) (λ f. omega (arith, e, f)))
+    heard_both x (located_events_on s 0 (is_role_strand y) (skeleton_trace y)) (located_events_from (suc s) xs)
+    ∙ ap (λ zs. zs ++ heard_among x (located_events_from (suc s) xs)) (none_elsewhere x s 0 (is_role_strand y) (skeleton_trace y) (λ f. omega (arith, e, f)))
     ∙ heard_from x (suc s) t xs (omega (arith, e))
 
--- What is heard among the events of a skeleton is what is heard before the node.
-pub heard_listed : (k : Skeleton) (x : Node) (os : List Occurrence) (atoms : List AtomTerm) → os ≡ events_of k → atoms ≡ atoms_onto [] (heard_among x os) → atoms ≡ heard_before k x
-heard_listed k x os atoms all e = e ∙ ap (λ (ys : List Occurrence). atoms_onto [] (heard_among x ys)) all ∙ ap (atoms_onto []) (heard_from x 0 x.strand k.strands (omega arith))
+-- What is received among the events of a skeleton is what is received before the node.
+pub heard_listed : (k : Skeleton) (x : Node) (os : List LocatedEvent) (atoms : List AtomTerm) → os ≡ events_of k → atoms ≡ atoms_onto [] (heard_among x os) → atoms ≡ heard_before k x
+heard_listed k x os atoms all e = e ∙ ap (λ (ys : List LocatedEvent). atoms_onto [] (heard_among x ys)) all ∙ ap (atoms_onto []) (heard_from x 0 x.strand k.strands (omega arith))
 
--- ---- what is heard
+-- ---- what is received
 
 carried_listed : (v : AtomTerm) (w t : Term) → w ≡ atom_term v → IsCarriedByTerm w t → IsIn v (carried_atoms t)
 carried_listed v w t e itself_term = subst (λ u. IsIn v (carried_atoms u)) (sym e) here
@@ -149,14 +149,14 @@ none_before : {v : AtomTerm} {ys : List AtomTerm} → IsIn v [] ⊎ IsIn v ys �
 none_before (inl h) = elim h [ ]
 none_before (inr h) = h
 
-pub heard_if_listed : (k : Skeleton) (x : Node) (atoms : List AtomTerm) (v : AtomTerm) → atoms ≡ heard_before k x → IsIn v atoms → IsHeardAt k v x
+pub heard_if_listed : (k : Skeleton) (x : Node) (atoms : List AtomTerm) (v : AtomTerm) → atoms ≡ heard_before k x → IsIn v atoms → IsReceivedBefore k v x
 heard_if_listed k x atoms v e h =
     let trace = skeleton_trace_or_none (item_at k.strands x.strand) in
     let i : IsIn v (heard_in (take x.index trace)) = none_before (onto-only gathering [] (heard_in (take x.index trace)) v (subst (IsIn v) e h)) in
     let r : IsHeardBelow x.index trace v = heard_below v x.index trace i in
     record { index = r.0; earlier = r.1; received = r.2; reception = r.3; carried = r.4 }
 
-pub listed_if_heard : (k : Skeleton) (x : Node) (atoms : List AtomTerm) (v : AtomTerm) → atoms ≡ heard_before k x → IsHeardAt k v x → IsIn v atoms
+pub listed_if_heard : (k : Skeleton) (x : Node) (atoms : List AtomTerm) (v : AtomTerm) → atoms ≡ heard_before k x → IsReceivedBefore k v x → IsIn v atoms
 listed_if_heard k x atoms v e h =
     let trace = skeleton_trace_or_none (item_at k.strands x.strand) in
     subst (IsIn v) (sym e) (onto-takes gathering [] (heard_in (take x.index trace)) v (below_heard v x.index trace h.index h.received h.earlier h.reception (carried_listed v (atom_term v) h.received refl h.carried)))

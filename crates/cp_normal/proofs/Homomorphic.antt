@@ -7,8 +7,8 @@ use Rattle.cp_model.specs.Skeleton.{Assumptions, FromProblem, Skeleton}
 use Rattle.cp_model.specs.Homomorphism.{SkeletonMap, mapped, GoesToInstance, IsHomomorphism, substitution_by, strand_in, map_from_problem, CarriesHomomorphism}
 use Rattle.cp_model.specs.PointOfView.{MapsToItself}
 use Rattle.cp_model.proofs.LawPrefixes.{variables_of_higher}
-use Rattle.cp_completeness.specs.Normal.{skeleton_under}
-use Rattle.cp_completeness.proofs.Mapped.{carried_under, carried_with_pairs}
+use Rattle.cp_theory.specs.Normal.{skeleton_under}
+use Rattle.cp_theory.proofs.Mapped.{carried_under, carried_with_pairs}
 use Rattle.cp_collapse.specs.SameSkeletons.{SaysTheSame}
 use Rattle.cp_normal.specs.NormalForms.{IsNarrowed, NarrowsTo, none, one, IsNormalFormOf}
 use Rattle.cp_collapse.proofs.SameStrands.{all_same_back, instance_at, listener_at}

@@ -24,14 +24,14 @@ pub mod Homomorphic
 pub mod StatedForms
 pub mod Greatest
 pub mod Heard
-pub mod Strayed
+pub mod MisplacedOriginations
 pub mod BranchLists
 pub mod Exactly
 pub mod TreeOfForms
 pub mod NarrowingRounds
 pub mod Gathered
 pub mod Ranked
-pub mod StrayedText
+pub mod MisplacedText
 pub mod VariablesUnder
 pub mod VariablesOfForms
 pub mod Within

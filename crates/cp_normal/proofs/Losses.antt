@@ -4,8 +4,8 @@ use Rattle.cp_lists.specs.Lists.{IsIn}
 use Rattle.cp_model.specs.Strand.{Protocol}
 use Rattle.cp_model.specs.Skeleton.{Skeleton, IsSkeleton}
 use Rattle.cp_model.specs.declared.node.OrderPair.{OrderPair}
-use Rattle.cp_completeness.specs.Normal.{IsOriginPair, AddOnlyOriginPairs, LosesNoStanding}
-use Rattle.cp_completeness.proofs.NoStandingLost.{none_carried, none_with_two_origins, none_not_originating, none_with_cycle}
+use Rattle.cp_theory.specs.Normal.{IsOriginPair, AddOnlyOriginPairs, LosesNoStanding}
+use Rattle.cp_theory.proofs.NoStandingLost.{none_carried, none_with_two_origins, none_not_originating, none_with_cycle}
 use Rattle.cp_normal.specs.Findings.{IsAddedPair, AreNormalPairs, IsContradictory}
 
 origin_pair : (k : Skeleton) (p : OrderPair) → IsIn p k.pairs ⊎ IsAddedPair k p → IsIn p k.pairs ⊎ IsOriginPair k p

@@ -11,10 +11,10 @@ use Rattle.cp_model.specs.Skeleton.{Skeleton, skeleton_trace_or_none, term_event
 use Rattle.cp_model.specs.Standing.{Standing, image_of, StandsIn}
 use Rattle.cp_lists.proofs.Items.{item_of_map, map_of_item}
 use Rattle.cp_model.proofs.LawTerms.{atom_composed, value_after, term_composed, term_unchanged}
-use Rattle.cp_completeness.specs.Normal.{skeleton_under}
-use Rattle.cp_completeness.proofs.Under.{trace_under, same_image as image_below}
+use Rattle.cp_theory.specs.Normal.{skeleton_under}
+use Rattle.cp_theory.proofs.Under.{trace_under, same_image as image_below}
 use Rattle.cp_model.proofs.LawEvents.{payload_map}
-use Rattle.cp_completeness.proofs.Images.{IsImageOf, image_event_at}
+use Rattle.cp_theory.proofs.Images.{IsImageOf, image_event_at}
 use Rattle.cp_collapse.specs.SameSkeletons.{SaysTheSame}
 use Rattle.cp_normal.specs.NormalForms.{IsNarrowed, NarrowsTo, none, one}
 use Rattle.cp_collapse.proofs.SameFacts.{same_event}
@@ -72,9 +72,9 @@ standings_leave s k l b h same stands stands' n e ev =
 
 -- A step's unifier, with a rest that makes the values those that they were, is solved.
 module _ (g : Assignment) (k m : Skeleton) (step : IsNarrowed k m) (r : Substitution) (leaves : LeavesValues g (composed step.unifier r) k) where
-  stray_left : value_of_atom g (apply_to_atom (composed step.unifier r) step.entry.value) ≡ value_of_atom g step.entry.value
-  stray_left =
-      let o = step.stray.originates.1 in
+  misplaced_left : value_of_atom g (apply_to_atom (composed step.unifier r) step.entry.value) ≡ value_of_atom g step.entry.value
+  misplaced_left =
+      let o = step.misplaced.originates.1 in
       carried_leaves g (composed step.unifier r) step.entry.value o.carried (leaves step.node (send o.sent) o.transmission)
 
   heard_left : value_of_atom g (apply_to_atom (composed step.unifier r) step.heard) ≡ value_of_atom g step.heard
@@ -86,7 +86,7 @@ module _ (g : Assignment) (k m : Skeleton) (step : IsNarrowed k m) (r : Substitu
   unified = atom_composed step.unifier r step.entry.value ∙ ap (apply_to_atom r) step.most_general.unifies ∙ sym (atom_composed step.unifier r step.heard)
 
   pub step_solved : (t : Term) → value_of (after g step.unifier) t ≡ value_of g t
-  step_solved = step.most_general.general g (sym stray_left ∙ ap (value_of_atom g) unified ∙ heard_left)
+  step_solved = step.most_general.general g (sym misplaced_left ∙ ap (value_of_atom g) unified ∙ heard_left)
 
   pub rest_leaves : LeavesValues g r m
   rest_leaves n f ev =

@@ -5,7 +5,7 @@ use Rattle.cp_model.specs.Identity.{unchanged}
 use Rattle.cp_lists.proofs.Mapped.{map_same, map_then}
 use Rattle.cp_model.specs.Skeleton.{SkeletonStrand, instance, listener, UniqueAt, Assumptions, FromProblem, Skeleton}
 use Rattle.cp_model.proofs.LawTerms.{atom_composed, term_composed, atom_unchanged, term_unchanged}
-use Rattle.cp_completeness.specs.Normal.{strand_under, unique_under, assumptions_under, from_problem_under, skeleton_under}
+use Rattle.cp_theory.specs.Normal.{strand_under, unique_under, assumptions_under, from_problem_under, skeleton_under}
 use Rattle.cp_collapse.specs.SameSkeletons.{IsSameStrand, same_instance, same_listener, AreSameStrands, no_strands, same_strands, SaysTheSame}
 use Rattle.cp_normal.specs.NormalForms.{NarrowsTo, none, one}
 use Rattle.cp_collapse.proofs.SameFacts.{says_then, says_under}

@@ -11,55 +11,55 @@ use Rattle.cp_skel.proofs.EachOnce.{listed-unique}
 use Rattle.cp_normal.specs.declared.form.Form.{Form}
 use Rattle.cp_normal.specs.declared.candidates.Candidate.{Candidate}
 use Rattle.cp_normal.specs.declared.candidates.Candidate.TheVariants.{Open, Settled}
-use Rattle.cp_normal.specs.NormalForms.{IsStray, IsHeardAt}
+use Rattle.cp_normal.specs.NormalForms.{IsMisplaced, IsReceivedBefore}
 use Rattle.cp_normal.specs.Findings.{IsContradictory}
 use Rattle.cp_normal.specs.Branches.{IsSettled}
 use Rattle.cp_normal.specs.Branched.{AreInOrder, IsBranch, AreBranchesOf}
-use Rattle.cp_normal.specs.Exact.{IsRefuted, HaveForms, refuted_one, stray_one, cyclic_one}
+use Rattle.cp_normal.specs.Exact.{IsRefuted, HaveForms, refuted_one, misplaced_one, cyclic_one}
 use Rattle.cp_normal.specs.FormView.{form_view}
-use Rattle.cp_normal.specs.HeardAtoms.{heard_before}
-use Rattle.cp_normal.specs.StrayValues.{IsFirstStray}
-use Rattle.cp_normal.specs.Candidates.{form_of, candidate_view, Follows, TakesPlace, Puts, AllFollow, IsRound}
-use Rattle.cp_unify.specs.Unifiers.{IsMostGeneral}
+use Rattle.cp_normal.specs.ReceivedAtomLists.{heard_before}
+use Rattle.cp_normal.specs.MisplacedValues.{IsFirstMisplaced}
+use Rattle.cp_normal.specs.Candidates.{form_in, candidate_view, FollowsByNarrowing, ReplacesByNarrowing, PutsNarrowed, AllFollow, IsNarrowingRound}
+use Rattle.cp_unify.specs.Unifiers.{IsMostGeneralUnifier}
 use Rattle.cp_normal.proofs.UnifierSteps.{comes_itself, comes_by}
 use Rattle.cp_normal.proofs.Fewer.{narrowed_has_fewer}
 use Rattle.cp_normal.proofs.Exactly.{placed}
 
 -- ---- what takes the place of one candidate
 
-nothing_follows : (f : Form) → IsRefuted (form_view f) → TakesPlace (Open f) []
+nothing_follows : (f : Form) → IsRefuted (form_view f) → ReplacesByNarrowing (Open f) []
 nothing_follows f r = record { each = λ d i. elim i [ ]; exact = λ rest rs h. refuted_one r h }
 
-pub dropped_place : (f : Form) (old : List Candidate) → IsRefuted (form_view f) → Puts (Open f) old old
+pub dropped_place : (f : Form) (old : List Candidate) → IsRefuted (form_view f) → PutsNarrowed (Open f) old old
 dropped_place f old r = record { added = []; behind = sym (append-nil old); takes_place = nothing_follows f r }
 
-none_follows : (f : Form) → IsSettled (form_view f) → IsContradictory (form_view f) → TakesPlace (Open f) []
+none_follows : (f : Form) → IsSettled (form_view f) → IsContradictory (form_view f) → ReplacesByNarrowing (Open f) []
 none_follows f settled contradictory = record { each = λ d i. elim i [ ]; exact = λ rest rs h. cyclic_one settled contradictory h }
 
-pub cyclic_place : (f : Form) (old : List Candidate) → IsSettled (form_view f) → IsContradictory (form_view f) → Puts (Open f) old old
+pub cyclic_place : (f : Form) (old : List Candidate) → IsSettled (form_view f) → IsContradictory (form_view f) → PutsNarrowed (Open f) old old
 cyclic_place f old settled contradictory = record { added = []; behind = sym (append-nil old); takes_place = none_follows f settled contradictory }
 
 -- In the place of a candidate its skeleton may stand, settled.
-settled_takes : (c : Candidate) → TakesPlace c (Settled (form_of c) ∷ [])
+settled_takes : (c : Candidate) → ReplacesByNarrowing c (Settled (form_in c) ∷ [])
 settled_takes c = record {
-  each = λ d i. subst (Follows c) (sym (only_item i)) (record { falls = tt; variables = refl; comes_on = comes_itself (form_of c) });
+  each = λ d i. subst (FollowsByNarrowing c) (sym (only_item i)) (record { falls = tt; variables = refl; comes_on = comes_itself (form_in c) });
   exact = λ rest rs h. h;
 }
 
-pub settled_place : (k f : Form) (old new : List Candidate) → f ≡ k → new ≡ old ++ Settled f ∷ [] → Puts (Open k) old new
+pub settled_place : (k f : Form) (old new : List Candidate) → f ≡ k → new ≡ old ++ Settled f ∷ [] → PutsNarrowed (Open k) old new
 settled_place k f old new same e = record { added = Settled k ∷ []; behind = subst (λ (g : Form). new ≡ old ++ Settled g ∷ []) same e; takes_place = settled_takes (Open k) }
 
-same_place : (k : Form) (old new : List Candidate) → new ≡ old ++ Settled k ∷ [] → Puts (Settled k) old new
+same_place : (k : Form) (old new : List Candidate) → new ≡ old ++ Settled k ∷ [] → PutsNarrowed (Settled k) old new
 same_place k old new e = record { added = Settled k ∷ []; behind = e; takes_place = settled_takes (Settled k) }
 
-pub settled_stays : (c : Candidate) (k : Form) (old new : List Candidate) → c ≡ Settled k → new ≡ old ++ Settled k ∷ [] → Puts c old new
-settled_stays c k old new is e = subst (λ (d : Candidate). Puts d old new) (sym is) (same_place k old new e)
+pub settled_stays : (c : Candidate) (k : Form) (old new : List Candidate) → c ≡ Settled k → new ≡ old ++ Settled k ∷ [] → PutsNarrowed c old new
+settled_stays c k old new is e = subst (λ (d : Candidate). PutsNarrowed d old new) (sym is) (same_place k old new e)
 
 -- A test finds whether a skeleton stays; where it does not, what takes its place is put before, and nothing after.
-pub tested_place : (c : Candidate) (old between new : List Candidate) (stays : Bool) → (stays ≡ true → between ≡ old) → (stays ≡ false → Puts c old between) → (stays ≡ true → Puts c between new) → (stays ≡ false → new ≡ between) →
-    Puts c old new
-tested_place c old between new true same before after nothing = subst (λ (cs : List Candidate). Puts c cs new) (same refl) (after refl)
-tested_place c old between new false same before after nothing = subst (Puts c old) (sym (nothing refl)) (before refl)
+pub tested_place : (c : Candidate) (old between new : List Candidate) (stays : Bool) → (stays ≡ true → between ≡ old) → (stays ≡ false → PutsNarrowed c old between) → (stays ≡ true → PutsNarrowed c between new) → (stays ≡ false → new ≡ between) →
+    PutsNarrowed c old new
+tested_place c old between new true same before after nothing = subst (λ (cs : List Candidate). PutsNarrowed c cs new) (same refl) (after refl)
+tested_place c old between new false same before after nothing = subst (PutsNarrowed c old) (sym (nothing refl)) (before refl)
 
 -- ---- a round
 
@@ -76,14 +76,14 @@ at_first all new e = record {
   exact = λ rs h. subst (λ (ds : List Candidate). HaveForms (map candidate_view ds ++ map candidate_view (reverse all)) rs) e h;
 }
 
-module _ (all left rest old new : List Candidate) (c : Candidate) (so_far : IsPartWay all left old) (popped : left ≡ rest ++ c ∷ []) (puts : Puts c old new) where
+module _ (all left rest old new : List Candidate) (c : Candidate) (so_far : IsPartWay all left old) (popped : left ≡ rest ++ c ∷ []) (puts : PutsNarrowed c old new) where
   next_first : reverse left ≡ c ∷ reverse rest
   next_first = ap reverse popped ∙ reverse-append rest (c ∷ [])
 
   is_in_all : IsIn c all
   is_in_all = so_far.each_left c (subst (IsIn c) (sym popped) (in_append_right rest here))
 
-  follows_either : (d : Candidate) → IsIn d old ⊎ IsIn d puts.added → (b : Candidate) × IsIn b all × Follows b d
+  follows_either : (d : Candidate) → IsIn d old ⊎ IsIn d puts.added → (b : Candidate) × IsIn b all × FollowsByNarrowing b d
   follows_either d (inl i) = so_far.all_follow d i
   follows_either d (inr i) = (c, is_in_all, puts.takes_place.each d i)
 
@@ -103,7 +103,7 @@ module _ (all left rest old new : List Candidate) (c : Candidate) (so_far : IsPa
     exact = exact_next;
   }
 
-pub all_done : (candidates all left new : List Candidate) → all ≡ reverse candidates → left ≡ [] → IsPartWay all left new → IsRound candidates new
+pub all_done : (candidates all left new : List Candidate) → all ≡ reverse candidates → left ≡ [] → IsPartWay all left new → IsNarrowingRound candidates new
 all_done candidates all left new e done part = record {
   all_follow = λ d i. let r = part.all_follow d i in (r.0, from_reverse candidates (subst (IsIn r.0) e r.1), r.2);
   exact = λ rs h. subst (λ (ds : List Candidate). HaveForms (map candidate_view ds) rs) (ap reverse e ∙ reverse-reverse candidates)
@@ -114,40 +114,40 @@ all_done candidates all left new e done part = record {
 -- ---- branches
 
 module _ (f : Form) (v : AtomTerm) (x : Node) (atoms : List AtomTerm) (made : List Form) where
-  module _ (consistent : IsRefuted (form_view f) → ⊥) (stray : IsFirstStray (form_view f) v x) (in_order : atoms ≡ heard_before (form_view f) x) (heard : (a : AtomTerm) → IsIn a atoms ↔ IsHeardAt (form_view f) a x)
+  module _ (consistent : IsRefuted (form_view f) → ⊥) (misplaced : IsFirstMisplaced (form_view f) v x) (in_order : atoms ≡ heard_before (form_view f) x) (heard : (a : AtomTerm) → IsIn a atoms ↔ IsReceivedBefore (form_view f) a x)
       (are : AreBranchesOf f v atoms made) where
     abbrev entry : UniqueAt
-    entry = stray.here.entry
+    entry = misplaced.here.entry
 
-    is_stray : IsStray (form_view f) entry x
-    is_stray = record { listed = ((listed-unique (form_view f)).same entry).0 (at_place _ stray.here.place entry stray.here.at_place); originates = stray.here.strays.1; elsewhere = stray.here.strays.0 }
+    is_misplaced : IsMisplaced (form_view f) entry x
+    is_misplaced = record { listed = ((listed-unique (form_view f)).same entry).0 (at_place _ misplaced.here.place entry misplaced.here.at_place); originates = misplaced.here.originates_elsewhere.1; elsewhere = misplaced.here.originates_elsewhere.0 }
 
     module _ (g : Form) (b : IsBranch f v atoms g) where
-      most_general : IsMostGeneral (atom_term entry.value) (atom_term b.heard) [] b.bindings
-      most_general = subst (λ (u : AtomTerm). IsMostGeneral (atom_term u) (atom_term b.heard) [] b.bindings) (sym stray.here.is_value) b.most_general
+      most_general : IsMostGeneralUnifier (atom_term entry.value) (atom_term b.heard) [] b.bindings
+      most_general = subst (λ (u : AtomTerm). IsMostGeneralUnifier (atom_term u) (atom_term b.heard) [] b.bindings) (sym misplaced.here.is_value) b.most_general
 
-      follows : Follows (Open f) (Open g)
+      follows : FollowsByNarrowing (Open f) (Open g)
       follows = record {
-        falls = narrowed_has_fewer (form_view f) (form_view g) entry x b.heard b.bindings is_stray ((heard b.heard).0 b.listed) most_general b.same;
+        falls = narrowed_has_fewer (form_view f) (form_view g) entry x b.heard b.bindings is_misplaced ((heard b.heard).0 b.listed) most_general b.same;
         variables = b.variables;
-        comes_on = comes_by f g entry x b.heard b.bindings is_stray ((heard b.heard).0 b.listed) most_general b.same b.followed;
+        comes_on = comes_by f g entry x b.heard b.bindings is_misplaced ((heard b.heard).0 b.listed) most_general b.same b.followed;
       }
 
-    each_follows : (d : Candidate) → (g : Form) × IsIn g made × (Open g ≡ d) → Follows (Open f) d
-    each_follows d r = subst (Follows (Open f)) r.2 (follows r.0 (are.each r.0 r.1))
+    each_follows : (d : Candidate) → (g : Form) × IsIn g made × (Open g ≡ d) → FollowsByNarrowing (Open f) d
+    each_follows d r = subst (FollowsByNarrowing (Open f)) r.2 (follows r.0 (are.each r.0 r.1))
 
     view_open : (gs : List Form) → map candidate_view (map Open gs) ≡ map form_view gs
     view_open [] = refl
     view_open (g ∷ gs) = ap (λ ms. form_view g ∷ ms) (view_open gs)
 
-    pub branches_place : (old new : List Candidate) → new ≡ old ++ map Open made → Puts (Open f) old new
+    pub branches_place : (old new : List Candidate) → new ≡ old ++ map Open made → PutsNarrowed (Open f) old new
     branches_place old new e = record {
       added = map Open made;
       behind = e;
       takes_place = record {
         each = λ d i. each_follows d (from_map Open made i);
         exact = λ rest rs h.
-            stray_one consistent stray (subst (λ (vs : List AtomTerm). AreInOrder (form_view f) v vs (map form_view made)) in_order are.in_order)
+            misplaced_one consistent misplaced (subst (λ (vs : List AtomTerm). AreInOrder (form_view f) v vs (map form_view made)) in_order are.in_order)
             (subst (λ (ms : List Skeleton). HaveForms (ms ++ rest) rs) (view_open made) h);
       };
     }

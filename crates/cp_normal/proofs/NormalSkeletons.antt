@@ -5,10 +5,10 @@ use Rattle.cp_lists.proofs.Reached.{steps_append}
 use Rattle.cp_model.specs.Strand.{recv}
 use Rattle.cp_model.specs.declared.node.Node.{Node}
 use Rattle.cp_model.specs.declared.node.OrderPair.{OrderPair}
-use Rattle.cp_model.specs.Order.{LeadsTo}
+use Rattle.cp_model.specs.Order.{ReachesAlong}
 use Rattle.cp_model.specs.Skeleton.{Skeleton, OrderStep, along_strand_of, along_pair, Before}
 use Rattle.cp_model.proofs.LawOrder.{before_leads, leads_before}
-use Rattle.cp_completeness.specs.Normal.{with_pairs}
+use Rattle.cp_theory.specs.Normal.{with_pairs}
 use Rattle.cp_skel.specs.Sound.{IsSound}
 use Rattle.cp_model.proofs.CarriedParts.{not_both}
 use Rattle.cp_normal.specs.Findings.{IsAddedPair, AreNormalPairs, ClosesCycle}
@@ -38,12 +38,12 @@ closes_none k before no_cycle c = no_cycle c.node (way_within k before c.pairs c
 
 -- ---- what the tests say
 
--- A skeleton that is refuted, or in which a unique value strays, is not normal.
+-- A skeleton that is refuted, or in which a unique value is misplaced, is not normal.
 pub refuted_not_normal : (k : Skeleton) → IsRefuted k → (false ≡ true) ↔ IsNormal k
 refuted_not_normal k r = (λ e. absurd (not_both refl e), λ n. absurd (n.consistent (contradictory k r)))
 
-pub stray_not_normal : (k : Skeleton) → (IsSettled k → ⊥) → (false ≡ true) ↔ IsNormal k
-stray_not_normal k stray = (λ e. absurd (not_both refl e), λ n. absurd (stray n.no_stray))
+pub misplaced_not_normal : (k : Skeleton) → (IsSettled k → ⊥) → (false ≡ true) ↔ IsNormal k
+misplaced_not_normal k misplaced = (λ e. absurd (not_both refl e), λ n. absurd (misplaced n.no_misplaced))
 
 -- Any other is normal exactly where its order has the pairs that are added.
 pub normal_if : (k : Skeleton) (own added : List OrderPair) (all : Bool) → IsSound k → own ≡ k.pairs → (IsRefuted k → ⊥) → IsSettled k → ((p : OrderPair) → IsIn p added ↔ IsAddedPair k p)
@@ -56,10 +56,10 @@ normal_if k own added all sound same refuted settled are h = (λ e. normal (each
 
     each : AllLead own added → (p : OrderPair) → IsAddedPair k p → Before k p.earlier p.later
     each l p a =
-        apart p a (leads_before k sound.skeleton.order_pairs p.earlier p.later (recv a.0.received, a.0.reception) (subst (λ (ps : List OrderPair). LeadsTo ps p.earlier p.later) same (l p ((are p).1 a))))
+        apart p a (leads_before k sound.skeleton.order_pairs p.earlier p.later (recv a.0.received, a.0.reception) (subst (λ (ps : List OrderPair). ReachesAlong ps p.earlier p.later) same (l p ((are p).1 a))))
 
     normal : ((p : OrderPair) → IsAddedPair k p → Before k p.earlier p.later) → IsNormal k
-    normal before = record { consistent = consistent k refuted (closes_none k before sound.skeleton.no_cycle); no_stray = settled; ordered = before }
+    normal before = record { consistent = consistent k refuted (closes_none k before sound.skeleton.no_cycle); no_misplaced = settled; ordered = before }
 
     lead : IsNormal k → AllLead own added
-    lead n p m = subst (λ (ps : List OrderPair). LeadsTo ps p.earlier p.later) (sym same) (before_leads k p.earlier p.later (n.ordered p ((are p).0 m)))
+    lead n p m = subst (λ (ps : List OrderPair). ReachesAlong ps p.earlier p.later) (sym same) (before_leads k p.earlier p.later (n.ordered p ((are p).0 m)))

@@ -13,10 +13,10 @@ use Rattle.cp_lists.proofs.Appended.{moved_behind}
 use Rattle.cp_model.specs.Skeleton.{Skeleton}
 use Rattle.cp_model.specs.declared.node.Node.{Node}
 use Rattle.cp_model.specs.declared.node.OrderPair.{OrderPair}
-use Rattle.cp_model.specs.Order.{LeadsTo, on_strand, over_pair}
-use Rattle.cp_order.specs.LeadingNodes.{Target}
+use Rattle.cp_model.specs.Order.{ReachesAlong, on_strand, over_pair}
+use Rattle.cp_order.specs.PredecessorNodes.{Target}
 use Rattle.cp_normal.specs.Findings.{IsAddedPair, AreNormalPairs}
-use Rattle.cp_normal.specs.OwnPairs.{Key, key_of, is_same_key, has_key, AreKeysOf, is_other, AllLead}
+use Rattle.cp_normal.specs.OwnPairs.{PairKey, pair_key, is_same_key, has_key, AreKeysOf, is_other, AllLead}
 
 -- ---- the loops
 
@@ -25,18 +25,18 @@ or_on true true rest = refl
 or_on true false rest = refl
 or_on false b rest = refl
 
-module _ {S : Type 0} (ps : List OrderPair) (i : ℕ) (old : HashSet Key S) where
-  pub next_key : (d : OrderPair) (new : HashSet Key S) → i < length ps → (k : Key) → k ≡ key_of (get_or ps i d) → ((q : Key) → contains is_same_key new q ≡ cond (is_same_key k q) true (contains is_same_key old q)) →
-      ((q : Key) → (contains is_same_key old q || has_key (drop i ps) q) ≡ has_key ps q) → (q : Key) →
+module _ {S : Type 0} (ps : List OrderPair) (i : ℕ) (old : HashSet PairKey S) where
+  pub next_key : (d : OrderPair) (new : HashSet PairKey S) → i < length ps → (k : PairKey) → k ≡ pair_key (get_or ps i d) → ((q : PairKey) → contains is_same_key new q ≡ cond (is_same_key k q) true (contains is_same_key old q)) →
+      ((q : PairKey) → (contains is_same_key old q || has_key (drop i ps) q) ≡ has_key ps q) → (q : PairKey) →
       (contains is_same_key new q || has_key (drop (i + 1) ps) q) ≡ has_key ps q
   next_key d new l k is put inv q =
       let rest : Bool = has_key (drop (suc i) ps) q in
-      let step : has_key (drop i ps) q ≡ (is_same_key (key_of (get_or ps i d)) q || rest) = ap (λ (xs : List OrderPair). has_key xs q) (drop-cons ps i d l) in
+      let step : has_key (drop i ps) q ≡ (is_same_key (pair_key (get_or ps i d)) q || rest) = ap (λ (xs : List OrderPair). has_key xs q) (drop-cons ps i d l) in
       rw add-one
       (ap (λ b. b || rest) (put q) ∙ or_on (is_same_key k q) (contains is_same_key old q) rest
-      ∙ ap (λ (x : Key). contains is_same_key old q || (is_same_key x q || rest)) is ∙ ap (λ b. contains is_same_key old q || b) (sym step) ∙ inv q)
+      ∙ ap (λ (x : PairKey). contains is_same_key old q || (is_same_key x q || rest)) is ∙ ap (λ b. contains is_same_key old q || b) (sym step) ∙ inv q)
 
-  pub all_keys : length ps ≤ i → ((q : Key) → (contains is_same_key old q || has_key (drop i ps) q) ≡ has_key ps q) → AreKeysOf old ps
+  pub all_keys : length ps ≤ i → ((q : PairKey) → (contains is_same_key old q || has_key (drop i ps) q) ≡ has_key ps q) → AreKeysOf old ps
   all_keys l inv q =
       sym (ap (λ (xs : List OrderPair). contains is_same_key old q || has_key xs q) (drop_all i ps l) ∙ or-false (contains is_same_key old q)) ∙ inv q
 
@@ -52,34 +52,34 @@ module _ {A : Type 0} (f : A → Bool) (xs : List A) (i : ℕ) (old whole : List
 
 -- ---- a pair whose key is found is among the pairs
 
-same_key : (p r : OrderPair) → is_same_key (key_of p) (key_of r) ≡ true → p ≡ r
+same_key : (p r : OrderPair) → is_same_key (pair_key p) (pair_key r) ≡ true → p ≡ r
 same_key p r e =
     let h = (Decides-and ((p.earlier.strand == r.earlier.strand) && (p.earlier.index == r.earlier.index)) ((p.later.strand == r.later.strand) && (p.later.index == r.later.index))
     (Decides-and (p.earlier.strand == r.earlier.strand) (p.earlier.index == r.earlier.index) (Decides-eqb p.earlier.strand r.earlier.strand) (Decides-eqb p.earlier.index r.earlier.index))
     (Decides-and (p.later.strand == r.later.strand) (p.later.index == r.later.index) (Decides-eqb p.later.strand r.later.strand) (Decides-eqb p.later.index r.later.index))).0 e in
     λ i. record { earlier = record { strand = h.0.0 i; index = h.0.1 i }; later = record { strand = h.1.0 i; index = h.1.1 i } }
 
-key_found : (ps : List OrderPair) (r : OrderPair) → has_key ps (key_of r) ≡ true → IsIn r ps
+key_found : (ps : List OrderPair) (r : OrderPair) → has_key ps (pair_key r) ≡ true → IsIn r ps
 key_found [] r e = absurd (cc)
-key_found (p ∷ ps) r e = elim (or_cases (is_same_key (key_of p) (key_of r)) (has_key ps (key_of r)) e) as (λ _. IsIn r (p ∷ ps)) [
+key_found (p ∷ ps) r e = elim (or_cases (is_same_key (pair_key p) (pair_key r)) (has_key ps (pair_key r)) e) as (λ _. IsIn r (p ∷ ps)) [
   | inl h ↦ subst (λ x. IsIn r (x ∷ ps)) (sym (same_key p r h)) here
   | inr h ↦ there (key_found ps r h)
 ]
 
--- What leads to the later node along the sorted pairs is what leads there in the order.
-pub leads_among : (own sorted : List OrderPair) (x y : Node) (l : Target) (b : Bool) → sorted ≡ own → l ≡ record { pairs = sorted; node = y } → (b ≡ true) ↔ LeadsTo l.pairs x l.node → (b ≡ true) ↔ LeadsTo own x y
-leads_among own sorted x y l b same e h = subst (λ (ps : List OrderPair). (b ≡ true) ↔ LeadsTo ps x y) same (subst (λ (t : Target). (b ≡ true) ↔ LeadsTo t.pairs x t.node) e h)
+-- What reaches the later node along the sorted pairs is what reaches it in the order.
+pub leads_among : (own sorted : List OrderPair) (x y : Node) (l : Target) (b : Bool) → sorted ≡ own → l ≡ record { pairs = sorted; node = y } → (b ≡ true) ↔ ReachesAlong l.pairs x l.node → (b ≡ true) ↔ ReachesAlong own x y
+leads_among own sorted x y l b same e h = subst (λ (ps : List OrderPair). (b ≡ true) ↔ ReachesAlong ps x y) same (subst (λ (t : Target). (b ≡ true) ↔ ReachesAlong t.pairs x t.node) e h)
 
--- A pair whose key is found leads in the order.
-pub own_leads : {S : Type 0} (keys : HashSet Key S) (ps : List OrderPair) (p : OrderPair) → AreKeysOf keys ps → contains is_same_key keys (key_of p) ≡ true → LeadsTo ps p.earlier p.later
-own_leads keys ps p are e = over_pair (key_found ps p (sym (are (key_of p)) ∙ e)) (refl, omega arith) (on_strand (refl, omega arith))
+-- The earlier node of a pair whose key is found reaches the later one in the order.
+pub own_leads : {S : Type 0} (keys : HashSet PairKey S) (ps : List OrderPair) (p : OrderPair) → AreKeysOf keys ps → contains is_same_key keys (pair_key p) ≡ true → ReachesAlong ps p.earlier p.later
+own_leads keys ps p are e = over_pair (key_found ps p (sym (are (pair_key p)) ∙ e)) (refl, omega arith) (on_strand (refl, omega arith))
 
--- Where each pair that is not found leads, each leads.
-pub others_decide : {S : Type 0} (keys : HashSet Key S) (own pairs others : List OrderPair) (all : Bool) → AreKeysOf keys own → others ≡ filter (λ p. is_other keys p) pairs →
+-- Where that is so of each pair that is not found, it is so of each.
+pub others_decide : {S : Type 0} (keys : HashSet PairKey S) (own pairs others : List OrderPair) (all : Bool) → AreKeysOf keys own → others ≡ filter (λ p. is_other keys p) pairs →
     (all ≡ true) ↔ AllLead own others → (all ≡ true) ↔ AllLead own pairs
-others_decide keys own pairs others all are is h = (λ e p m. found_or_other (h.0 e) p (contains is_same_key keys (key_of p)) refl m, λ lead. h.1 (others_lead lead))
+others_decide keys own pairs others all are is h = (λ e p m. found_or_other (h.0 e) p (contains is_same_key keys (pair_key p)) refl m, λ lead. h.1 (others_lead lead))
   where
-    found_or_other : AllLead own others → (p : OrderPair) (b : Bool) → contains is_same_key keys (key_of p) ≡ b → IsIn p pairs → LeadsTo own p.earlier p.later
+    found_or_other : AllLead own others → (p : OrderPair) (b : Bool) → contains is_same_key keys (pair_key p) ≡ b → IsIn p pairs → ReachesAlong own p.earlier p.later
     found_or_other lead p true e m = own_leads keys own p are e
     found_or_other lead p false e m = lead p (subst (IsIn p) (sym is) (into_filter (λ q. is_other keys q) pairs m (ap not e)))
 
@@ -88,7 +88,7 @@ others_decide keys own pairs others all are is h = (λ e p m. found_or_other (h.
 
 -- ---- own pairs, and the others that are added
 
-module _ {S : Type 0} (k : Skeleton) (own added : List OrderPair) (keys : HashSet Key S) (are_own : own ≡ k.pairs) (are_added : (p : OrderPair) → IsIn p added ↔ IsAddedPair k p)
+module _ {S : Type 0} (k : Skeleton) (own added : List OrderPair) (keys : HashSet PairKey S) (are_own : own ≡ k.pairs) (are_added : (p : OrderPair) → IsIn p added ↔ IsAddedPair k p)
     (are_keys : AreKeysOf keys k.pairs) where
   abbrev others : List OrderPair
   others = filter (λ p. is_other keys p) added
@@ -97,13 +97,13 @@ module _ {S : Type 0} (k : Skeleton) (own added : List OrderPair) (keys : HashSe
   own_or_added p (inl h) = inl (subst (IsIn p) are_own h)
   own_or_added p (inr h) = inr ((are_added p).0 (from_filter (λ q. is_other keys q) added h).0)
 
-  own_or_other : (q : OrderPair) (b : Bool) → contains is_same_key keys (key_of q) ≡ b → IsIn q added → IsIn q (own ++ others)
-  own_or_other q true e m = in_append_left others (subst (IsIn q) (sym are_own) (key_found k.pairs q (sym (are_keys (key_of q)) ∙ e)))
+  own_or_other : (q : OrderPair) (b : Bool) → contains is_same_key keys (pair_key q) ≡ b → IsIn q added → IsIn q (own ++ others)
+  own_or_other q true e m = in_append_left others (subst (IsIn q) (sym are_own) (key_found k.pairs q (sym (are_keys (pair_key q)) ∙ e)))
   own_or_other q false e m = in_append_right own (into_filter (λ p. is_other keys p) added m (ap not e))
 
   in_one : (p : OrderPair) → IsIn p k.pairs ⊎ IsAddedPair k p → IsIn p (own ++ others)
   in_one p (inl h) = in_append_left others (subst (IsIn p) (sym are_own) h)
-  in_one p (inr a) = own_or_other p (contains is_same_key keys (key_of p)) refl ((are_added p).1 a)
+  in_one p (inr a) = own_or_other p (contains is_same_key keys (pair_key p)) refl ((are_added p).1 a)
 
   pub normal_of_both : (all : List OrderPair) → all ≡ own ++ others → AreNormalPairs k all
   normal_of_both all whole p = (λ h. own_or_added p (in_append own others (subst (IsIn p) whole h)), λ h. subst (IsIn p) (sym whole) (in_one p h))

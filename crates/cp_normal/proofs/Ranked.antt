@@ -9,7 +9,7 @@ use Rattle.cp_normal.specs.declared.candidates.Candidate.{Candidate}
 use Rattle.cp_normal.specs.declared.candidates.Candidate.TheVariants.{Open, Settled}
 use Rattle.cp_normal.specs.FormView.{form_view}
 use Rattle.cp_normal.specs.Formed.{AreFormsBeside}
-use Rattle.cp_normal.specs.Candidates.{form_of, candidate_view, IsOpen, ComesOn, FallsTo, IsRound, AreForms}
+use Rattle.cp_normal.specs.Candidates.{form_in, candidate_view, IsUnnarrowed, ComesOn, HasFewerOrSettled, IsNarrowingRound, AreFormsOfSettled}
 use Rattle.cp_collapse.specs.Property.{Has}
 use Rattle.cp_normal.specs.Exact.{HasForms, HaveForms}
 use Rattle.cp_model.proofs.CarriedParts.{not_both}
@@ -27,11 +27,11 @@ abbrev pub rank : Candidate → ℕ
 rank (Open f) = suc (distinct (variables_of_skeleton (form_view f)))
 rank (Settled f) = 0
 
-open_rank : (c : Candidate) → IsOpen c → 0 < rank c
+open_rank : (c : Candidate) → IsUnnarrowed c → 0 < rank c
 open_rank (Open f) h = omega arith
 open_rank (Settled f) h = absurd h
 
-falls_below : (c d : Candidate) → FallsTo c d → (rank d ≡ 0) ⊎ (rank d < rank c)
+falls_below : (c d : Candidate) → HasFewerOrSettled c d → (rank d ≡ 0) ⊎ (rank d < rank c)
 falls_below c (Settled g) h = inl refl
 falls_below (Open f) (Open g) h = let l = fewer_counted (form_view f) (form_view g) h in inr (omega (arith, l))
 falls_below (Settled f) (Open g) h = absurd h
@@ -40,7 +40,7 @@ below_one : (old : List Candidate) (d c : Candidate) → IsIn c old → (rank d 
 below_one old d c i (inl z) = inl z
 below_one old d c i (inr l) = inr (c, i, l)
 
-pub round_falls : (old new : List Candidate) → Has IsOpen old → IsRound old new → greatest rank new < greatest rank old
+pub round_falls : (old new : List Candidate) → Has IsUnnarrowed old → IsNarrowingRound old new → greatest rank new < greatest rank old
 round_falls old new h r = greatest_falls rank old new h.0 h.1 (open_rank h.0 h.2) (λ d i. let g = r.all_follow d i in below_one old d g.0 g.1 (falls_below g.0 d g.2.falls))
 
 -- ---- what is reached
@@ -48,40 +48,40 @@ round_falls old new h r = greatest_falls rank old new h.0 h.1 (open_rank h.0 h.2
 -- The candidates come from f by steps, and have its variables and its normal forms.
 pub record IsReached (f : Form) (candidates : List Candidate) : Type 0 where
   pub exact : (rs : List Skeleton) → HaveForms (map candidate_view candidates) rs → HaveForms (form_view f ∷ []) rs
-  pub variables : (c : Candidate) → IsIn c candidates → (form_of c).skeleton.variables ≡ f.skeleton.variables
-  pub comes_on : (c : Candidate) → IsIn c candidates → ComesOn f (form_of c)
+  pub variables : (c : Candidate) → IsIn c candidates → (form_in c).skeleton.variables ≡ f.skeleton.variables
+  pub comes_on : (c : Candidate) → IsIn c candidates → ComesOn f (form_in c)
 
 reached_first : (f : Form) → IsReached f (Open f ∷ [])
 reached_first f = record {
   exact = λ rs h. h;
-  variables = λ c i. subst (λ (d : Candidate). (form_of d).skeleton.variables ≡ f.skeleton.variables) (sym (only_item i)) refl;
-  comes_on = λ c i. subst (λ (d : Candidate). ComesOn f (form_of d)) (sym (only_item i)) (comes_itself f);
+  variables = λ c i. subst (λ (d : Candidate). (form_in d).skeleton.variables ≡ f.skeleton.variables) (sym (only_item i)) refl;
+  comes_on = λ c i. subst (λ (d : Candidate). ComesOn f (form_in d)) (sym (only_item i)) (comes_itself f);
 }
 
 pub reached_at_first : (f : Form) (candidates : List Candidate) → candidates ≡ Open f ∷ [] → IsReached f candidates
 reached_at_first f candidates e = subst (IsReached f) (sym e) (reached_first f)
 
-pub reached_next : (f : Form) (old new : List Candidate) → IsReached f old → IsRound old new → IsReached f new
+pub reached_next : (f : Form) (old new : List Candidate) → IsReached f old → IsNarrowingRound old new → IsReached f new
 reached_next f old new reached r = record {
   exact = λ rs h. reached.exact rs (r.exact rs h);
   variables = λ d i. let g = r.all_follow d i in g.2.variables ∙ reached.variables g.0 g.1;
-  comes_on = λ d i. let g = r.all_follow d i in comes_then f (form_of g.0) (form_of d) (reached.comes_on g.0 g.1) g.2.comes_on;
+  comes_on = λ d i. let g = r.all_follow d i in comes_then f (form_in g.0) (form_in d) (reached.comes_on g.0 g.1) g.2.comes_on;
 }
 
 -- ---- the end
 
 -- No candidate is open where the test finds none.
-pub none_open : (candidates read : List Candidate) (b : Bool) → b ≡ false → (Has IsOpen read → b ≡ true) → read ≡ candidates → Has IsOpen candidates → ⊥
-none_open candidates read b closed finds same h = not_both closed (finds (subst (Has IsOpen) (sym same) h))
+pub none_open : (candidates read : List Candidate) (b : Bool) → b ≡ false → (Has IsUnnarrowed read → b ≡ true) → read ≡ candidates → Has IsUnnarrowed candidates → ⊥
+none_open candidates read b closed finds same h = not_both closed (finds (subst (Has IsUnnarrowed) (sym same) h))
 
-module _ (f : Form) (candidates : List Candidate) (reached : IsReached f candidates) (forms : List Form) (are : AreForms candidates forms) where
+module _ (f : Form) (candidates : List Candidate) (reached : IsReached f candidates) (forms : List Form) (are : AreFormsOfSettled candidates forms) where
   reached_exact : HasForms (form_view f) (map form_view forms)
   reached_exact = has_forms (form_view f) (map form_view forms) (reached.exact (map form_view forms) are.exact)
 
   made_so : (r : Form) → IsIn r forms → IsMadeFrom f r
   made_so r i =
       let c = are.each r i in
-      record { last = form_of c.0; comes_on = reached.comes_on c.0 c.1; form = c.2; variables = c.2.variables ∙ reached.variables c.0 c.1 }
+      record { last = form_in c.0; comes_on = reached.comes_on c.0 c.1; form = c.2; variables = c.2.variables ∙ reached.variables c.0 c.1 }
 
   pub reached_forms : AreFormsBeside f.skeleton f.substitution forms
   reached_forms = are_forms_beside f forms reached_exact made_so

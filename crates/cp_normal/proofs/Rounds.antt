@@ -1,8 +1,8 @@
 -- What is narrowed from a skeleton over a protocol is one.
 use Rattle.cp_model.specs.Strand.{Protocol}
 use Rattle.cp_model.specs.Skeleton.{Skeleton, IsSkeleton}
-use Rattle.cp_completeness.specs.Normal.{skeleton_under}
-use Rattle.cp_completeness.proofs.Skeletons.{skeleton_under_is_skeleton}
+use Rattle.cp_theory.specs.Normal.{skeleton_under}
+use Rattle.cp_theory.proofs.Skeletons.{skeleton_under_is_skeleton}
 use Rattle.cp_normal.specs.NormalForms.{IsNarrowed, NarrowsTo, none, one}
 use Rattle.cp_collapse.proofs.SameSkeletons.{same_is_skeleton}
 

@@ -6,18 +6,18 @@ use Rattle.cp_model.specs.Bundle.{node_at}
 use Rattle.cp_model.specs.declared.node.Node.{Node}
 use Rattle.cp_model.specs.Skeleton.{UniqueAt, Assumptions, Skeleton}
 use Rattle.cp_model.specs.declared.node.OrderPair.{OrderPair}
-use Rattle.cp_completeness.specs.Normal.{IsOriginPair, with_pairs}
+use Rattle.cp_theory.specs.Normal.{IsOriginPair, with_pairs}
 use Rattle.cp_collapse.specs.SameSkeletons.{SaysTheSame}
 use Rattle.cp_collapse.proofs.SameFacts.{says_back, says_with_pairs, same_event, same_before, same_originates, same_carried, listed_too}
-use Rattle.cp_normal.specs.NormalForms.{IsStray, IsHeardAt}
+use Rattle.cp_normal.specs.NormalForms.{IsMisplaced, IsReceivedBefore}
 use Rattle.cp_normal.specs.Findings.{IsAddedPair, AreNormalPairs, CarriesNonOriginating, HasTwoOrigins, LosesOrigin, ClosesCycle, IsContradictory}
 
 module _ (k l : Skeleton) (s : SaysTheSame k l) where
-  pub same_heard : (a : AtomTerm) (x : Node) → IsHeardAt k a x → IsHeardAt l a x
+  pub same_heard : (a : AtomTerm) (x : Node) → IsReceivedBefore k a x → IsReceivedBefore l a x
   same_heard a x h = record { index = h.index; earlier = h.earlier; received = h.received; reception = sym (same_event k l s (node_at x.strand h.index)) ∙ h.reception; carried = h.carried }
 
-  pub same_stray : (u : UniqueAt) (x : Node) → IsStray k u x → IsStray l u x
-  same_stray u x t = record { listed = listed_too k l s u t.listed; originates = same_originates k l s u.value x t.originates; elsewhere = t.elsewhere }
+  pub same_misplaced : (u : UniqueAt) (x : Node) → IsMisplaced k u x → IsMisplaced l u x
+  same_misplaced u x t = record { listed = listed_too k l s u t.listed; originates = same_originates k l s u.value x t.originates; elsewhere = t.elsewhere }
 
   same_origin_pair : (p : OrderPair) → IsOriginPair k p → IsOriginPair l p
   same_origin_pair p o = record {

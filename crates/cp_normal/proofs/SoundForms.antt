@@ -2,9 +2,9 @@
 use Rattle.std.proofs.Common.{inl, inr, List}
 use Rattle.cp_model.specs.Skeleton.{Skeleton}
 use Rattle.cp_model.specs.declared.node.OrderPair.{OrderPair}
-use Rattle.cp_completeness.specs.Normal.{with_pairs}
-use Rattle.cp_completeness.proofs.Mapped.{before_more}
-use Rattle.cp_completeness.proofs.Skeletons.{with_pairs_is_skeleton}
+use Rattle.cp_theory.specs.Normal.{with_pairs}
+use Rattle.cp_theory.proofs.Mapped.{before_more}
+use Rattle.cp_theory.proofs.Skeletons.{with_pairs_is_skeleton}
 use Rattle.cp_skel.specs.Sound.{IsSound}
 use Rattle.cp_normal.specs.Findings.{AreNormalPairs, IsContradictory}
 use Rattle.cp_normal.proofs.FormSkeletons.{between}

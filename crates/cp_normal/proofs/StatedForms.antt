@@ -6,8 +6,8 @@ use Rattle.cp_model.specs.PointOfView.{StatesItself}
 use Rattle.cp_model.specs.Homomorphism.{CarriesHomomorphism}
 use Rattle.cp_model.specs.Stated.{KeepsStated}
 use Rattle.cp_model.proofs.StatedStays.{stated_stays}
-use Rattle.cp_completeness.specs.Normal.{skeleton_under}
-use Rattle.cp_completeness.proofs.StatedSteps.{stated_under, stated_with_pairs}
+use Rattle.cp_theory.specs.Normal.{skeleton_under}
+use Rattle.cp_theory.proofs.StatedSteps.{stated_under, stated_with_pairs}
 use Rattle.cp_collapse.specs.SameSkeletons.{SaysTheSame}
 use Rattle.cp_normal.specs.NormalForms.{NarrowsTo, none, one, IsNormalFormOf}
 use Rattle.cp_collapse.proofs.SameStrands.{as_many}

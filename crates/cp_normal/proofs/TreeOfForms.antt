@@ -1,7 +1,7 @@
 -- The normal forms that a list of skeletons leads to, branch by branch, are those of each of them.
 use Rattle.std.proofs.Common.{◌≡◌, refl, List, [], ◌∷◌, ◌++◌, sym, ap, ◌∙◌, subst, append_assoc, append-nil}
 use Rattle.cp_model.specs.Skeleton.{Skeleton}
-use Rattle.cp_normal.specs.Exact.{HasForms, refuted, branching, cyclic, normal, EachHasForms, no_more, and_then, HaveForms, no_skeletons, refuted_one, stray_one, cyclic_one, normal_one}
+use Rattle.cp_normal.specs.Exact.{HasForms, refuted, branching, cyclic, normal, EachHasForms, no_more, and_then, HaveForms, no_skeletons, refuted_one, misplaced_one, cyclic_one, normal_one}
 
 -- The normal forms of two lists, one behind the other, are those of the first and those of the second.
 record Parted (ks ls rs : List Skeleton) : Type 0 where
@@ -29,7 +29,7 @@ parted (d ∷ ks) ls (m ∷ ms) _ e (and_then {rs = qs} {ss = ss} one rest) =
 pub each_has_forms : (ks rs : List Skeleton) → HaveForms ks rs → EachHasForms ks rs
 each_has_forms _ _ no_skeletons = no_more
 each_has_forms _ _ (refuted_one {ks = ks} {rs = rs} r h) = and_then (refuted r) (each_has_forms ks rs h)
-each_has_forms _ _ (stray_one {k = k} {branches = bs} {ks = ks} {rs = rs} n s b h) =
+each_has_forms _ _ (misplaced_one {k = k} {branches = bs} {ks = ks} {rs = rs} n s b h) =
     let p = parted bs ks (bs ++ ks) rs refl (each_has_forms (bs ++ ks) rs h) in
     subst (λ (zs : List Skeleton). EachHasForms (k ∷ ks) zs) (sym p.joined) (and_then (branching n s b p.first) p.second)
 each_has_forms _ _ (cyclic_one {ks = ks} {rs = rs} s c h) = and_then (cyclic s c) (each_has_forms ks rs h)

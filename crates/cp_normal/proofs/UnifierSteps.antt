@@ -5,11 +5,11 @@ use Rattle.cp_model.specs.Identity.{unchanged}
 use Rattle.cp_model.specs.declared.node.Node.{Node}
 use Rattle.cp_model.specs.Skeleton.{UniqueAt, Skeleton}
 use Rattle.cp_model.proofs.LawTerms.{term_composed, term_unchanged}
-use Rattle.cp_completeness.specs.Normal.{skeleton_under}
+use Rattle.cp_theory.specs.Normal.{skeleton_under}
 use Rattle.cp_unify.specs.Bindings.{Binding, as_substitution}
-use Rattle.cp_unify.specs.Unifiers.{IsMostGeneral}
+use Rattle.cp_unify.specs.Unifiers.{IsMostGeneralUnifier}
 use Rattle.cp_collapse.specs.SameSkeletons.{SaysTheSame}
-use Rattle.cp_normal.specs.NormalForms.{IsStray, IsHeardAt, IsNarrowed, NarrowsTo, none, one}
+use Rattle.cp_normal.specs.NormalForms.{IsMisplaced, IsReceivedBefore, IsNarrowed, NarrowsTo, none, one}
 use Rattle.cp_normal.specs.FormView.{form_view}
 use Rattle.cp_normal.specs.Candidates.{unifiers_of, ComesOn}
 use Rattle.cp_normal.specs.declared.form.Form.{Form}
@@ -20,7 +20,7 @@ pub comes_itself : (f : Form) → ComesOn f f
 comes_itself f = record { steps = none; followed = λ t. sym (term_unchanged (apply_to (as_substitution f.substitution) t)) }
 
 -- One step, by a unifier.
-module _ (f g : Form) (u : UniqueAt) (x : Node) (heard : AtomTerm) (r : List Binding) (stray : IsStray (form_view f) u x) (h : IsHeardAt (form_view f) heard x) (m : IsMostGeneral (atom_term u.value) (atom_term heard) [] r)
+module _ (f g : Form) (u : UniqueAt) (x : Node) (heard : AtomTerm) (r : List Binding) (misplaced : IsMisplaced (form_view f) u x) (h : IsReceivedBefore (form_view f) heard x) (m : IsMostGeneralUnifier (atom_term u.value) (atom_term heard) [] r)
     (same : SaysTheSame (skeleton_under (as_substitution r) (form_view f)) (form_view g))
     (followed : (t : Term) → apply_to (as_substitution g.substitution) t ≡ apply_to (as_substitution r) (apply_to (as_substitution f.substitution) t)) where
   abbrev step : IsNarrowed (form_view f) (form_view g)
@@ -29,7 +29,7 @@ module _ (f g : Form) (u : UniqueAt) (x : Node) (heard : AtomTerm) (r : List Bin
     node = x;
     heard = heard;
     unifier = as_substitution r;
-    stray = stray;
+    misplaced = misplaced;
     heard_before = h;
     most_general = most_general_for u.value heard r m;
     same = same;

@@ -5,7 +5,7 @@ use Rattle.cp_model.specs.Strand.{Declaration}
 use Rattle.cp_model.specs.Skeleton.{Skeleton}
 use Rattle.cp_model.specs.declared.node.OrderPair.{OrderPair}
 use Rattle.cp_model.specs.PointOfView.{HasDeclaredVariables}
-use Rattle.cp_completeness.specs.Normal.{skeleton_under, with_pairs}
+use Rattle.cp_theory.specs.Normal.{skeleton_under, with_pairs}
 use Rattle.cp_normal.specs.BySubstitution.{ComesBySubstitution}
 use Rattle.cp_normal.specs.Exact.{HasForms}
 use Rattle.cp_normal.proofs.BySubstitution.{form_comes}

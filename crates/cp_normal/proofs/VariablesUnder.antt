@@ -9,11 +9,11 @@ use Rattle.cp_model.specs.Problem.{IsDeclared, variables_of_assumptions, variabl
 use Rattle.cp_model.specs.PointOfView.{HasDeclaredVariables}
 use Rattle.cp_lists.proofs.Members.{in_append, in_append_left, in_append_right, from_map}
 use Rattle.cp_model.proofs.LawStandings.{strand_of_event, event_on}
-use Rattle.cp_completeness.specs.Normal.{skeleton_under, variables_of_terms}
+use Rattle.cp_theory.specs.Normal.{skeleton_under, variables_of_terms}
 use Rattle.cp_model.proofs.OccurringVariables.{in_strands, in_terms, term_with}
 use Rattle.cp_model.proofs.LawPrefixes.{in_trace}
 use Rattle.cp_unify.proofs.VariablesUnder.{given_term}
-use Rattle.cp_skel.proofs.UnderVariables.{carried_variables}
+use Rattle.cp_model.proofs.UnderVariables.{carried_variables}
 use Rattle.cp_collapse.specs.SameSkeletons.{SaysTheSame}
 use Rattle.cp_normal.specs.BySubstitution.{all_variables}
 use Rattle.cp_normal.proofs.Narrowed.{same_variables, of_skeleton}

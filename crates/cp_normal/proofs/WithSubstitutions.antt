@@ -11,7 +11,7 @@ use Rattle.cp_unify.specs.Bindings.{Binding, as_substitution}
 use Rattle.cp_model.specs.Data.{SkeletonData as Program}
 use Rattle.cp_normal.specs.Exact.{HasForms}
 use Rattle.cp_normal.specs.NormalForms.{IsNormalFormOf}
-use Rattle.cp_normal.specs.Formed.{Formed, IsFormedFrom, StandsAmongFormed, AreNormalForms, IsFormBeside}
+use Rattle.cp_normal.specs.Formed.{Formed, IsFormedFrom, StandsAmongFormed, AreFormedNormalForms, IsFormBeside}
 use Rattle.cp_normal.specs.declared.form.Form.{Form}
 use Rattle.cp_normal.proofs.BySubstitution.{form_comes, comes_factors}
 use Rattle.cp_normal.proofs.FormedBeside.{IsMadeBy, formed_are_normal}
@@ -40,14 +40,14 @@ module _ (k : Skeleton) where
   have_substitutions [] are = record { forms = []; made = λ f i. elim i [ ]; skeletons = refl }
   have_substitutions (r ∷ rs) are = one_more r rs (are r here) (have_substitutions rs (λ s i. are s (there i)))
 
-  pub are_formed : (rs : List Skeleton) → HasForms k rs → (forms : List Formed) × AreNormalForms k forms × (map (λ (f : Formed). f.skeleton) forms ≡ rs)
+  pub are_formed : (rs : List Skeleton) → HasForms k rs → (forms : List Formed) × AreFormedNormalForms k forms × (map (λ (f : Formed). f.skeleton) forms ≡ rs)
   are_formed rs has =
       let h : HaveSubstitutions rs = have_substitutions rs (are_normal_forms has) in
       (h.forms, formed_are_normal k h.forms h.made (subst (HasForms k) (sym h.skeletons) has), h.skeletons)
 
 -- ---- standings
 
-pub among_factors : (k : Skeleton) (forms : List Formed) (b : Bundle) (h : Standing) → AreNormalForms k forms → (among : StandsAmongFormed forms b h) → FactorsThrough k h among.form.skeleton h
+pub among_factors : (k : Skeleton) (forms : List Formed) (b : Bundle) (h : Standing) → AreFormedNormalForms k forms → (among : StandsAmongFormed forms b h) → FactorsThrough k h among.form.skeleton h
 among_factors k forms b h are among =
     let from : IsFormedFrom k among.form = are.formed among.form among.listed in
     comes_factors k among.form.skeleton h from.comes (λ t. subst (λ (s : Substitution). value_of (after h.values s) t ≡ value_of h.values t) (sym from.by) (among.same_values t))

@@ -7,8 +7,8 @@ use Rattle.cp_model.specs.Skeleton.{FromProblem, Skeleton}
 use Rattle.cp_model.specs.Problem.{variables_of_skeleton}
 use Rattle.cp_lists.proofs.Members.{in_append, in_append_left, in_append_right, only_item, in_or_not}
 use Rattle.cp_model.proofs.LawTerms.{atom_composed, term_composed, atom_unchanged, term_unchanged}
-use Rattle.cp_completeness.specs.Normal.{variables_of_terms, skeleton_under}
-use Rattle.cp_unify.specs.Unifiers.{AreAmong}
+use Rattle.cp_theory.specs.Normal.{variables_of_terms, skeleton_under}
+use Rattle.cp_unify.specs.Unifiers.{AreVariablesAmong}
 use Rattle.cp_unify.proofs.VariablesUnder.{Leaves, leaves_variables_of, leaves_atom, given_atom, given_term}
 use Rattle.cp_unify.proofs.VariableTests.{is_variable_tells}
 use Rattle.cp_collapse.specs.SameSkeletons.{SaysTheSame}
@@ -44,8 +44,8 @@ leaves_term s (enc_term t k) h = ap₂ enc_term (leaves_term s t (λ x i. h x (i
 
 -- ---- the variables of what a skeleton comes to under such a substitution
 
-module _ (s : Substitution) (zs : List Variable) (P : Variable → Type 0) (each : (t : Term) → AreAmong (variables_of t) zs → (x : Variable) → IsIn x (variables_of (apply_to s t)) → P x) where
-  of_terms : (ts : List Term) → AreAmong (variables_of_terms ts) zs → (x : Variable) → IsIn x (variables_of_terms (map (apply_to s) ts)) → P x
+module _ (s : Substitution) (zs : List Variable) (P : Variable → Type 0) (each : (t : Term) → AreVariablesAmong (variables_of t) zs → (x : Variable) → IsIn x (variables_of (apply_to s t)) → P x) where
+  of_terms : (ts : List Term) → AreVariablesAmong (variables_of_terms ts) zs → (x : Variable) → IsIn x (variables_of_terms (map (apply_to s) ts)) → P x
   of_terms [] h x i = elim i [ ]
   of_terms (t ∷ ts) h x i =
       ⊎_elim (λ j. each t (λ y m. h y (in_append_left (variables_of_terms ts) m)) x j) (λ j. of_terms ts (λ y m. h y (in_append_right (variables_of t) m)) x j)
@@ -58,7 +58,7 @@ module _ (s : Substitution) (k l : Skeleton) (w : StaysWithin k s) (same : SaysT
   abbrev IsKept : Variable → Type 0
   IsKept y = Leaves s y × IsIn y zs
 
-  kept_of_term : (t : Term) → AreAmong (variables_of t) zs → (y : Variable) → IsIn y (variables_of (apply_to s t)) → IsKept y
+  kept_of_term : (t : Term) → AreVariablesAmong (variables_of t) zs → (y : Variable) → IsIn y (variables_of (apply_to s t)) → IsKept y
   kept_of_term t among y i = (leaves_variables_of s (apply_to s t) (w.idempotent t) y i, given_term (λ z. IsIn z zs) s t (λ x j z m. w.within x z (among x j) m) y i)
 
   -- A variable that is left occurs in k, and the substitution leaves it.

@@ -7,7 +7,7 @@ use Rattle.cp_model.specs.Bundle.{Bundle, IsBundle}
 use Rattle.cp_model.specs.Skeleton.{Skeleton}
 use Rattle.cp_model.specs.Standing.{Standing, StandsIn, StandsApart}
 use Rattle.cp_model.specs.Problem.{variables_of_skeleton}
-use Rattle.cp_completeness.specs.Normal.{skeleton_under, with_pairs, variables_of_terms}
+use Rattle.cp_theory.specs.Normal.{skeleton_under, with_pairs, variables_of_terms}
 use Rattle.cp_collapse.specs.SameSkeletons.{SaysTheSame}
 use Rattle.cp_normal.specs.Findings.{AreNormalPairs}
 

@@ -6,7 +6,7 @@ use Rattle.cp_model.specs.Identity.{unchanged}
 use Rattle.cp_model.specs.Skeleton.{Skeleton}
 use Rattle.cp_model.specs.declared.node.OrderPair.{OrderPair}
 use Rattle.cp_unify.specs.Bindings.{as_substitution}
-use Rattle.cp_completeness.specs.Normal.{with_pairs}
+use Rattle.cp_theory.specs.Normal.{with_pairs}
 use Rattle.cp_normal.specs.Findings.{AreNormalPairs, IsContradictory}
 use Rattle.cp_normal.specs.NormalForms.{NarrowsTo, none, one}
 use Rattle.cp_normal.specs.Branches.{HasFewerVariables, IsSettled}
@@ -17,23 +17,23 @@ use Rattle.cp_normal.specs.declared.candidates.Candidate.{Candidate}
 use Rattle.cp_normal.specs.declared.candidates.Candidate.TheVariants.{Open, Settled}
 
 -- The skeleton of a candidate with its substitution, and what the skeleton says.
-abbrev pub form_of : Candidate → Form
-form_of (Open f) = f
-form_of (Settled f) = f
+abbrev pub form_in : Candidate → Form
+form_in (Open f) = f
+form_in (Settled f) = f
 
 abbrev pub candidate_view : Candidate → Skeleton
-candidate_view c = form_view (form_of c)
+candidate_view c = form_view (form_in c)
 
--- Unique values may stray in it.
-abbrev pub IsOpen : Candidate → Type 0
-IsOpen (Open f) = Unit {0}
-IsOpen (Settled f) = ⊥
+-- Unique values may be misplaced in it.
+abbrev pub IsUnnarrowed : Candidate → Type 0
+IsUnnarrowed (Open f) = Unit {0}
+IsUnnarrowed (Settled f) = ⊥
 
 -- The second is settled, or both are open and it has fewer variables.
-abbrev pub FallsTo : Candidate → Candidate → Type 0
-FallsTo c (Settled g) = Unit {0}
-FallsTo (Open f) (Open g) = HasFewerVariables (form_view f) (form_view g)
-FallsTo (Settled f) (Open g) = ⊥
+abbrev pub HasFewerOrSettled : Candidate → Candidate → Type 0
+HasFewerOrSettled c (Settled g) = Unit {0}
+HasFewerOrSettled (Open f) (Open g) = HasFewerVariables (form_view f) (form_view g)
+HasFewerOrSettled (Settled f) (Open g) = ⊥
 
 -- The unifiers of the steps of narrowing, one after the other.
 abbrev pub unifiers_of : {k l : Skeleton} → NarrowsTo k l → Substitution
@@ -46,34 +46,34 @@ pub record ComesOn (f g : Form) : Type 0 where
   pub followed : (t : Term) → apply_to (as_substitution g.substitution) t ≡ apply_to (unifiers_of steps) (apply_to (as_substitution f.substitution) t)
 
 -- d follows on c, has its variables, and comes from it by steps.
-pub record Follows (c d : Candidate) : Type 0 where
-  pub falls : FallsTo c d
-  pub variables : (form_of d).skeleton.variables ≡ (form_of c).skeleton.variables
-  pub comes_on : ComesOn (form_of c) (form_of d)
+pub record FollowsByNarrowing (c d : Candidate) : Type 0 where
+  pub falls : HasFewerOrSettled c d
+  pub variables : (form_in d).skeleton.variables ≡ (form_in c).skeleton.variables
+  pub comes_on : ComesOn (form_in c) (form_in d)
 
 -- What takes the place of a candidate: each of it follows on the candidate, and in each list it has the candidate's normal
 -- forms.
-pub record TakesPlace (c : Candidate) (new : List Candidate) : Type 0 where
-  pub each : (d : Candidate) → IsIn d new → Follows c d
+pub record ReplacesByNarrowing (c : Candidate) (new : List Candidate) : Type 0 where
+  pub each : (d : Candidate) → IsIn d new → FollowsByNarrowing c d
   pub exact : (rest rs : List Skeleton) → HaveForms (map candidate_view new ++ rest) rs → HaveForms (candidate_view c ∷ rest) rs
 
 -- The list, with what takes the place of the candidate behind it.
-pub record Puts (c : Candidate) (old new : List Candidate) : Type 0 where
+pub record PutsNarrowed (c : Candidate) (old new : List Candidate) : Type 0 where
   pub added : List Candidate
   pub behind : new ≡ old ++ added
-  pub takes_place : TakesPlace c added
+  pub takes_place : ReplacesByNarrowing c added
 
 -- Each of the new candidates follows on one of the old.
 abbrev pub AllFollow : List Candidate → List Candidate → Type 0
-AllFollow old new = (d : Candidate) → IsIn d new → (c : Candidate) × IsIn c old × Follows c d
+AllFollow old new = (d : Candidate) → IsIn d new → (c : Candidate) × IsIn c old × FollowsByNarrowing c d
 
 -- The new candidates follow on the old, and have their normal forms.
-pub record IsRound (old new : List Candidate) : Type 0 where
+pub record IsNarrowingRound (old new : List Candidate) : Type 0 where
   pub all_follow : AllFollow old new
   pub exact : (rs : List Skeleton) → HaveForms (map candidate_view new) rs → HaveForms (map candidate_view old) rs
 
 -- r is the normal form of a settled skeleton: this with its normal pairs, and with the same substitution.
-pub record IsFormOf (l r : Form) : Type 0 where
+pub record IsNormalFormOfSettled (l r : Form) : Type 0 where
   pub settled : IsSettled (form_view l)
   pub pairs : List OrderPair
   pub normal : AreNormalPairs (form_view l) pairs
@@ -85,10 +85,10 @@ pub record IsFormOf (l r : Form) : Type 0 where
 -- The list of forms, with the normal form of l behind it.
 pub record PutsForm (l : Form) (old new : List Form) : Type 0 where
   pub form : Form
-  pub is_form : IsFormOf l form
+  pub is_form : IsNormalFormOfSettled l form
   pub behind : new ≡ old ++ form ∷ []
 
 -- The normal forms of the candidates, which are settled.
-pub record AreForms (settled : List Candidate) (forms : List Form) : Type 0 where
+pub record AreFormsOfSettled (settled : List Candidate) (forms : List Form) : Type 0 where
   pub exact : HaveForms (map candidate_view settled) (map form_view forms)
-  pub each : (r : Form) → IsIn r forms → (c : Candidate) × IsIn c settled × IsFormOf (form_of c) r
+  pub each : (r : Form) → IsIn r forms → (c : Candidate) × IsIn c settled × IsNormalFormOfSettled (form_in c) r

@@ -7,7 +7,7 @@ use Rattle.cp_model.specs.declared.node.Node.{Node}
 use Rattle.cp_model.specs.Skeleton.{UniqueAt, Skeleton, Before}
 use Rattle.cp_model.specs.declared.node.OrderPair.{OrderPair}
 use Rattle.cp_model.specs.Realisation.{OriginatesAtTerm}
-use Rattle.cp_completeness.specs.Normal.{IsCarriedAt, IsOriginPair, with_pairs}
+use Rattle.cp_theory.specs.Normal.{IsCarriedAt, IsOriginPair, with_pairs}
 
 -- Some node, of a role strand or a listener, carries a non-originating value.
 pub record CarriesNonOriginating (k : Skeleton) : Type 0 where

@@ -36,7 +36,7 @@ pub record StandsAmongFormed (forms : List Formed) (b : Bundle) (h : Standing) :
 
 -- These are the normal forms of k, in their order, each with a substitution by which it comes from k; and wherever k, over a
 -- protocol, stands apart in a bundle, one of them does by the same standing, which agrees with its substitution.
-pub record AreNormalForms (k : Skeleton) (forms : List Formed) : Type 0 where
+pub record AreFormedNormalForms (k : Skeleton) (forms : List Formed) : Type 0 where
   pub exact : HasForms k (map (λ f. f.skeleton) forms)
   pub formed : (f : Formed) → IsIn f forms → IsFormedFrom k f
   pub loses_none : (protocol : Protocol) (b : Bundle) (h : Standing) → IsSkeleton protocol k → IsBundle protocol b → StandsIn k b h → StandsApart k h → StandsAmongFormed forms b h
@@ -53,5 +53,5 @@ pub record IsFormBeside (k : Program) (given : List Binding) (answer : Form) (f 
 -- it comes from k.
 pub record AreFormsBeside (k : Program) (given : List Binding) (answers : List Form) : Type 0 where
   pub forms : List Formed
-  pub normal : AreNormalForms (skeleton_view k) forms
+  pub normal : AreFormedNormalForms (skeleton_view k) forms
   pub each : ArePaired (IsFormBeside k given) answers forms

@@ -3,8 +3,8 @@ pub mod OwnPairs
 pub mod Events
 pub mod NormalForms
 pub mod Branches
-pub mod HeardAtoms
-pub mod StrayValues
+pub mod ReceivedAtomLists
+pub mod MisplacedValues
 pub mod Branched
 pub mod Exact
 pub mod Candidates

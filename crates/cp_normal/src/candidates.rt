@@ -1,25 +1,25 @@
 // Candidates for normal forms, and rounds of narrowing.
 ghost use Rattle.std.specs.Prelude.{◌≡◌, ◌↔◌, ◌++◌, map, false, IsTrue, IfOk, OnOk};
-ghost use Rattle.cp_skel.specs.Events.{occurrence_view, events_of};
+ghost use Rattle.cp_skel.specs.Events.{located_event_view, events_of};
 ghost use Rattle.cp_normal.specs.Branches.{IsSettled};
-ghost use Rattle.cp_normal.specs.Candidates.{IsOpen, Puts, IsRound};
+ghost use Rattle.cp_normal.specs.Candidates.{IsUnnarrowed, PutsNarrowed, IsNarrowingRound};
 ghost use Rattle.cp_collapse.specs.Property.{Has};
 ghost use Rattle.cp_normal.specs.Exact.{IsRefuted};
 ghost use Rattle.cp_normal.specs.FormView.{form_view};
-ghost use Rattle.cp_normal.specs.StrayValues.{IsFirstStray};
+ghost use Rattle.cp_normal.specs.MisplacedValues.{IsFirstMisplaced};
 ghost use Rattle.cp_normal.specs.declared.candidates.Candidate.TheVariants as variants;
 
 use crate::form::Form;
+use crate::misplaced_values::{Misplaced, first_misplaced};
 use crate::normal::is_refuted;
-use crate::received_atoms::heard_atoms;
+use crate::received_atoms::atoms_received;
 use crate::settled::Settled;
-use crate::stray_values::{Stray, first_stray};
 use crate::unified_branches::branches;
-use cp_skel::Occurrence;
+use cp_skel::LocatedEvent;
 use std::alloc::{AllocError, Global};
 
-/// A candidate for a normal form, with its substitution. In an open one unique values may stray. In a settled one none does, and
-/// it does not contradict itself.
+/// A candidate for a normal form, with its substitution. In an open one unique values may be misplaced. In a settled one none is,
+/// and it does not contradict itself.
 #[derive(Drop)]
 pub(crate) enum Candidate {
     Open(Form),
@@ -38,36 +38,36 @@ fn put_open(forms: Vec<Form>, next: &mut Vec<Candidate>) -> Result<(), AllocErro
     Ok(())
 }
 
-/// Appends the branches of a skeleton in which a unique value strays. The occurrences are its events.
+/// Appends the branches of a skeleton in which a unique value is misplaced. `occurrences` are its events.
 fn put_branches(
     alloc: Global,
     form: &Form,
-    occurrences: &[Occurrence],
-    stray: &Stray,
+    occurrences: &[LocatedEvent],
+    misplaced: &Misplaced,
     next: &mut Vec<Candidate>,
 ) -> Result<(), AllocError>
-    requires listed { map occurrence_view occurrences.now ≡ events_of (form_view form.now) }
+    requires listed { map located_event_view occurrences.now ≡ events_of (form_view form.now) }
     requires consistent { IsRefuted (form_view form.now) → ⊥ }
-    requires stray { IsFirstStray (form_view form.now) stray.now.value stray.now.node }
-    ensures { OnOk result (Puts (variants.Open form.now) next.old.items next.new.items) }
+    requires misplaced { IsFirstMisplaced (form_view form.now) misplaced.now.value misplaced.now.node }
+    ensures { OnOk result (PutsNarrowed (variants.Open form.now) next.old.items next.new.items) }
 {
-    let atoms = heard_atoms(alloc, occurrences, stray.node)?;
-    let branches = branches(alloc, form, &stray.value, &atoms)?;
+    let atoms = atoms_received(alloc, occurrences, misplaced.node)?;
+    let branches = branches(alloc, form, &misplaced.value, &atoms)?;
     put_open(branches, next)
 }
 
-/// Appends a skeleton in which no unique value strays as a settled candidate; nothing if it contradicts itself nevertheless. The
-/// occurrences are its events, and its assumptions do not contradict what its nodes carry.
+/// Appends a skeleton without misplaced unique values as a settled candidate; nothing if it contradicts itself nevertheless.
+/// `occurrences` are its events, and its assumptions do not contradict what its nodes carry.
 fn put_settled(
     alloc: Global,
     form: Form,
-    occurrences: &[Occurrence],
+    occurrences: &[LocatedEvent],
     next: &mut Vec<Candidate>,
 ) -> Result<(), AllocError>
-    requires listed { map occurrence_view occurrences.now ≡ events_of (form_view form) }
+    requires listed { map located_event_view occurrences.now ≡ events_of (form_view form) }
     requires consistent { IsRefuted (form_view form) → ⊥ }
     requires settled { IsSettled (form_view form) }
-    ensures { OnOk result (Puts (variants.Open form) next.old.items next.new.items) }
+    ensures { OnOk result (PutsNarrowed (variants.Open form) next.old.items next.new.items) }
 {
     match Settled::new(alloc, form, occurrences)? {
         Some(settled) => {
@@ -78,44 +78,44 @@ fn put_settled(
     }
 }
 
-/// Whether a skeleton stays a candidate: its assumptions do not contradict what its nodes carry, and no unique value strays in
-/// it. If nothing contradicts but a value strays, appends the branches. The occurrences are the skeleton's events.
+/// Whether a skeleton stays a candidate: its assumptions do not contradict what its nodes carry, and no unique value is misplaced
+/// in it. If nothing contradicts but a value is misplaced, appends the branches. `occurrences` are the skeleton's events.
 fn stays(
     alloc: Global,
     form: &Form,
-    occurrences: &[Occurrence],
+    occurrences: &[LocatedEvent],
     next: &mut Vec<Candidate>,
 ) -> Result<bool, AllocError>
-    requires listed { map occurrence_view occurrences.now ≡ events_of (form_view form.now) }
+    requires listed { map located_event_view occurrences.now ≡ events_of (form_view form.now) }
     ensures consistent { IfOk result (λ stays. IsTrue stays → IsRefuted (form_view form.now) → ⊥) }
     ensures settled { IfOk result (λ stays. IsTrue stays → IsSettled (form_view form.now)) }
     ensures same { IfOk result (λ stays. IsTrue stays → next.new.items ≡ next.old.items) }
-    ensures put { IfOk result (λ stays. stays ≡ false → Puts (variants.Open form.now) next.old.items next.new.items) }
+    ensures put { IfOk result (λ stays. stays ≡ false → PutsNarrowed (variants.Open form.now) next.old.items next.new.items) }
 {
     if is_refuted(&form.skeleton, occurrences) {
         return Ok(false);
     }
-    match first_stray(alloc, &form.skeleton, occurrences)? {
-        Some(stray) => {
-            put_branches(alloc, form, occurrences, &stray, next)?;
+    match first_misplaced(alloc, &form.skeleton, occurrences)? {
+        Some(misplaced) => {
+            put_branches(alloc, form, occurrences, &misplaced, next)?;
             Ok(false)
         }
         None => Ok(true),
     }
 }
 
-/// Appends a skeleton if it stays, otherwise nothing. The occurrences are its events.
+/// Appends a skeleton if it stays, otherwise nothing. `occurrences` are its events.
 fn put_staying(
     alloc: Global,
     form: Form,
     stays: bool,
-    occurrences: &[Occurrence],
+    occurrences: &[LocatedEvent],
     next: &mut Vec<Candidate>,
 ) -> Result<(), AllocError>
-    requires listed { map occurrence_view occurrences.now ≡ events_of (form_view form) }
+    requires listed { map located_event_view occurrences.now ≡ events_of (form_view form) }
     requires consistent { IsTrue stays → IsRefuted (form_view form) → ⊥ }
     requires settled { IsTrue stays → IsSettled (form_view form) }
-    ensures staying { OnOk result (IsTrue stays → Puts (variants.Open form) next.old.items next.new.items) }
+    ensures staying { OnOk result (IsTrue stays → PutsNarrowed (variants.Open form) next.old.items next.new.items) }
     ensures another { stays ≡ false → next.new.items ≡ next.old.items }
 {
     if stays {
@@ -125,25 +125,25 @@ fn put_staying(
     }
 }
 
-/// One step of narrowing for one skeleton: appends what takes its place. The occurrences are its events.
+/// One step of narrowing for one skeleton: appends what takes its place. `occurrences` are its events.
 fn narrow_among(
     alloc: Global,
     form: Form,
-    occurrences: &[Occurrence],
+    occurrences: &[LocatedEvent],
     next: &mut Vec<Candidate>,
 ) -> Result<(), AllocError>
-    requires listed { map occurrence_view occurrences.now ≡ events_of (form_view form) }
-    ensures { OnOk result (Puts (variants.Open form) next.old.items next.new.items) }
+    requires listed { map located_event_view occurrences.now ≡ events_of (form_view form) }
+    ensures { OnOk result (PutsNarrowed (variants.Open form) next.old.items next.new.items) }
 {
     let stays = stays(alloc, &form, occurrences, next)?;
     put_staying(alloc, form, stays, occurrences, next)
 }
 
 /// One step of narrowing: appends no candidate if the assumptions contradict what the nodes carry; the branches if a unique value
-/// strays; no candidate if the pairs of the normal form close a cycle; otherwise the skeleton itself. The skeleton's events are
-/// listed only here.
+/// is misplaced; no candidate if the pairs of the normal form close a cycle; otherwise the skeleton itself. The skeleton's events
+/// are listed only here.
 fn narrow(alloc: Global, form: Form, next: &mut Vec<Candidate>) -> Result<(), AllocError>
-    ensures { OnOk result (Puts (variants.Open form) next.old.items next.new.items) }
+    ensures { OnOk result (PutsNarrowed (variants.Open form) next.old.items next.new.items) }
 {
     let occurrences = form.skeleton.events(alloc)?;
     narrow_among(alloc, form, &occurrences, next)
@@ -151,7 +151,7 @@ fn narrow(alloc: Global, form: Form, next: &mut Vec<Candidate>) -> Result<(), Al
 
 /// Appends what takes the place of a candidate.
 fn advance(alloc: Global, candidate: Candidate, next: &mut Vec<Candidate>) -> Result<(), AllocError>
-    ensures { OnOk result (Puts candidate next.old.items next.new.items) }
+    ensures { OnOk result (PutsNarrowed candidate next.old.items next.new.items) }
 {
     match candidate {
         Candidate::Open(form) => narrow(alloc, form, next),
@@ -164,7 +164,7 @@ fn advance(alloc: Global, candidate: Candidate, next: &mut Vec<Candidate>) -> Re
 
 /// One step of narrowing for each open candidate. The results take its place in the list.
 pub(crate) fn round(alloc: Global, candidates: Vec<Candidate>) -> Result<Vec<Candidate>, AllocError>
-    ensures { IfOk result (λ next. IsRound candidates.items next.items) }
+    ensures { IfOk result (λ next. IsNarrowingRound candidates.items next.items) }
 {
     let mut rest = candidates;
     rest.reverse();
@@ -176,14 +176,14 @@ pub(crate) fn round(alloc: Global, candidates: Vec<Candidate>) -> Result<Vec<Can
 }
 
 fn is_open(candidate: &Candidate) -> bool
-    ensures { IsTrue result ↔ IsOpen candidate.now }
+    ensures { IsTrue result ↔ IsUnnarrowed candidate.now }
 {
     matches!(candidate, Candidate::Open(_))
 }
 
 /// Whether some candidate is open.
 pub(crate) fn some_is_open(candidates: &[Candidate]) -> bool
-    ensures { IsTrue result ↔ Has IsOpen candidates.now }
+    ensures { IsTrue result ↔ Has IsUnnarrowed candidates.now }
 {
     for candidate in candidates {
         if is_open(candidate) {

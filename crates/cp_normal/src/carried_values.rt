@@ -4,25 +4,25 @@ ghost use Rattle.cp_model.specs.Term.{atom_term, IsCarriedByTerm};
 ghost use Rattle.cp_model.specs.Strand.{payload};
 ghost use Rattle.cp_strand.specs.View.{event_view};
 ghost use Rattle.cp_skel.specs.View.{skeleton_view};
-ghost use Rattle.cp_skel.specs.Events.{occurrence_view, events_of};
+ghost use Rattle.cp_skel.specs.Events.{located_event_view, events_of};
 ghost use Rattle.cp_collapse.specs.Property.{Has};
 ghost use Rattle.cp_normal.specs.Events.{CarriesOne};
 ghost use Rattle.cp_normal.specs.Findings.{CarriesNonOriginating};
 
-use cp_skel::{Atom, Occurrence, Skeleton};
+use cp_skel::{Atom, LocatedEvent, Skeleton};
 use cp_term::carries;
 use std::alloc::{AllocError, Global};
 
 /// Whether the event carries the value.
-pub(crate) fn carries_value(occurrence: &Occurrence, value: &Atom) -> bool
+pub(crate) fn carries_value(occurrence: &LocatedEvent, value: &Atom) -> bool
     ensures { IsTrue result ↔ IsCarriedByTerm (atom_term value.now) (payload (event_view occurrence.now.event)) }
 {
     carries(occurrence.event.payload(), value.as_term())
 }
 
 /// Whether the event carries one of the values.
-fn carries_one(occurrence: &Occurrence, values: &[Atom]) -> bool
-    ensures { IsTrue result ↔ CarriesOne values.now (occurrence_view occurrence.now) }
+fn carries_one(occurrence: &LocatedEvent, values: &[Atom]) -> bool
+    ensures { IsTrue result ↔ CarriesOne values.now (located_event_view occurrence.now) }
 {
     for value in values {
         if carries_value(occurrence, value) {
@@ -33,17 +33,17 @@ fn carries_one(occurrence: &Occurrence, values: &[Atom]) -> bool
 }
 
 /// Whether some event carries one of the values.
-fn some_carries_one(occurrences: &[Occurrence], values: &[Atom]) -> bool
-    ensures { IsTrue result ↔ Has (λ o. CarriesOne values.now (occurrence_view o)) occurrences.now }
+fn some_carries_one(occurrences: &[LocatedEvent], values: &[Atom]) -> bool
+    ensures { IsTrue result ↔ Has (λ o. CarriesOne values.now (located_event_view o)) occurrences.now }
 {
     occurrences
         .iter()
         .any(|occurrence| carries_one(occurrence, values))
 }
 
-/// Whether some node carries a non-originating value. The occurrences are the events of the skeleton.
-pub(crate) fn some_carries_non_originating(k: &Skeleton, occurrences: &[Occurrence]) -> bool
-    requires listed { map occurrence_view occurrences.now ≡ events_of (skeleton_view k.now) }
+/// Whether some node carries a non-originating value. `occurrences` are the events of the skeleton.
+pub(crate) fn some_carries_non_originating(k: &Skeleton, occurrences: &[LocatedEvent]) -> bool
+    requires listed { map located_event_view occurrences.now ≡ events_of (skeleton_view k.now) }
     ensures { IsTrue result ↔ CarriesNonOriginating (skeleton_view k.now) }
 {
     some_carries_one(occurrences, k.assumptions().non_originating())

@@ -8,11 +8,11 @@ ghost use Rattle.cp_model.specs.Skeleton.{Skeleton, IsSkeleton};
 ghost use Rattle.cp_model.specs.Standing.{Standing};
 ghost use Rattle.cp_model.specs.Homomorphism.{FactorsThrough};
 ghost use Rattle.cp_unify.specs.Bindings.{Binding, as_substitution};
-ghost use Rattle.cp_completeness.specs.Normal.{LosesNoStanding};
+ghost use Rattle.cp_theory.specs.Normal.{LosesNoStanding};
 ghost use Rattle.cp_model.specs.Data.{SkeletonData};
 ghost use Rattle.cp_normal.specs.BySubstitution.{ComesBySubstitution, ComeBySubstitutions};
 ghost use Rattle.cp_normal.specs.Exact.{HasForms};
-ghost use Rattle.cp_normal.specs.Formed.{Formed, StandsAmongFormed, AreNormalForms, IsFormBeside};
+ghost use Rattle.cp_normal.specs.Formed.{Formed, StandsAmongFormed, AreFormedNormalForms, IsFormBeside};
 ghost use Rattle.cp_normal.specs.NormalForms.{IsNormalFormOf};
 ghost use Rattle.cp_normal.specs.declared.form.Form.{Form};
 
@@ -32,7 +32,7 @@ pub fn forms_come_by_substitutions()
 /// normal form factors through that form. If a substitution was given beside the skeleton, an assignment that agrees with a
 /// form's substitution gives each term the same value under the given one as under the given one followed by the form's.
 pub fn normal_forms_have_substitutions()
-    ensures exist { (k : Skeleton) (rs : List Skeleton) → HasForms k rs → (forms : List Formed) × AreNormalForms k forms × (map (λ f. f.skeleton) forms ≡ rs) }
-    ensures factors { (k : Skeleton) (forms : List Formed) (b : Bundle) (h : Standing) → AreNormalForms k forms → (among : StandsAmongFormed forms b h) → FactorsThrough k h among.form.skeleton h }
+    ensures exist { (k : Skeleton) (rs : List Skeleton) → HasForms k rs → (forms : List Formed) × AreFormedNormalForms k forms × (map (λ f. f.skeleton) forms ≡ rs) }
+    ensures factors { (k : Skeleton) (forms : List Formed) (b : Bundle) (h : Standing) → AreFormedNormalForms k forms → (among : StandsAmongFormed forms b h) → FactorsThrough k h among.form.skeleton h }
     ensures beside { (k : SkeletonData) (given : List Binding) (answer : Form) (f : Formed) (g : Assignment) → IsFormBeside k given answer f → ((t : Term) → value_of (after g f.substitution) t ≡ value_of g t) → (t : Term) → value_of (after g (as_substitution answer.substitution)) t ≡ value_of (after g (as_substitution given)) t }
 {}

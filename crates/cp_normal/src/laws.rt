@@ -10,7 +10,7 @@ ghost use Rattle.cp_model.specs.Homomorphism.{CarriesHomomorphism};
 ghost use Rattle.cp_model.specs.PointOfView.{MapsToItself, StatesItself};
 ghost use Rattle.cp_model.specs.Stated.{KeepsStated};
 ghost use Rattle.cp_model.specs.Realisation.{KeepsAssumptions};
-ghost use Rattle.cp_completeness.specs.Normal.{skeleton_under, AddOnlyOriginPairs, LosesNoStanding};
+ghost use Rattle.cp_theory.specs.Normal.{skeleton_under, AddOnlyOriginPairs, LosesNoStanding};
 ghost use Rattle.cp_collapse.specs.SameSkeletons.{SaysTheSame};
 ghost use Rattle.cp_normal.specs.Findings.{AreNormalPairs, IsContradictory};
 ghost use Rattle.cp_normal.specs.NormalForms.{NarrowsTo, IsNormal, IsNormalFormOf};

@@ -9,6 +9,7 @@ mod examples;
 mod form;
 mod forms_law;
 mod laws;
+mod misplaced_values;
 mod normal;
 mod normal_forms;
 mod origins;
@@ -16,7 +17,6 @@ mod own_pairs;
 mod pairs;
 mod received_atoms;
 mod settled;
-mod stray_values;
 mod unified_branches;
 mod variables_laws;
 
@@ -26,7 +26,7 @@ pub use cp_collapse::{
     collapses_cover, collapses_have_declared_variables, collapses_keep_what_is_stated,
     two_strands_of_one_role_example, under, unifiers_are_determined,
 };
-pub use examples::stray_text_example;
+pub use examples::misplaced_text_example;
 pub use form::Form;
 pub use forms_law::{forms_come_by_substitutions, normal_forms_have_substitutions};
 pub use laws::{contradictory_skeletons_stand_nowhere, normal_forms_keep_what_is_stated};

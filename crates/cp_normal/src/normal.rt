@@ -1,23 +1,23 @@
 // Tests whether a skeleton is normal, and computes the pairs of its normal form.
 ghost use Rattle.std.specs.Prelude.{◌≡◌, ◌↔◌, map, option_map, IsTrue, IfOk};
-ghost use Rattle.cp_skel.specs.Events.{occurrence_view, events_of};
+ghost use Rattle.cp_skel.specs.Events.{located_event_view, events_of};
 ghost use Rattle.cp_skel.specs.View.{skeleton_view};
 ghost use Rattle.cp_normal.specs.Exact.{IsRefuted};
 ghost use Rattle.cp_normal.specs.Findings.{AreNormalPairs, ClosesCycle, IsNormalised};
 ghost use Rattle.cp_normal.specs.NormalForms.{IsNormal};
 
 use crate::carried_values::some_carries_non_originating;
+use crate::misplaced_values::some_is_misplaced;
 use crate::origins::{has_two_origins, some_loses_origin};
 use crate::own_pairs::{add_others, all_lead, keys_of};
 use crate::pairs::pairs_among;
-use crate::stray_values::some_strays;
 use cp_collapse::some_is_closed;
-use cp_skel::{Occurrence, OrderPair, Skeleton};
+use cp_skel::{LocatedEvent, OrderPair, Skeleton};
 use std::alloc::{AllocError, Global};
 
-/// Whether the assumptions contradict what the nodes carry. The occurrences are the events of the skeleton.
-pub(crate) fn is_refuted(k: &Skeleton, occurrences: &[Occurrence]) -> bool
-    requires listed { map occurrence_view occurrences.now ≡ events_of (skeleton_view k.now) }
+/// Whether the assumptions contradict what the nodes carry. `occurrences` are the events of the skeleton.
+pub(crate) fn is_refuted(k: &Skeleton, occurrences: &[LocatedEvent]) -> bool
+    requires listed { map located_event_view occurrences.now ≡ events_of (skeleton_view k.now) }
     ensures { IsTrue result ↔ IsRefuted (skeleton_view k.now) }
 {
     if some_carries_non_originating(k, occurrences) {
@@ -29,13 +29,13 @@ pub(crate) fn is_refuted(k: &Skeleton, occurrences: &[Occurrence]) -> bool
     some_loses_origin(k, occurrences)
 }
 
-/// The skeleton's own pairs, followed by the other pairs that unique values add. The occurrences are the events of the skeleton.
+/// The skeleton's own pairs, followed by the other pairs that unique values add. `occurrences` are the events of the skeleton.
 fn own_and_added(
     alloc: Global,
     k: &Skeleton,
-    occurrences: &[Occurrence],
+    occurrences: &[LocatedEvent],
 ) -> Result<Vec<OrderPair>, AllocError>
-    requires listed { map occurrence_view occurrences.now ≡ events_of (skeleton_view k.now) }
+    requires listed { map located_event_view occurrences.now ≡ events_of (skeleton_view k.now) }
     ensures { IfOk result (λ pairs. AreNormalPairs (skeleton_view k.now) pairs.items) }
 {
     let added = pairs_among(alloc, k, occurrences)?;
@@ -47,13 +47,13 @@ fn own_and_added(
 }
 
 /// The pairs of the normal form of a skeleton whose assumptions do not contradict what its nodes carry; `None` if the pairs close
-/// a cycle. The occurrences are its events.
+/// a cycle. `occurrences` are its events.
 pub(crate) fn normal_pairs_among(
     alloc: Global,
     k: &Skeleton,
-    occurrences: &[Occurrence],
+    occurrences: &[LocatedEvent],
 ) -> Result<Option<Vec<OrderPair>>, AllocError>
-    requires listed { map occurrence_view occurrences.now ≡ events_of (skeleton_view k.now) }
+    requires listed { map located_event_view occurrences.now ≡ events_of (skeleton_view k.now) }
     requires consistent { IsRefuted (skeleton_view k.now) → ⊥ }
     ensures { IfOk result (λ found. IsNormalised (skeleton_view k.now) (option_map (λ pairs. pairs.items) found)) }
 {
@@ -65,10 +65,10 @@ pub(crate) fn normal_pairs_among(
     Ok(Some(pairs))
 }
 
-/// The pairs of the skeleton's normal form, if no unique value strays in it: its own pairs, and those from the recorded origin of
-/// each unique value to the receptions of other strands, listeners included, that carry the value. `None` if there is no normal
-/// form: some node carries a non-originating value, a unique value has two recorded origins or does not originate at its own, or
-/// the pairs close a cycle.
+/// The pairs of the skeleton's normal form, if no unique value is misplaced in it: its own pairs, and those from the recorded
+/// origin of each unique value to the receptions of other strands, listeners included, that carry the value. `None` if there is
+/// no normal form: some node carries a non-originating value, a unique value has two recorded origins or does not originate at
+/// its own, or the pairs close a cycle.
 pub fn normal_pairs(alloc: Global, k: &Skeleton) -> Result<Option<Vec<OrderPair>>, AllocError>
     ensures { IfOk result (λ found. IsNormalised (skeleton_view k.now) (option_map (λ pairs. pairs.items) found)) }
 {
@@ -89,7 +89,7 @@ pub fn is_normal(alloc: Global, k: &Skeleton) -> Result<bool, AllocError>
     if is_refuted(k, &occurrences) {
         return Ok(false);
     }
-    if some_strays(k, &occurrences)? {
+    if some_is_misplaced(k, &occurrences)? {
         return Ok(false);
     }
     let added = pairs_among(alloc, k, &occurrences)?;

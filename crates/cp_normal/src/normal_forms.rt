@@ -3,12 +3,12 @@ ghost use Rattle.std.specs.Prelude.{◌≡◌, [], ◌∷◌, map, IfOk, OnOk};
 ghost use Rattle.cp_lists.specs.Lists.{IsIn};
 ghost use Rattle.cp_model.specs.Skeleton.{Skeleton as Plain, IsSkeleton};
 ghost use Rattle.cp_model.specs.Strand.{Protocol};
-ghost use Rattle.cp_completeness.specs.Normal.{LosesNoStanding};
+ghost use Rattle.cp_theory.specs.Normal.{LosesNoStanding};
 ghost use Rattle.cp_skel.specs.View.{skeleton_view};
 ghost use Rattle.cp_model.specs.Data.{SkeletonData};
 ghost use Rattle.cp_normal.specs.BySubstitution.{ComeBySubstitutions};
 ghost use Rattle.cp_collapse.specs.Property.{Has};
-ghost use Rattle.cp_normal.specs.Candidates.{form_of, IsOpen, PutsForm, AreForms};
+ghost use Rattle.cp_normal.specs.Candidates.{form_in, IsUnnarrowed, PutsForm, AreFormsOfSettled};
 ghost use Rattle.cp_normal.specs.Exact.{HasForms};
 ghost use Rattle.cp_normal.specs.Formed.{AreFormsBeside};
 ghost use Rattle.cp_normal.specs.NormalForms.{IsNormalFormOf};
@@ -22,8 +22,8 @@ use std::alloc::{AllocError, Global};
 
 /// Appends the normal form of a settled candidate.
 fn add_form(alloc: Global, candidate: Candidate, forms: &mut Vec<Form>) -> Result<(), AllocError>
-    requires { IsOpen candidate → ⊥ }
-    ensures { OnOk result (PutsForm (form_of candidate) forms.old.items forms.new.items) }
+    requires { IsUnnarrowed candidate → ⊥ }
+    ensures { OnOk result (PutsForm (form_in candidate) forms.old.items forms.new.items) }
 {
     match candidate {
         Candidate::Open(_) => unreachable!(),
@@ -36,8 +36,8 @@ fn add_form(alloc: Global, candidate: Candidate, forms: &mut Vec<Form>) -> Resul
 
 /// The normal forms of settled candidates, in order.
 fn forms_of(alloc: Global, candidates: Vec<Candidate>) -> Result<Vec<Form>, AllocError>
-    requires { Has IsOpen candidates.items → ⊥ }
-    ensures { IfOk result (λ forms. AreForms candidates.items forms.items) }
+    requires { Has IsUnnarrowed candidates.items → ⊥ }
+    ensures { IfOk result (λ forms. AreFormsOfSettled candidates.items forms.items) }
 {
     let mut rest = candidates;
     rest.reverse();

@@ -5,26 +5,26 @@ ghost use Rattle.cp_model.specs.Realisation.{OriginatesAtTerm};
 ghost use Rattle.cp_lists.specs.Lists.{item_at};
 ghost use Rattle.cp_strand.specs.View.{strand_view};
 ghost use Rattle.cp_skel.specs.View.{skeleton_view};
-ghost use Rattle.cp_skel.specs.Events.{occurrence_view, events_of};
+ghost use Rattle.cp_skel.specs.Events.{located_event_view, events_of};
 ghost use Rattle.cp_collapse.specs.Property.{Has};
-ghost use Rattle.cp_collapse.specs.Partitions.{is_instance};
-ghost use Rattle.cp_normal.specs.Events.{IsElsewhere, IsSentAtOrigin, IsCarriedBefore};
+ghost use Rattle.cp_collapse.specs.Partitions.{is_some_instance};
+ghost use Rattle.cp_normal.specs.Events.{HasOtherOrigin, IsSentAtOrigin, IsCarriedBefore};
 ghost use Rattle.cp_normal.specs.Findings.{HasTwoOrigins, LosesOrigin};
 
 use crate::carried_values::carries_value;
-use cp_skel::{Event, Node, Occurrence, Skeleton, Strand, StrandShape, UniqueAt};
+use cp_skel::{Event, LocatedEvent, Node, Skeleton, Strand, StrandShape, UniqueAt};
 use std::alloc::{AllocError, Global};
 
 /// Whether the other entry has the same value and another origin.
 fn is_elsewhere(unique: &UniqueAt, other: &UniqueAt) -> bool
-    ensures { IsTrue result ↔ IsElsewhere unique.now other.now }
+    ensures { IsTrue result ↔ HasOtherOrigin unique.now other.now }
 {
     unique.origin() != other.origin() && unique.value().same(other.value())
 }
 
 /// Whether some entry gives the value another origin.
 fn has_another_origin(uniques: &[UniqueAt], unique: &UniqueAt) -> bool
-    ensures { IsTrue result ↔ Has (λ w. IsElsewhere unique.now w) uniques.now }
+    ensures { IsTrue result ↔ Has (λ w. HasOtherOrigin unique.now w) uniques.now }
 {
     for other in uniques {
         if is_elsewhere(unique, other) {
@@ -36,7 +36,7 @@ fn has_another_origin(uniques: &[UniqueAt], unique: &UniqueAt) -> bool
 
 /// Whether some value has two origins among these entries.
 fn some_has_two_origins(uniques: &[UniqueAt]) -> bool
-    ensures { IsTrue result ↔ Has (λ u. Has (λ w. IsElsewhere u w) uniques.now) uniques.now }
+    ensures { IsTrue result ↔ Has (λ u. Has (λ w. HasOtherOrigin u w) uniques.now) uniques.now }
 {
     for unique in uniques {
         if has_another_origin(uniques, unique) {
@@ -54,8 +54,8 @@ pub fn has_two_origins(k: &Skeleton) -> bool
 }
 
 /// Whether the event is a transmission at the recorded origin of a unique value, and carries the value.
-fn is_sent_at_origin(occurrence: &Occurrence, unique: &UniqueAt) -> bool
-    ensures { IsTrue result ↔ IsSentAtOrigin unique.now (occurrence_view occurrence.now) }
+fn is_sent_at_origin(occurrence: &LocatedEvent, unique: &UniqueAt) -> bool
+    ensures { IsTrue result ↔ IsSentAtOrigin unique.now (located_event_view occurrence.now) }
 {
     matches!(occurrence.event, Event::Send(_))
         && occurrence.node == unique.origin()
@@ -63,8 +63,8 @@ fn is_sent_at_origin(occurrence: &Occurrence, unique: &UniqueAt) -> bool
 }
 
 /// Whether the event is before the recorded origin of a unique value on its strand, and carries the value.
-fn is_carried_before(occurrence: &Occurrence, unique: &UniqueAt) -> bool
-    ensures { IsTrue result ↔ IsCarriedBefore unique.now (occurrence_view occurrence.now) }
+fn is_carried_before(occurrence: &LocatedEvent, unique: &UniqueAt) -> bool
+    ensures { IsTrue result ↔ IsCarriedBefore unique.now (located_event_view occurrence.now) }
 {
     occurrence.node.strand == unique.origin().strand
         && occurrence.node.index < unique.origin().index
@@ -72,8 +72,8 @@ fn is_carried_before(occurrence: &Occurrence, unique: &UniqueAt) -> bool
 }
 
 /// Whether some event is a transmission at the recorded origin that carries the value.
-fn some_is_sent_at_origin(occurrences: &[Occurrence], unique: &UniqueAt) -> bool
-    ensures { IsTrue result ↔ Has (λ o. IsSentAtOrigin unique.now (occurrence_view o)) occurrences.now }
+fn some_is_sent_at_origin(occurrences: &[LocatedEvent], unique: &UniqueAt) -> bool
+    ensures { IsTrue result ↔ Has (λ o. IsSentAtOrigin unique.now (located_event_view o)) occurrences.now }
 {
     occurrences
         .iter()
@@ -81,8 +81,8 @@ fn some_is_sent_at_origin(occurrences: &[Occurrence], unique: &UniqueAt) -> bool
 }
 
 /// Whether some event before the recorded origin, on its strand, carries the value.
-fn some_is_carried_before(occurrences: &[Occurrence], unique: &UniqueAt) -> bool
-    ensures { IsTrue result ↔ Has (λ o. IsCarriedBefore unique.now (occurrence_view o)) occurrences.now }
+fn some_is_carried_before(occurrences: &[LocatedEvent], unique: &UniqueAt) -> bool
+    ensures { IsTrue result ↔ Has (λ o. IsCarriedBefore unique.now (located_event_view o)) occurrences.now }
 {
     occurrences
         .iter()
@@ -91,7 +91,7 @@ fn some_is_carried_before(occurrences: &[Occurrence], unique: &UniqueAt) -> bool
 
 /// Whether the strand with this number exists and is a role strand.
 fn is_instance_at(strands: &[Strand], number: usize) -> bool
-    ensures { result ≡ is_instance (item_at (map strand_view strands.now) number) }
+    ensures { result ≡ is_some_instance (item_at (map strand_view strands.now) number) }
 {
     let Some(strand) = strands.get(number) else {
         return false;
@@ -106,9 +106,9 @@ fn is_on_instance(k: &Skeleton, node: Node) -> bool
     is_instance_at(k.strands(), node.strand)
 }
 
-/// Whether a unique value originates at its recorded origin. The occurrences are the events of the skeleton.
-pub(crate) fn originates(k: &Skeleton, occurrences: &[Occurrence], unique: &UniqueAt) -> bool
-    requires listed { map occurrence_view occurrences.now ≡ events_of (skeleton_view k.now) }
+/// Whether a unique value originates at its recorded origin. `occurrences` are the events of the skeleton.
+pub(crate) fn originates(k: &Skeleton, occurrences: &[LocatedEvent], unique: &UniqueAt) -> bool
+    requires listed { map located_event_view occurrences.now ≡ events_of (skeleton_view k.now) }
     ensures { IsTrue result ↔ OriginatesAtTerm (skeleton_view k.now) unique.now.value unique.now.origin }
 {
     if !is_on_instance(k, unique.origin()) {
@@ -120,9 +120,9 @@ pub(crate) fn originates(k: &Skeleton, occurrences: &[Occurrence], unique: &Uniq
     !some_is_carried_before(occurrences, unique)
 }
 
-/// Whether some of these unique values does not originate at its recorded origin. The occurrences are the events of the skeleton.
-fn one_loses_origin(k: &Skeleton, occurrences: &[Occurrence], uniques: &[UniqueAt]) -> bool
-    requires listed { map occurrence_view occurrences.now ≡ events_of (skeleton_view k.now) }
+/// Whether some of these unique values does not originate at its recorded origin. `occurrences` are the events of the skeleton.
+fn one_loses_origin(k: &Skeleton, occurrences: &[LocatedEvent], uniques: &[UniqueAt]) -> bool
+    requires listed { map located_event_view occurrences.now ≡ events_of (skeleton_view k.now) }
     ensures { IsTrue result ↔ Has (λ u. OriginatesAtTerm (skeleton_view k.now) u.value u.origin → ⊥) uniques.now }
 {
     for unique in uniques {
@@ -133,9 +133,9 @@ fn one_loses_origin(k: &Skeleton, occurrences: &[Occurrence], uniques: &[UniqueA
     false
 }
 
-/// Whether some unique value does not originate at its recorded origin. The occurrences are the events of the skeleton.
-pub(crate) fn some_loses_origin(k: &Skeleton, occurrences: &[Occurrence]) -> bool
-    requires listed { map occurrence_view occurrences.now ≡ events_of (skeleton_view k.now) }
+/// Whether some unique value does not originate at its recorded origin. `occurrences` are the events of the skeleton.
+pub(crate) fn some_loses_origin(k: &Skeleton, occurrences: &[LocatedEvent]) -> bool
+    requires listed { map located_event_view occurrences.now ≡ events_of (skeleton_view k.now) }
     ensures { IsTrue result ↔ LosesOrigin (skeleton_view k.now) }
 {
     one_loses_origin(k, occurrences, k.assumptions().uniquely_originating())

@@ -1,7 +1,7 @@
 // Looks pairs up among those of an order.
 ghost use Rattle.std.specs.Prelude.{◌≡◌, ◌↔◌, ◌++◌, IsTrue, IfOk, OnOk};
 ghost use Rattle.std.specs.List.{filter};
-ghost use Rattle.cp_normal.specs.OwnPairs.{key_of, AreKeysOf, is_other, AllLead};
+ghost use Rattle.cp_normal.specs.OwnPairs.{pair_key, AreKeysOf, is_other, AllLead};
 
 use cp_skel::{OrderPair, SortedPairs};
 use std::alloc::{AllocError, Global};
@@ -12,7 +12,7 @@ pub(crate) type Key = ((usize, usize), (usize, usize));
 
 /// The key under which a pair is looked up.
 fn key_of(pair: OrderPair) -> Key
-    ensures { result ≡ key_of pair }
+    ensures { result ≡ pair_key pair }
 {
     let OrderPair { earlier, later } = pair;
     ((earlier.strand, earlier.index), (later.strand, later.index))
@@ -46,7 +46,7 @@ pub(crate) fn add_others(
     Ok(())
 }
 
-/// Whether in each pair the earlier node leads to the later one along strands and the pairs of an order.
+/// Whether in each pair the earlier node reaches the later one along strands and the pairs of an order.
 fn lead_along(alloc: Global, order: &[OrderPair], pairs: &[OrderPair]) -> Result<bool, AllocError>
     ensures { IfOk result (λ all. IsTrue all ↔ AllLead order.now pairs.now) }
 {
@@ -55,7 +55,7 @@ fn lead_along(alloc: Global, order: &[OrderPair], pairs: &[OrderPair]) -> Result
     }
     let sorted = SortedPairs::new(alloc, order)?;
     for pair in pairs {
-        let leading = sorted.leading_to(alloc, pair.later)?;
+        let leading = sorted.predecessors_of(alloc, pair.later)?;
         if !leading.has(pair.earlier) {
             return Ok(false);
         }
@@ -63,8 +63,8 @@ fn lead_along(alloc: Global, order: &[OrderPair], pairs: &[OrderPair]) -> Result
     Ok(true)
 }
 
-/// Whether in each pair the earlier node leads to the later one along strands and the pairs of an order. A pair that the order
-/// lists is only looked up; for the later nodes of the other pairs, all nodes that lead there are gathered.
+/// Whether in each pair the earlier node reaches the later one along strands and the pairs of an order. A pair that the order
+/// lists is only looked up; for the later nodes of the other pairs, all predecessors are gathered.
 pub fn all_lead(alloc: Global, order: &[OrderPair], pairs: &[OrderPair]) -> Result<bool, AllocError>
     ensures { IfOk result (λ all. IsTrue all ↔ AllLead order.now pairs.now) }
 {

@@ -3,20 +3,20 @@ ghost use Rattle.std.specs.Prelude.{◌≡◌, ◌↔◌, map, IfOk, OnOk, IfSom
 ghost use Rattle.cp_lists.specs.Lists.{IsIn};
 ghost use Rattle.cp_model.specs.declared.node.OrderPair.{OrderPair as Plain};
 ghost use Rattle.cp_skel.specs.View.{skeleton_view};
-ghost use Rattle.cp_skel.specs.Events.{occurrence_view, events_of};
+ghost use Rattle.cp_skel.specs.Events.{located_event_view, events_of};
 ghost use Rattle.cp_collapse.specs.Property.{Has};
 ghost use Rattle.cp_normal.specs.Events.{Gathers, IsPairBetween};
 ghost use Rattle.cp_normal.specs.Findings.{IsAddedPair};
 
 use crate::carried_values::carries_value;
-use cp_skel::{Event, Occurrence, OrderPair, Skeleton, UniqueAt};
+use cp_skel::{Event, LocatedEvent, OrderPair, Skeleton, UniqueAt};
 use std::alloc::{AllocError, Global};
 
 /// The pair from the recorded origin of a unique value to an event, if the event is a reception on another strand that carries
 /// the value.
-fn pair_between(occurrence: &Occurrence, unique: &UniqueAt) -> Option<OrderPair>
-    ensures some { IfSome result (λ p. IsPairBetween (occurrence_view occurrence.now) unique.now p) }
-    ensures none { IfNone result ((p : Plain) → IsPairBetween (occurrence_view occurrence.now) unique.now p → ⊥) }
+fn pair_between(occurrence: &LocatedEvent, unique: &UniqueAt) -> Option<OrderPair>
+    ensures some { IfSome result (λ p. IsPairBetween (located_event_view occurrence.now) unique.now p) }
+    ensures none { IfNone result ((p : Plain) → IsPairBetween (located_event_view occurrence.now) unique.now p → ⊥) }
 {
     let is_pair = matches!(occurrence.event, Event::Receive(_))
         && unique.origin().strand != occurrence.node.strand
@@ -33,11 +33,11 @@ fn pair_between(occurrence: &Occurrence, unique: &UniqueAt) -> Option<OrderPair>
 
 /// Appends the pairs from recorded origins to one event.
 fn add_pairs_to(
-    occurrence: &Occurrence,
+    occurrence: &LocatedEvent,
     uniques: &[UniqueAt],
     pairs: &mut Vec<OrderPair>,
 ) -> Result<(), AllocError>
-    ensures { OnOk result (Gathers (λ u p. IsPairBetween (occurrence_view occurrence.now) u p) uniques.now pairs.old.items pairs.new.items) }
+    ensures { OnOk result (Gathers (λ u p. IsPairBetween (located_event_view occurrence.now) u p) uniques.now pairs.old.items pairs.new.items) }
 {
     for unique in uniques {
         if let Some(pair) = pair_between(occurrence, unique) {
@@ -49,11 +49,11 @@ fn add_pairs_to(
 
 /// Appends the pairs from recorded origins to these events.
 fn add_pairs(
-    occurrences: &[Occurrence],
+    occurrences: &[LocatedEvent],
     uniques: &[UniqueAt],
     pairs: &mut Vec<OrderPair>,
 ) -> Result<(), AllocError>
-    ensures { OnOk result (Gathers (λ o p. Has (λ u. IsPairBetween (occurrence_view o) u p) uniques.now) occurrences.now pairs.old.items pairs.new.items) }
+    ensures { OnOk result (Gathers (λ o p. Has (λ u. IsPairBetween (located_event_view o) u p) uniques.now) occurrences.now pairs.old.items pairs.new.items) }
 {
     for occurrence in occurrences {
         add_pairs_to(occurrence, uniques, pairs)?;
@@ -61,13 +61,13 @@ fn add_pairs(
     Ok(())
 }
 
-/// The pairs that unique values add. The occurrences are the events of the skeleton.
+/// The pairs that unique values add. `occurrences` are the events of the skeleton.
 pub(crate) fn pairs_among(
     alloc: Global,
     k: &Skeleton,
-    occurrences: &[Occurrence],
+    occurrences: &[LocatedEvent],
 ) -> Result<Vec<OrderPair>, AllocError>
-    requires listed { map occurrence_view occurrences.now ≡ events_of (skeleton_view k.now) }
+    requires listed { map located_event_view occurrences.now ≡ events_of (skeleton_view k.now) }
     ensures { IfOk result (λ pairs. (p : Plain) → IsIn p pairs.items ↔ IsAddedPair (skeleton_view k.now) p) }
 {
     let mut pairs = Vec::new(alloc);

@@ -2,11 +2,11 @@
 ghost use Rattle.std.specs.Prelude.{◌≡◌, [], map, IfOk, OnOk};
 ghost use Rattle.cp_model.specs.Given.{atoms_onto};
 ghost use Rattle.cp_term.specs.Spines.{HasTail};
-ghost use Rattle.cp_skel.specs.Events.{occurrence_view};
+ghost use Rattle.cp_skel.specs.Events.{located_event_view};
 ghost use Rattle.cp_strand.specs.View.{event_view};
-ghost use Rattle.cp_normal.specs.HeardAtoms.{carried_atoms, received_atoms, heard_of, heard_among};
+ghost use Rattle.cp_normal.specs.ReceivedAtomLists.{carried_atoms, received_atoms, heard_of, heard_among};
 
-use cp_skel::{Atom, Event, Node, Occurrence, add_atom};
+use cp_skel::{Atom, Event, LocatedEvent, Node, add_atom};
 use cp_term::{Shape, Term};
 use std::alloc::{AllocError, Global};
 
@@ -51,8 +51,8 @@ fn add_received(event: &Event, atoms: &mut Vec<Atom>) -> Result<(), AllocError>
 
 /// Appends the atoms that the event carries if it is a reception before the node on the node's strand, except those listed
 /// already.
-fn add_heard(occurrence: &Occurrence, node: Node, atoms: &mut Vec<Atom>) -> Result<(), AllocError>
-    ensures { OnOk result (atoms.new.items ≡ atoms_onto atoms.old.items (heard_of node (occurrence_view occurrence.now))) }
+fn add_heard(occurrence: &LocatedEvent, node: Node, atoms: &mut Vec<Atom>) -> Result<(), AllocError>
+    ensures { OnOk result (atoms.new.items ≡ atoms_onto atoms.old.items (heard_of node (located_event_view occurrence.now))) }
 {
     if occurrence.node.strand == node.strand && occurrence.node.index < node.index {
         return add_received(&occurrence.event, atoms);
@@ -62,12 +62,12 @@ fn add_heard(occurrence: &Occurrence, node: Node, atoms: &mut Vec<Atom>) -> Resu
 
 /// The atoms carried by the receptions before the node on its strand, among these events: each once, in the order of the
 /// receptions, then of the positions.
-pub(crate) fn heard_atoms(
+pub(crate) fn atoms_received(
     alloc: Global,
-    occurrences: &[Occurrence],
+    occurrences: &[LocatedEvent],
     node: Node,
 ) -> Result<Vec<Atom>, AllocError>
-    ensures { IfOk result (λ atoms. atoms.items ≡ atoms_onto [] (heard_among node (map occurrence_view occurrences.now))) }
+    ensures { IfOk result (λ atoms. atoms.items ≡ atoms_onto [] (heard_among node (map located_event_view occurrences.now))) }
 {
     let mut atoms = Vec::new(alloc);
     for occurrence in occurrences {

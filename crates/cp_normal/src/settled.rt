@@ -1,20 +1,20 @@
-// Settled skeletons: no unique value strays. Each comes with the pairs of its normal form.
+// Settled skeletons: no unique value is misplaced. Each comes with the pairs of its normal form.
 ghost use Rattle.std.specs.Prelude.{◌≡◌, map, option_map, IfOk, MatchOption};
-ghost use Rattle.cp_skel.specs.Events.{occurrence_view, events_of};
+ghost use Rattle.cp_skel.specs.Events.{located_event_view, events_of};
 ghost use Rattle.cp_normal.specs.Findings.{IsContradictory, IsNormalised};
 ghost use Rattle.cp_normal.specs.Branches.{IsSettled};
-ghost use Rattle.cp_normal.specs.Candidates.{IsFormOf};
+ghost use Rattle.cp_normal.specs.Candidates.{IsNormalFormOfSettled};
 ghost use Rattle.cp_normal.specs.Exact.{IsRefuted};
 ghost use Rattle.cp_normal.specs.FormView.{form_view};
 
 use crate::form::Form;
 use crate::normal::normal_pairs_among;
-use cp_skel::{Occurrence, OrderPair};
+use cp_skel::{LocatedEvent, OrderPair};
 use std::alloc::{AllocError, Global};
 use std::marker::Model;
 
-/// A skeleton with its substitution that does not contradict itself and in which no unique value strays. It keeps the pairs of
-/// its normal form, which are found while its events are listed. Contracts see only the skeleton and the substitution.
+/// A skeleton with its substitution that does not contradict itself and in which no unique value is misplaced. It keeps the pairs
+/// of its normal form, which are found while its events are listed. Contracts see only the skeleton and the substitution.
 #[derive(Drop)]
 pub(crate) struct Settled {
     form: Form,
@@ -40,8 +40,8 @@ impl Model for Settled {
 }
 
 impl Settled {
-    /// A skeleton in which no unique value strays, with its substitution and the pairs of its normal form; `None` if it has no
-    /// normal form.
+    /// A skeleton in which no unique value is misplaced, with its substitution and the pairs of its normal form; `None` if it has
+    /// no normal form.
     fn beside(form: Form, pairs: Option<Vec<OrderPair>>) -> Option<Settled>
         requires settled { IsSettled (form_view form) }
         requires normalised { IsNormalised (form_view form) (option_map (λ pairs. pairs.items) pairs) }
@@ -55,14 +55,14 @@ impl Settled {
         }
     }
 
-    /// A settled skeleton from one in which no unique value strays and whose assumptions do not contradict what its nodes carry;
-    /// `None` if it contradicts itself nevertheless. The occurrences are its events.
+    /// A settled skeleton from one without misplaced unique values, whose assumptions do not contradict what its nodes carry;
+    /// `None` if it contradicts itself nevertheless. `occurrences` are its events.
     pub(crate) fn new(
         alloc: Global,
         form: Form,
-        occurrences: &[Occurrence],
+        occurrences: &[LocatedEvent],
     ) -> Result<Option<Settled>, AllocError>
-        requires listed { map occurrence_view occurrences.now ≡ events_of (form_view form) }
+        requires listed { map located_event_view occurrences.now ≡ events_of (form_view form) }
         requires consistent { IsRefuted (form_view form) → ⊥ }
         requires settled { IsSettled (form_view form) }
         ensures { IfOk result (λ found. MatchOption found
@@ -75,7 +75,7 @@ impl Settled {
 
     /// Its normal form.
     pub(crate) fn into_normal_form(self, alloc: Global) -> Result<Form, AllocError>
-        ensures { IfOk result (λ r. IsFormOf self r) }
+        ensures { IfOk result (λ r. IsNormalFormOfSettled self r) }
     {
         let Settled { form, pairs } = self;
         let Form {

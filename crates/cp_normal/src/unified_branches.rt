@@ -1,7 +1,7 @@
 // One step of narrowing.
 ghost use Rattle.std.specs.Prelude.{◌≡◌, IfOk};
 ghost use Rattle.cp_model.specs.Term.{Term, apply_to};
-ghost use Rattle.cp_completeness.specs.Normal.{skeleton_under};
+ghost use Rattle.cp_theory.specs.Normal.{skeleton_under};
 ghost use Rattle.cp_unify.specs.Bindings.{as_substitution};
 ghost use Rattle.cp_collapse.specs.SameSkeletons.{SaysTheSame};
 ghost use Rattle.cp_normal.specs.FormView.{form_view};

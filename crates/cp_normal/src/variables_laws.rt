@@ -6,7 +6,7 @@ ghost use Rattle.cp_model.specs.Strand.{Declaration};
 ghost use Rattle.cp_model.specs.Skeleton.{Skeleton};
 ghost use Rattle.cp_model.specs.Problem.{IsDeclared};
 ghost use Rattle.cp_model.specs.PointOfView.{HasDeclaredVariables};
-ghost use Rattle.cp_completeness.specs.Normal.{skeleton_under};
+ghost use Rattle.cp_theory.specs.Normal.{skeleton_under};
 ghost use Rattle.cp_collapse.specs.SameSkeletons.{SaysTheSame};
 ghost use Rattle.cp_normal.specs.BySubstitution.{all_variables, ComesBySubstitution};
 ghost use Rattle.cp_normal.specs.Exact.{HasForms};

@@ -4,23 +4,23 @@ use Rattle.std.proofs.lemmas.Bool.{or_cases, or_left, or_right, and_from, and_pa
 use Rattle.cp_lists.specs.Lists.{IsIn}
 use Rattle.cp_model.specs.declared.node.Node.{Node}
 use Rattle.cp_model.specs.declared.node.OrderPair.{OrderPair}
-use Rattle.cp_model.specs.Order.{IsAtOrAfter, LeadsTo, on_strand, over_pair}
+use Rattle.cp_model.specs.Order.{IsAtOrAfter, ReachesAlong, on_strand, over_pair}
 use Rattle.cp_model.specs.OrderTests.{at_or_after, any_pair}
 use Rattle.cp_model.proofs.BoundedSearch.{after_true, true_after, some_in, in_some, after_both, after_leads, leads_both}
-use Rattle.cp_order.specs.Closed.{LeadsAlongOne, IsClosed}
+use Rattle.cp_order.specs.Closed.{LeadsAlongOne, IsTransitive}
 use Rattle.cp_order.specs.Composed.{is_between, leads_along_one}
 
 -- ---- ways
 
--- what each pair of the first list leads to is led to along the second
-pub each_led : (ps qs : List OrderPair) → ((p : OrderPair) → IsIn p ps → LeadsTo qs p.earlier p.later) → (x y : Node) → LeadsTo ps x y → LeadsTo qs x y
+-- the later node of each pair of the first list is reached along the second
+pub each_led : (ps qs : List OrderPair) → ((p : OrderPair) → IsIn p ps → ReachesAlong qs p.earlier p.later) → (x y : Node) → ReachesAlong ps x y → ReachesAlong qs x y
 each_led ps qs f x y (on_strand a) = on_strand a
 each_led ps qs f x y (over_pair {p} m a l) = after_leads qs x p.earlier y a (leads_both qs p.earlier p.later y (f p m) (each_led ps qs f p.later y l))
 
-pub pair_led : (ps : List OrderPair) (p : OrderPair) → IsIn p ps → LeadsTo ps p.earlier p.later
+pub pair_led : (ps : List OrderPair) (p : OrderPair) → IsIn p ps → ReachesAlong ps p.earlier p.later
 pair_led ps p m = over_pair m (refl, omega arith) (on_strand (refl, omega arith))
 
-pub leads_within_more : (ps qs : List OrderPair) → ((p : OrderPair) → IsIn p ps → IsIn p qs) → (x y : Node) → LeadsTo ps x y → LeadsTo qs x y
+pub leads_within_more : (ps qs : List OrderPair) → ((p : OrderPair) → IsIn p ps → IsIn p qs) → (x y : Node) → ReachesAlong ps x y → ReachesAlong qs x y
 leads_within_more ps qs f x y l = each_led ps qs (λ p m. pair_led qs p (f p m)) x y l
 
 -- ---- along one pair
@@ -41,7 +41,7 @@ in_one pairs x y (inr (p, m, a, b)) =
     or_right (at_or_after x y) (any_pair (is_between x y) pairs)
     (in_some (is_between x y) pairs p m (and_from (at_or_after x p.earlier) (at_or_after p.later y) (true_after x p.earlier a) (true_after p.later y b)))
 
-pub one_leads : (pairs : List OrderPair) (x y : Node) → LeadsAlongOne pairs x y → LeadsTo pairs x y
+pub one_leads : (pairs : List OrderPair) (x y : Node) → LeadsAlongOne pairs x y → ReachesAlong pairs x y
 one_leads pairs x y (inl a) = on_strand a
 one_leads pairs x y (inr (p, m, a, b)) = over_pair m a (on_strand b)
 
@@ -53,5 +53,5 @@ pub one_more : (ps qs : List OrderPair) (x y : Node) → ((p : OrderPair) → Is
 one_more ps qs x y f (inl a) = inl a
 one_more ps qs x y f (inr (p, m, a, b)) = inr (p, f p m, a, b)
 
-pub closed_search : (pairs : List OrderPair) (x y : Node) → IsClosed pairs → (leads_along_one pairs x y ≡ true) ↔ LeadsTo pairs x y
+pub closed_search : (pairs : List OrderPair) (x y : Node) → IsTransitive pairs → (leads_along_one pairs x y ≡ true) ↔ ReachesAlong pairs x y
 closed_search pairs x y closed = (λ h. one_leads pairs x y (one_in pairs x y h), λ l. in_one pairs x y (closed x y l))

@@ -1,4 +1,4 @@
--- The search for the nodes that lead to one node: what a step keeps, and what there is at the end.
+-- The search for the predecessors of one node: what a step keeps, and what there is at the end.
 use Rattle.std.proofs.Common.{◌≡◌, ◌⊎◌, inl, inr, ℕ, suc, ◌+◌, ◌<◌, ◌≤◌, List, [], ◌∷◌, ◌++◌, length, Bool, true, false, not, ◌&&◌, ◌||◌, if◌then◌else◌, refl, sym, ap, ap₂, ◌∙◌, subst, arith}
 use Rattle.std.specs.Prelude.{Option, Some, None}
 use Rattle.std.proofs.lemmas.Bool.Decides.{nat_tests}
@@ -8,9 +8,9 @@ use Rattle.cp_lists.specs.Lists.{IsIn, here, there}
 use Rattle.cp_lists.proofs.Members.{only_item, in_append_left, in_append_right, in_append, in_if_here, in_if_behind}
 use Rattle.cp_model.specs.declared.node.Node.{Node}
 use Rattle.cp_model.specs.declared.node.OrderPair.{OrderPair}
-use Rattle.cp_model.specs.Order.{IsAtOrAfter, LeadsTo, on_strand, over_pair}
+use Rattle.cp_model.specs.Order.{IsAtOrAfter, ReachesAlong, on_strand, over_pair}
 use Rattle.cp_model.specs.OrderTests.{at_or_after}
-use Rattle.cp_order.specs.LeadingNodes.{Tops, is_within, is_below, AreTops, is_reached, reached, Takes, waiting, IsGathered}
+use Rattle.cp_order.specs.PredecessorNodes.{Tops, is_within, is_under_tops, AreTops, is_reached, reached, TakesNode, waiting, IsGathered}
 use Rattle.cp_model.proofs.BoundedSearch.{after_true, true_after, after_leads}
 
 -- ---- tests
@@ -22,7 +22,7 @@ lower : (top : Option ℕ) (i j : ℕ) → i ≤ j → is_within top j ≡ true 
 lower None i j l h = absurd (cc)
 lower (Some t) i j l h = grind (arith, nat_tests)
 
-below_lower : (tops : Tops) (x y : Node) → IsAtOrAfter x y → is_below tops y ≡ true → is_below tops x ≡ true
+below_lower : (tops : Tops) (x y : Node) → IsAtOrAfter x y → is_under_tops tops y ≡ true → is_under_tops tops x ≡ true
 below_lower tops x y a h = subst (λ s. is_within (tops s) x.index ≡ true) (sym a.0) (lower (tops y.strand) x.index y.index a.1 h)
 
 either_first : (b c d : Bool) → d ≡ (b || c) → d ≡ true → (b ≡ true) ⊎ ((b ≡ false) × (c ≡ true))
@@ -74,58 +74,58 @@ or_same false true h = h refl
 or_same false false h = refl
 
 -- a node below the tops changes nothing
-pub takes_nothing : (pairs : List OrderPair) (n : Node) (tops : Tops) (work : List Node) → is_below tops n ≡ true → Takes pairs n tops tops work work
+pub takes_nothing : (pairs : List OrderPair) (n : Node) (tops : Tops) (work : List Node) → is_under_tops tops n ≡ true → TakesNode pairs n tops tops work work
 takes_nothing pairs n tops work h = record {
-  raised = λ x. or_same (is_below tops x) (at_or_after x n) (λ e. below_lower tops x n (after_true x n e) h);
+  raised = λ x. or_same (is_under_tops tops x) (at_or_after x n) (λ e. below_lower tops x n (after_true x n e) h);
   added = sym (append-nil work) ∙ ap (λ more. work ++ more) (none_reached (tops n.strand) n pairs h);
 }
 
-module _ (pairs : List OrderPair) (y n : Node) (old new : Tops) (rest more : List Node) (g : IsGathered pairs y old (rest ++ n ∷ [])) (t : Takes pairs n old new rest more) where
-  n_leads : LeadsTo pairs n y
+module _ (pairs : List OrderPair) (y n : Node) (old new : Tops) (rest more : List Node) (g : IsGathered pairs y old (rest ++ n ∷ [])) (t : TakesNode pairs n old new rest more) where
+  n_leads : ReachesAlong pairs n y
   n_leads = g.to_take n (in_append_right rest here)
 
-  n_below : is_below new n ≡ true
-  n_below = t.raised n ∙ or_right (is_below old n) (at_or_after n n) (at_itself n)
+  n_below : is_under_tops new n ≡ true
+  n_below = t.raised n ∙ or_right (is_under_tops old n) (at_or_after n n) (at_itself n)
 
-  still_below : (x : Node) → is_below old x ≡ true → is_below new x ≡ true
-  still_below x h = t.raised x ∙ or_left (is_below old x) (at_or_after x n) h
+  still_below : (x : Node) → is_under_tops old x ≡ true → is_under_tops new x ≡ true
+  still_below x h = t.raised x ∙ or_left (is_under_tops old x) (at_or_after x n) h
 
   in_more : (x : Node) → IsIn x rest ⊎ IsIn x (reached (old n.strand) n pairs) → IsIn x more
   in_more x (inl m) = subst (IsIn x) (sym t.added) (in_append_left (reached (old n.strand) n pairs) m)
   in_more x (inr m) = subst (IsIn x) (sym t.added) (in_append_right rest m)
 
-  below_or_more : (x : Node) → (is_below old x ≡ true) ⊎ IsIn x (rest ++ n ∷ []) → (is_below new x ≡ true) ⊎ IsIn x more
+  below_or_more : (x : Node) → (is_under_tops old x ≡ true) ⊎ IsIn x (rest ++ n ∷ []) → (is_under_tops new x ≡ true) ⊎ IsIn x more
   below_or_more x (inl h) = inl (still_below x h)
-  below_or_more x (inr m) = elim (in_append rest (n ∷ []) m) as (λ _. (is_below new x ≡ true) ⊎ IsIn x more) [
+  below_or_more x (inr m) = elim (in_append rest (n ∷ []) m) as (λ _. (is_under_tops new x ≡ true) ⊎ IsIn x more) [
     | inl i ↦ inr (in_more x (inl i))
-    | inr i ↦ inl (subst (λ (z : Node). is_below new z ≡ true) (sym (only_item i)) n_below)
+    | inr i ↦ inl (subst (λ (z : Node). is_under_tops new z ≡ true) (sym (only_item i)) n_below)
   ]
 
-  leads_below : (x : Node) → (is_below old x ≡ true) ⊎ ((is_below old x ≡ false) × (at_or_after x n ≡ true)) → LeadsTo pairs x y
+  leads_below : (x : Node) → (is_under_tops old x ≡ true) ⊎ ((is_under_tops old x ≡ false) × (at_or_after x n ≡ true)) → ReachesAlong pairs x y
   leads_below x (inl h) = g.below x h
   leads_below x (inr h) = after_leads pairs x n y (after_true x n h.1) n_leads
 
-  leads_by : (x : Node) → (p : OrderPair) × IsIn p pairs × (is_reached (old n.strand) n p ≡ true) × (p.earlier ≡ x) → LeadsTo pairs x y
+  leads_by : (x : Node) → (p : OrderPair) × IsIn p pairs × (is_reached (old n.strand) n p ≡ true) × (p.earlier ≡ x) → ReachesAlong pairs x y
   leads_by x h =
       let before : at_or_after h.0.later n ≡ true = (and_parts (at_or_after h.0.later n) (not (is_within (old n.strand) h.0.later.index)) h.2).0 in
-      subst (λ (z : Node). LeadsTo pairs z y) h.3 (over_pair h.1 (refl, omega arith) (after_leads pairs h.0.later n y (after_true h.0.later n before) n_leads))
+      subst (λ (z : Node). ReachesAlong pairs z y) h.3 (over_pair h.1 (refl, omega arith) (after_leads pairs h.0.later n y (after_true h.0.later n before) n_leads))
 
-  leads_more : (x : Node) → IsIn x more → LeadsTo pairs x y
-  leads_more x m = elim (in_append rest (reached (old n.strand) n pairs) (subst (IsIn x) t.added m)) as (λ _. LeadsTo pairs x y) [
+  leads_more : (x : Node) → IsIn x more → ReachesAlong pairs x y
+  leads_more x m = elim (in_append rest (reached (old n.strand) n pairs) (subst (IsIn x) t.added m)) as (λ _. ReachesAlong pairs x y) [
     | inl i ↦ g.to_take x (in_append_left (n ∷ []) i)
     | inr i ↦ leads_by x (reached_by (old n.strand) n x pairs i)
   ]
 
-  is_reached_new : (p : OrderPair) → is_below old p.later ≡ false → at_or_after p.later n ≡ true → is_reached (old n.strand) n p ≡ true
+  is_reached_new : (p : OrderPair) → is_under_tops old p.later ≡ false → at_or_after p.later n ≡ true → is_reached (old n.strand) n p ≡ true
   is_reached_new p f e = and_from (at_or_after p.later n) (not (is_within (old n.strand) p.later.index)) e
       (not_from_false (is_within (old n.strand) p.later.index) (subst (λ s. is_within (old s) p.later.index ≡ false) (after_true p.later n e).0 f))
 
-  closed_new : (p : OrderPair) → IsIn p pairs → (is_below old p.later ≡ true) ⊎ ((is_below old p.later ≡ false) × (at_or_after p.later n ≡ true)) → (is_below new p.earlier ≡ true) ⊎ IsIn p.earlier more
+  closed_new : (p : OrderPair) → IsIn p pairs → (is_under_tops old p.later ≡ true) ⊎ ((is_under_tops old p.later ≡ false) × (at_or_after p.later n ≡ true)) → (is_under_tops new p.earlier ≡ true) ⊎ IsIn p.earlier more
   closed_new p m (inl h) = below_or_more p.earlier (g.closed p m h)
   closed_new p m (inr h) = inr (in_more p.earlier (inr (listed (old n.strand) n pairs p m (is_reached_new p h.0 h.1))))
 
-  cases_of : (x : Node) → is_below new x ≡ true → (is_below old x ≡ true) ⊎ ((is_below old x ≡ false) × (at_or_after x n ≡ true))
-  cases_of x h = either_first (is_below old x) (at_or_after x n) (is_below new x) (t.raised x) h
+  cases_of : (x : Node) → is_under_tops new x ≡ true → (is_under_tops old x ≡ true) ⊎ ((is_under_tops old x ≡ false) × (at_or_after x n ≡ true))
+  cases_of x h = either_first (is_under_tops old x) (at_or_after x n) (is_under_tops new x) (t.raised x) h
 
   gathered_new : IsGathered pairs y new more
   gathered_new = record {
@@ -148,18 +148,18 @@ and_alike : (c b d : Bool) → (c ≡ true → b ≡ d) → (c && not b) ≡ (c 
 and_alike true b d h = ap not (h refl)
 and_alike false b d h = refl
 
-waits : (n : Node) (old new : Tops) → ((x : Node) → is_below new x ≡ (is_below old x || at_or_after x n)) → (ps : List OrderPair) → waiting new ps + length (reached (old n.strand) n ps) ≡ waiting old ps
+waits : (n : Node) (old new : Tops) → ((x : Node) → is_under_tops new x ≡ (is_under_tops old x || at_or_after x n)) → (ps : List OrderPair) → waiting new ps + length (reached (old n.strand) n ps) ≡ waiting old ps
 waits n old new raised [] = refl
 waits n old new raised (p ∷ ps) =
     let w = waiting new ps in
     let xs = reached (old n.strand) n ps in
-    let alike : is_reached (old n.strand) n p ≡ (at_or_after p.later n && not (is_below old p.later)) =
-    and_alike (at_or_after p.later n) (is_within (old n.strand) p.later.index) (is_below old p.later)
+    let alike : is_reached (old n.strand) n p ≡ (at_or_after p.later n && not (is_under_tops old p.later)) =
+    and_alike (at_or_after p.later n) (is_within (old n.strand) p.later.index) (is_under_tops old p.later)
     (λ e. ap (λ s. is_within (old s) p.later.index) (sym (after_true p.later n e).0)) in
     ap₂ (λ d r. (if d then w else suc w) + length (if r then p.earlier ∷ xs else xs)) (raised p.later) alike
-    ∙ count_one (is_below old p.later) (at_or_after p.later n) w (waiting old ps) p.earlier xs (waits n old new raised ps)
+    ∙ count_one (is_under_tops old p.later) (at_or_after p.later n) w (waiting old ps) p.earlier xs (waits n old new raised ps)
 
-waits_less : (pairs : List OrderPair) (n : Node) (old new : Tops) (rest more : List Node) → Takes pairs n old new rest more →
+waits_less : (pairs : List OrderPair) (n : Node) (old new : Tops) (rest more : List Node) → TakesNode pairs n old new rest more →
     waiting new pairs + length more < waiting old pairs + length (rest ++ n ∷ [])
 waits_less pairs n old new rest more t =
     let added : length more ≡ length rest + length (reached (old n.strand) n pairs) = ap length t.added ∙ length-append rest (reached (old n.strand) n pairs) in
@@ -170,18 +170,18 @@ waits_less pairs n old new rest more t =
 pub gathered_first : (pairs : List OrderPair) (y : Node) (tops : Tops) (work : List Node) → ((s : ℕ) → tops s ≡ None) → work ≡ y ∷ [] → IsGathered pairs y tops work
 gathered_first pairs y tops work e w = record {
   below = λ x h. absurd (not_below x h);
-  to_take = λ x i. subst (λ (z : Node). LeadsTo pairs z y) (sym (only_item (subst (IsIn x) w i))) (on_strand (refl, omega arith));
+  to_take = λ x i. subst (λ (z : Node). ReachesAlong pairs z y) (sym (only_item (subst (IsIn x) w i))) (on_strand (refl, omega arith));
   target = inr (subst (IsIn y) (sym w) here);
   closed = λ p i h. absurd (not_below p.later h);
 }
   where
-    none_below : (x : Node) → is_below tops x ≡ false
+    none_below : (x : Node) → is_under_tops tops x ≡ false
     none_below x = ap (λ top. is_within top x.index) (e x.strand)
 
-    not_below : (x : Node) → is_below tops x ≡ true → ⊥
-    not_below x h = let f : is_below tops x ≡ false = none_below x in cc
+    not_below : (x : Node) → is_under_tops tops x ≡ true → ⊥
+    not_below x h = let f : is_under_tops tops x ≡ false = none_below x in cc
 
-module _ (pairs : List OrderPair) (y n : Node) (old new : Tops) (work rest more : List Node) (popped : work ≡ rest ++ n ∷ []) (t : Takes pairs n old new rest more) where
+module _ (pairs : List OrderPair) (y n : Node) (old new : Tops) (work rest more : List Node) (popped : work ≡ rest ++ n ∷ []) (t : TakesNode pairs n old new rest more) where
   pub gathered_next : IsGathered pairs y old work → IsGathered pairs y new more
   gathered_next g = gathered_new pairs y n old new rest more (subst (IsGathered pairs y old) popped g) t
 
@@ -193,7 +193,7 @@ module _ (pairs : List OrderPair) (y : Node) (tops : Tops) (g : IsGathered pairs
   no_more (inl h) = h
   no_more (inr m) = elim m [ ]
 
-  all_below : (x z : Node) → LeadsTo pairs x z → is_below tops z ≡ true → is_below tops x ≡ true
+  all_below : (x z : Node) → ReachesAlong pairs x z → is_under_tops tops z ≡ true → is_under_tops tops x ≡ true
   all_below x z (on_strand a) h = below_lower tops x z a h
   all_below x z (over_pair {p} m a l) h = below_lower tops x p.earlier a (no_more (g.closed p m (all_below p.later z l h)))
 

@@ -6,10 +6,10 @@ use Rattle.cp_lists.specs.Lists.{IsIn, here, there}
 use Rattle.cp_lists.proofs.Members.{at_head, in_append_left, in_append_right, in_append, in_pushed}
 use Rattle.cp_model.specs.declared.node.Node.{Node}
 use Rattle.cp_model.specs.declared.node.OrderPair.{OrderPair}
-use Rattle.cp_model.specs.Order.{IsAtOrAfter, LeadsTo}
-use Rattle.cp_model.specs.OrderTests.{at_or_after, any_pair, reaches}
+use Rattle.cp_model.specs.Order.{IsAtOrAfter, ReachesAlong}
+use Rattle.cp_model.specs.OrderTests.{at_or_after, any_pair, reaches_within}
 use Rattle.cp_order.specs.Closed.{IsComposedOf, KeepsOrder, IsClosureOf}
-use Rattle.cp_order.specs.Composed.{all_joined, pairs_from, pairs_to, composed}
+use Rattle.cp_order.specs.Composed.{all_joined, composed_from, pairs_to, composed_pairs}
 use Rattle.cp_model.proofs.BoundedSearch.{bounded_search}
 use Rattle.cp_order.proofs.AlongPairs.{each_led, pair_led, leads_within_more}
 use Rattle.cp_order.proofs.ComposedPairs.{joined-append}
@@ -17,9 +17,9 @@ use Rattle.cp_order.proofs.ComposedPairs.{joined-append}
 -- ---- the search along so many pairs
 
 abbrev leads_on : ℕ → List OrderPair → Node → Node → OrderPair → Bool
-leads_on n pairs x y p = at_or_after x p.earlier && reaches n pairs p.later y
+leads_on n pairs x y p = at_or_after x p.earlier && reaches_within n pairs p.later y
 
-within_step : (n : ℕ) (pairs : List OrderPair) (x y : Node) → (n ≡ 0 → ⊥) → at_or_after x y ≡ false → reaches n pairs x y ≡ any_pair (leads_on (n - 1) pairs x y) pairs
+within_step : (n : ℕ) (pairs : List OrderPair) (x y : Node) → (n ≡ 0 → ⊥) → at_or_after x y ≡ false → reaches_within n pairs x y ≡ any_pair (leads_on (n - 1) pairs x y) pairs
 within_step zero pairs x y h e = absurd (h refl)
 within_step (suc n) pairs x y h e =
     let m : n ≡ suc n - 1 = omega arith in
@@ -32,43 +32,43 @@ module _ (n k : ℕ) (ps : List OrderPair) (x y : Node) (more : n ≡ 0 → ⊥)
   first_passes : (p : OrderPair) (qs rest : List OrderPair) → qs ≡ p ∷ rest → test p ≡ true → any_pair test qs ≡ true
   first_passes p qs rest e h = ap (any_pair test) e ∙ ap (λ b. b || any_pair test rest) h
 
-  pub within_found : (d : OrderPair) → k < length ps → at_or_after x (get_or ps k d).earlier ≡ true → reaches (n - 1) ps (get_or ps k d).later y ≡ true → true ≡ reaches n ps x y
+  pub within_found : (d : OrderPair) → k < length ps → at_or_after x (get_or ps k d).earlier ≡ true → reaches_within (n - 1) ps (get_or ps k d).later y ≡ true → true ≡ reaches_within n ps x y
   within_found d l f g =
       let p = (get_or ps k d) in
-      let passes : test p ≡ true = and_from (at_or_after x p.earlier) (reaches (n - 1) ps p.later y) f g in
+      let passes : test p ≡ true = and_from (at_or_after x p.earlier) (reaches_within (n - 1) ps p.later y) f g in
       sym (within_step n ps x y more other ∙ sym loop ∙ first_passes p (drop k ps) (drop (k + 1) ps) (drop_more ps k d l) passes)
 
-  pub within_none : length ps ≤ k → false ≡ reaches n ps x y
+  pub within_none : length ps ≤ k → false ≡ reaches_within n ps x y
   within_none l = sym (within_step n ps x y more other ∙ sym loop ∙ ap (any_pair test) (drop_all k ps l))
 
--- ---- questions to an order
+-- ---- what an order tells
 
-pub asked_open : (ps self : List OrderPair) (x y : Node) (b : Bool) → ps ≡ self → (n : ℕ) → n ≡ length ps → b ≡ reaches n ps x y → (b ≡ true) ↔ LeadsTo self x y
+pub asked_open : (ps self : List OrderPair) (x y : Node) (b : Bool) → ps ≡ self → (n : ℕ) → n ≡ length ps → b ≡ reaches_within n ps x y → (b ≡ true) ↔ ReachesAlong self x y
 asked_open ps self x y b same n l e =
     let h = bounded_search n ps x y l in
-    subst (λ (qs : List OrderPair). (b ≡ true) ↔ LeadsTo qs x y) same (λ t. h.0 (sym e ∙ t), λ l. e ∙ h.1 l)
+    subst (λ (qs : List OrderPair). (b ≡ true) ↔ ReachesAlong qs x y) same (λ t. h.0 (sym e ∙ t), λ l. e ∙ h.1 l)
 
--- what leads where by pairs is found along their closed pairs
-pub asked_closure : (self closed seen : List OrderPair) (x y : Node) (b : Bool) → IsClosureOf self closed → seen ≡ closed → (b ≡ true) ↔ LeadsTo seen x y → (b ≡ true) ↔ LeadsTo self x y
+-- what reaches what by pairs is found along their closed pairs
+pub asked_closure : (self closed seen : List OrderPair) (x y : Node) (b : Bool) → IsClosureOf self closed → seen ≡ closed → (b ≡ true) ↔ ReachesAlong seen x y → (b ≡ true) ↔ ReachesAlong self x y
 asked_closure self closed seen x y b h same found =
-    let moved : (b ≡ true) ↔ LeadsTo closed x y = subst (λ (ps : List OrderPair). (b ≡ true) ↔ LeadsTo ps x y) same found in
+    let moved : (b ≡ true) ↔ ReachesAlong closed x y = subst (λ (ps : List OrderPair). (b ≡ true) ↔ ReachesAlong ps x y) same found in
     (λ t. (h.keeps.leads x y).0 (moved.0 t), λ l. moved.1 ((h.keeps.leads x y).1 l))
 
 -- ---- what a pair makes with those before it
 
-pub to_next : (pairs : List OrderPair) (p q : OrderPair) (qs rest old new whole : List OrderPair) → qs ≡ q ∷ rest → at_or_after q.later p.earlier ≡ true → new ≡ all_joined old (pairs_from pairs q.earlier p.later)
+pub to_next : (pairs : List OrderPair) (p q : OrderPair) (qs rest old new whole : List OrderPair) → qs ≡ q ∷ rest → at_or_after q.later p.earlier ≡ true → new ≡ all_joined old (composed_from pairs q.earlier p.later)
     → all_joined old (pairs_to pairs p qs) ≡ whole → all_joined new (pairs_to pairs p rest) ≡ whole
 to_next pairs p q qs rest old new whole e t n h =
-    let front = pairs_from pairs q.earlier p.later in
+    let front = composed_from pairs q.earlier p.later in
     let back = pairs_to pairs p rest in
     ap (λ ps. all_joined ps back) n ∙ joined-append old front back ∙ sym (ap (λ b. all_joined old (if b then front ++ back else back)) t)
     ∙ sym (ap (λ ps. all_joined old (pairs_to pairs p ps)) e) ∙ h
 
-pub to_end : (pairs : List OrderPair) (p : OrderPair) (rest start first last : List OrderPair) → rest ≡ [] → start ≡ pairs → first ≡ all_joined start (pairs_from pairs p.earlier p.later)
-    → all_joined last (pairs_to pairs p rest) ≡ all_joined first (pairs_to pairs p pairs) → last ≡ all_joined pairs (composed pairs p)
+pub to_end : (pairs : List OrderPair) (p : OrderPair) (rest start first last : List OrderPair) → rest ≡ [] → start ≡ pairs → first ≡ all_joined start (composed_from pairs p.earlier p.later)
+    → all_joined last (pairs_to pairs p rest) ≡ all_joined first (pairs_to pairs p pairs) → last ≡ all_joined pairs (composed_pairs pairs p)
 to_end pairs p rest start first last e s f h =
-    sym (ap (λ ps. all_joined last (pairs_to pairs p ps)) e) ∙ h ∙ ap (λ ps. all_joined ps (pairs_to pairs p pairs)) (f ∙ ap (λ ps. all_joined ps (pairs_from pairs p.earlier p.later)) s)
-    ∙ joined-append pairs (pairs_from pairs p.earlier p.later) (pairs_to pairs p pairs)
+    sym (ap (λ ps. all_joined last (pairs_to pairs p ps)) e) ∙ h ∙ ap (λ ps. all_joined ps (pairs_to pairs p pairs)) (f ∙ ap (λ ps. all_joined ps (composed_from pairs p.earlier p.later)) s)
+    ∙ joined-append pairs (composed_from pairs p.earlier p.later) (pairs_to pairs p pairs)
 
 -- ---- orders that are kept
 
@@ -103,11 +103,11 @@ module _ (q : OrderPair) (old new rest : List OrderPair) (keeps : KeepsOrder (q 
   within o here = in_append_right old here
   within o (there m) = in_append_left (q ∷ rest) m
 
-  new_led : (o : OrderPair) → IsIn o new ⊎ IsIn o rest → LeadsTo (old ++ (q ∷ rest)) o.earlier o.later
+  new_led : (o : OrderPair) → IsIn o new ⊎ IsIn o rest → ReachesAlong (old ++ (q ∷ rest)) o.earlier o.later
   new_led o (inl m) = leads_within_more (q ∷ old) (old ++ (q ∷ rest)) within o.earlier o.later ((keeps.leads o.earlier o.later).0 (pair_led new o m))
   new_led o (inr m) = pair_led (old ++ (q ∷ rest)) o (in_append_right old (there m))
 
-  taken : (o : OrderPair) → IsIn o (q ∷ old) → LeadsTo (new ++ rest) o.earlier o.later
+  taken : (o : OrderPair) → IsIn o (q ∷ old) → ReachesAlong (new ++ rest) o.earlier o.later
   taken o m = leads_within_more new (new ++ rest) (λ p i. in_append_left rest i) o.earlier o.later ((keeps.leads o.earlier o.later).1 (pair_led (q ∷ old) o m))
 
   first_or_rest : (o : OrderPair) → IsIn o (q ∷ rest) → IsIn o (q ∷ old) ⊎ IsIn o rest
@@ -118,7 +118,7 @@ module _ (q : OrderPair) (old new rest : List OrderPair) (keeps : KeepsOrder (q 
   old_or_rest o (inl m) = inl (there m)
   old_or_rest o (inr m) = first_or_rest o m
 
-  old_led : (o : OrderPair) → IsIn o (q ∷ old) ⊎ IsIn o rest → LeadsTo (new ++ rest) o.earlier o.later
+  old_led : (o : OrderPair) → IsIn o (q ∷ old) ⊎ IsIn o rest → ReachesAlong (new ++ rest) o.earlier o.later
   old_led o (inl m) = taken o m
   old_led o (inr m) = pair_led (new ++ rest) o (in_append_right new m)
 
@@ -168,11 +168,11 @@ keeps_under q ps qs h = record {
   composed = made;
 }
   where
-    back : (p : OrderPair) → IsIn p (q ∷ qs) → LeadsTo (q ∷ ps) p.earlier p.later
+    back : (p : OrderPair) → IsIn p (q ∷ qs) → ReachesAlong (q ∷ ps) p.earlier p.later
     back p here = pair_led (q ∷ ps) q here
     back p (there m) = leads_within_more ps (q ∷ ps) (λ o i. there i) p.earlier p.later ((h.leads p.earlier p.later).0 (pair_led qs p m))
 
-    on : (p : OrderPair) → IsIn p (q ∷ ps) → LeadsTo (q ∷ qs) p.earlier p.later
+    on : (p : OrderPair) → IsIn p (q ∷ ps) → ReachesAlong (q ∷ qs) p.earlier p.later
     on p here = pair_led (q ∷ qs) q here
     on p (there m) = leads_within_more qs (q ∷ qs) (λ o i. there i) p.earlier p.later ((h.leads p.earlier p.later).1 (pair_led ps p m))
 

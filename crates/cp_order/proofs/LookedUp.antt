@@ -1,4 +1,4 @@
--- What leads to which node along one of closed pairs: what is found in rows, and rows as they are made.
+-- What reaches which node along one of closed pairs: what is found in rows, and rows as they are made.
 use Rattle.std.proofs.Common.{if◌then◌else◌, ◌≡◌, ◌↔◌, ◌⊎◌, inl, inr, ℕ, suc, ◌+◌, ◌-◌, ◌<◌, ◌≤◌, List, [], ◌∷◌, ◌++◌, length, get_or, map, drop, Bool, true, false, ◌&&◌, ◌||◌, refl, sym, ap, ◌∙◌, subst, arith, le-leb, eqb-true}
 use Rattle.std.specs.Prelude.{◌==◌, nat_le, nat_eq, Option, Some, None, is_some, cond, slice_get}
 use Rattle.std.proofs.lemmas.Bool.Decides.{nat_tests}
@@ -11,16 +11,16 @@ use Rattle.cp_lists.proofs.Members.{into_filter, next_or_rest, none_left}
 use Rattle.cp_lists.proofs.Items.{item_below, item_there, item_of_push, map_of_item, slice_get_item}
 use Rattle.cp_model.specs.declared.node.Node.{Node}
 use Rattle.cp_model.specs.declared.node.OrderPair.{OrderPair}
-use Rattle.cp_model.specs.Order.{LeadsTo, on_strand}
+use Rattle.cp_model.specs.Order.{ReachesAlong, on_strand}
 use Rattle.cp_model.specs.OrderTests.{at_or_after, any_pair}
-use Rattle.cp_order.specs.LeadingNodes.{Tops}
-use Rattle.cp_order.specs.Closed.{IsClosed}
+use Rattle.cp_order.specs.PredecessorNodes.{Tops}
+use Rattle.cp_order.specs.Closed.{IsTransitive}
 use Rattle.cp_order.specs.Composed.{is_between, leads_along_one}
 use Rattle.cp_order.specs.Rows.{AreTopsAlongOne, AreRows, AreRowsOn, AreRowsOf, AreRowsSoFar, shown, is_in_last, is_in_row, is_in_rows, ends_at, ends_on}
 use Rattle.cp_model.proofs.BoundedSearch.{after_true, none_in}
 use Rattle.cp_order.proofs.AlongPairs.{closed_search}
 
--- ---- pairs that lead on alike
+-- ---- pairs that reach alike
 
 some_alike : (f g : OrderPair → Bool) (ps : List OrderPair) → ((p : OrderPair) → IsIn p ps → f p ≡ g p) → any_pair f ps ≡ any_pair g ps
 some_alike f g [] h = refl
@@ -91,27 +91,27 @@ module _ (pairs : List OrderPair) (s : ℕ) where
     found : (i : ℕ) → is_in_rows rows i x ≡ any_pair (is_between x (at i)) pairs
     found i = found_row i (item_at rows i) refl
 
-module _ (pairs self : List OrderPair) (rows : ℕ → List Tops) (x y : Node) (is : pairs ≡ self) (closed : IsClosed pairs) (r : AreRowsOf pairs rows) where
+module _ (pairs self : List OrderPair) (rows : ℕ → List Tops) (x y : Node) (is : pairs ≡ self) (closed : IsTransitive pairs) (r : AreRowsOf pairs rows) where
   abbrev Answers : Bool → Type 0
-  Answers b = (b ≡ true) ↔ LeadsTo self x y
+  Answers b = (b ≡ true) ↔ ReachesAlong self x y
 
   asked : (b : Bool) → b ≡ (at_or_after x y || is_in_rows (rows y.strand) y.index x) → Answers b
   asked b e =
       let same : b ≡ leads_along_one pairs x y = e ∙ ap (λ c. at_or_after x y || c) (found pairs y.strand (rows y.strand) (r y.strand) x y.index) in
       let h = closed_search pairs x y closed in
-      subst (λ (ps : List OrderPair). (b ≡ true) ↔ LeadsTo ps x y) is (λ t. h.0 (sym same ∙ t), λ l. same ∙ h.1 l)
+      subst (λ (ps : List OrderPair). (b ≡ true) ↔ ReachesAlong ps x y) is (λ t. h.0 (sym same ∙ t), λ l. same ∙ h.1 l)
 
   pub asked_in_rows : (found_rows : List Tops) (b : Bool) → at_or_after x y ≡ false → rows y.strand ≡ found_rows → b ≡ is_in_rows found_rows y.index x → Answers b
   asked_in_rows found_rows b h same e =
       asked b (e ∙ sym (ap (λ rs. is_in_rows rs y.index x) same) ∙ sym (ap (λ c. c || is_in_rows (rows y.strand) y.index x) h))
 
-pub asked_on_strand : (self : List OrderPair) (x y : Node) → at_or_after x y ≡ true → (true ≡ true) ↔ LeadsTo self x y
+pub asked_on_strand : (self : List OrderPair) (x y : Node) → at_or_after x y ≡ true → (true ≡ true) ↔ ReachesAlong self x y
 asked_on_strand self x y h = (λ _. on_strand (after_true x y h), λ _. refl)
 
 -- ---- rows as they are made
 
 module _ (pairs : List OrderPair) (s : ℕ) where
-  -- where no pair ends at the next node, what leads to it is what leads to the one before it
+  -- where no pair ends at the next node, what reaches it is what reaches the one before it
   shared_row : (rows : List Tops) (tops : Tops) → AreRows pairs s rows → item_at rows (length rows - 1) ≡ Some tops → any_pair (ends_at (at pairs s (length rows))) pairs ≡ false → AreTopsAlongOne pairs (at pairs s (length rows)) tops
   shared_row rows tops r e none x =
       let n = length rows in

@@ -12,8 +12,8 @@ use Rattle.cp_lists.proofs.Permuted.{in_permuted}
 use Rattle.cp_model.specs.declared.node.Node.{Node}
 use Rattle.cp_model.specs.declared.node.OrderPair.{OrderPair}
 use Rattle.cp_model.specs.OrderTests.{at_or_after}
-use Rattle.cp_order.specs.LeadingNodes.{is_within, is_reached, reached, Tops, AreTops}
-use Rattle.cp_order.specs.Sorted.{comes_before, AreSorted, is_passed, first_nodes}
+use Rattle.cp_order.specs.PredecessorNodes.{is_within, is_reached, reached, Tops, AreTops}
+use Rattle.cp_order.specs.Sorted.{node_before, AreSorted, is_passed, first_nodes}
 use Rattle.cp_order.proofs.AlongPairs.{leads_within_more}
 
 -- ---- tests
@@ -36,7 +36,7 @@ passed_none s t j u k g h = grind (arith, nat_tests)
 passed_some : (s t j u k n : ℕ) → (nat_lt u t || ((u == t) && nat_lt k j)) ≡ false → (nat_lt u s || ((u == s) && nat_le k n)) ≡ true → (nat_lt t s || ((t == s) && nat_le j n)) ≡ true
 passed_some s t j u k n g h = grind (arith, nat_tests)
 
-passed_before : (top : Option ℕ) (s : ℕ) (x y : Node) → comes_before y x ≡ false → is_passed top s y ≡ true → is_passed top s x ≡ true
+passed_before : (top : Option ℕ) (s : ℕ) (x y : Node) → node_before y x ≡ false → is_passed top s y ≡ true → is_passed top s x ≡ true
 passed_before None s x y g h = passed_none s x.strand x.index y.strand y.index g h
 passed_before (Some n) s x y g h = passed_some s x.strand x.index y.strand y.index n g h
 
@@ -69,7 +69,7 @@ module _ (top : Option ℕ) (n : Node) where
   first_together [] up h = refl
   first_together (p ∷ ps) up h =
       let first : passed p ≡ false = h 0 p (omega arith) in
-      let later : (i : ℕ) (d : OrderPair) → i < length ps → comes_before (get_or ps i d).later p.later ≡ false = λ i d l. up 0 (suc i) d (omega arith) (omega (arith, l)) in
+      let later : (i : ℕ) (d : OrderPair) → i < length ps → node_before (get_or ps i d).later p.later ≡ false = λ i d l. up 0 (suc i) d (omega arith) (omega (arith, l)) in
       chosen p (at_or_after p.later n) (reached top n ps) (first_nodes n ps) first refl
       (λ e. first_together ps (λ i j d l m. up (suc i) (suc j) d (omega (arith, l)) (omega (arith, m))) (λ i d l. h (suc i) d (omega (arith, l))))
       (λ e. none_further ps (λ i d l. further_on n.strand n.index p.later.strand p.later.index (get_or ps i d).later.strand (get_or ps i d).later.index (is_within top p.later.index) (later i d l) first e))

@@ -1,4 +1,4 @@
-pub mod LeadingNodes
+pub mod PredecessorNodes
 pub mod Sorted
 pub mod Closed
 pub mod Composed

@@ -1,17 +1,17 @@
--- What leads to which node along one of some pairs, to be looked up.
+-- What reaches which node along one of some pairs, to be looked up.
 use Rattle.std.specs.Prelude.{◌≡◌, ◌⊎◌, ◌==◌, ◌&&◌, ◌<◌, ◌-◌, nat_eq, ℕ, List, [], length, Bool, true, false, Option, Some, None, is_some}
 use Rattle.std.specs.HashMap.{HashMap, get}
 use Rattle.cp_lists.specs.Lists.{IsIn, item_at}
 use Rattle.cp_model.specs.declared.node.Node.{Node}
 use Rattle.cp_model.specs.declared.node.OrderPair.{OrderPair}
 use Rattle.cp_model.specs.OrderTests.{any_pair}
-use Rattle.cp_order.specs.LeadingNodes.{Tops, is_below}
+use Rattle.cp_order.specs.PredecessorNodes.{Tops, is_under_tops}
 use Rattle.cp_order.specs.Composed.{is_between}
 
 -- The nodes at the tops and below them are those from which, or from a node after them, a pair leads to the node y, or
 -- to a node before it.
 abbrev pub AreTopsAlongOne : List OrderPair → Node → Tops → Type 0
-AreTopsAlongOne pairs y tops = (x : Node) → is_below tops x ≡ any_pair (is_between x y) pairs
+AreTopsAlongOne pairs y tops = (x : Node) → is_under_tops tops x ≡ any_pair (is_between x y) pairs
 
 -- For each of the first indices of the strand the tops are those of its node.
 abbrev pub AreRows : List OrderPair → ℕ → List Tops → Type 0
@@ -48,11 +48,11 @@ pub record AreRowsSoFar {V : Type 0} (pairs left : List OrderPair) (rows : ℕ �
 -- The node is at these tops or below, if there are any.
 abbrev pub is_in_last : Option Tops → Node → Bool
 is_in_last None x = false
-is_in_last (Some tops) x = is_below tops x
+is_in_last (Some tops) x = is_under_tops tops x
 
 -- The node is at these tops or below, or at the last ones where these are not there.
 abbrev pub is_in_row : Option Tops → Option Tops → Node → Bool
-is_in_row (Some tops) last x = is_below tops x
+is_in_row (Some tops) last x = is_under_tops tops x
 is_in_row None last x = is_in_last last x
 
 -- The node is at the tops for the index or below; past the end the last ones hold.

@@ -4,14 +4,14 @@ use Rattle.cp_model.specs.declared.node.Node.{Node}
 use Rattle.cp_model.specs.declared.node.OrderPair.{OrderPair}
 use Rattle.cp_model.specs.declared.node.OrderPair as program
 use Rattle.cp_model.specs.OrderTests.{at_or_after}
-use Rattle.cp_order.specs.LeadingNodes.{is_within}
+use Rattle.cp_order.specs.PredecessorNodes.{is_within}
 
 -- By strand, and then by index.
-abbrev pub comes_before : Node → Node → Bool
-comes_before x y = nat_lt x.strand y.strand || ((x.strand == y.strand) && nat_lt x.index y.index)
+abbrev pub node_before : Node → Node → Bool
+node_before x y = nat_lt x.strand y.strand || ((x.strand == y.strand) && nat_lt x.index y.index)
 
 abbrev pub AreSorted : List program.OrderPair → Type 0
-AreSorted ps = (i j : ℕ) (d : program.OrderPair) → i ≤ j → j < length ps → comes_before (slice_index_or ps j d).later (slice_index_or ps i d).later ≡ false
+AreSorted ps = (i j : ℕ) (d : program.OrderPair) → i ≤ j → j < length ps → node_before (slice_index_or ps j d).later (slice_index_or ps i d).later ≡ false
 
 -- The node is on a strand before this one, or on this one at its top or below.
 abbrev pub is_passed : Option ℕ → ℕ → Node → Bool

@@ -1,16 +1,16 @@
-// Closed pairs, and what leads to each node along them, for look-ups.
+// Closed pairs, and what reaches each node along them, for look-ups.
 ghost use Rattle.std.specs.Prelude.{◌≡◌, ◌≤◌, ◌↔◌, ◌∷◌, length, map, IsTrue, IfOk};
 ghost use Rattle.std.specs.List.{filter};
 ghost use Rattle.cp_lists.specs.Lists.{IsIn};
 ghost use Rattle.cp_model.specs.declared.node.OrderPair.{OrderPair};
-ghost use Rattle.cp_model.specs.Order.{LeadsTo};
+ghost use Rattle.cp_model.specs.Order.{ReachesAlong};
 ghost use Rattle.cp_model.specs.OrderTests.{any_pair};
-ghost use Rattle.cp_order.specs.Closed.{IsClosed, IsClosureOf};
-ghost use Rattle.cp_order.specs.LeadingNodes.{tops_of};
+ghost use Rattle.cp_order.specs.Closed.{IsTransitive, IsClosureOf};
+ghost use Rattle.cp_order.specs.PredecessorNodes.{tops_of};
 ghost use Rattle.cp_order.specs.Rows.{AreTopsAlongOne, AreRows, AreRowsOn, AreRowsOf, rows_by, is_in_rows, ends_at, ends_on};
 
 use crate::closure::{closed_pairs, with_pair};
-use crate::leading_nodes::is_at_or_before;
+use crate::predecessors::is_at_or_before;
 use crate::tops::{is_below, raise};
 use cp_model::{Node, OrderPair};
 use std::alloc::{AllocError, Global};
@@ -18,7 +18,7 @@ use std::collections::HashMap;
 use std::marker::Model;
 use std::rc::Rc;
 
-/// Closed pairs, and for each node of the strands on which they end what leads there along one of them.
+/// Closed pairs, and for each node of the strands on which they end what reaches it along one of them.
 #[derive(Drop)]
 pub(crate) struct ClosedPairs {
     pairs: Vec<OrderPair>,
@@ -35,16 +35,16 @@ impl Model for ClosedPairs {
     ghost Value = { List Plain };
 
     ghost use Rattle.std.specs.Prelude.{map};
-    ghost use Rattle.cp_order.specs.Closed.{IsClosed};
-    ghost use Rattle.cp_order.specs.LeadingNodes.{tops_of};
+    ghost use Rattle.cp_order.specs.Closed.{IsTransitive};
+    ghost use Rattle.cp_order.specs.PredecessorNodes.{tops_of};
     ghost use Rattle.cp_order.specs.Rows.{AreRowsOf, rows_by};
 
     ghost view = { λ c. c.pairs.items };
 
-    ghost invariant = { λ c. IsClosed c.pairs.items × AreRowsOf c.pairs.items (rows_by c.rows (λ v. map (λ r. tops_of r.value) v.items)) };
+    ghost invariant = { λ c. IsTransitive c.pairs.items × AreRowsOf c.pairs.items (rows_by c.rows (λ v. map (λ r. tops_of r.value) v.items)) };
 }
 
-/// What leads to a node along one of the pairs: for each strand the greatest index of such a node.
+/// What reaches a node along one of the pairs: for each strand the greatest index of such a node.
 fn row_to(
     alloc: Global,
     pairs: &[OrderPair],
@@ -180,7 +180,7 @@ fn is_in_rows(rows: &[Rc<HashMap<usize, usize>>], index: usize, node: Node) -> b
 impl ClosedPairs {
     /// Keeps these pairs, which must be closed.
     fn new(alloc: Global, pairs: Vec<OrderPair>) -> Result<ClosedPairs, AllocError>
-        requires { IsClosed pairs.items }
+        requires { IsTransitive pairs.items }
         ensures { IfOk result (λ c. c ≡ pairs.items) }
     {
         let rows = rows_of(alloc, &pairs)?;
@@ -214,9 +214,9 @@ impl ClosedPairs {
         &self.pairs
     }
 
-    /// Whether x leads to y along strands and the pairs.
-    pub(crate) fn leads_to(&self, x: Node, y: Node) -> bool
-        ensures { IsTrue result ↔ LeadsTo self.now x y }
+    /// Whether x reaches y along strands and the pairs.
+    pub(crate) fn reaches(&self, x: Node, y: Node) -> bool
+        ensures { IsTrue result ↔ ReachesAlong self.now x y }
     {
         if is_at_or_before(x, y) {
             return true;

@@ -1,16 +1,16 @@
-// Closed orders: whatever leads to a node of another strand leads there along one pair.
+// Closed orders: whatever reaches a node of another strand reaches it along one pair.
 ghost use Rattle.std.specs.Prelude.{◌≡◌, ◌∷◌, IfOk, OnOk};
-ghost use Rattle.cp_order.specs.Closed.{IsClosed, KeepsOrder};
-ghost use Rattle.cp_order.specs.Composed.{joined, all_joined, pairs_from, composed};
+ghost use Rattle.cp_order.specs.Closed.{IsTransitive, KeepsOrder};
+ghost use Rattle.cp_order.specs.Composed.{joined_pair, all_joined, composed_from, composed_pairs};
 
-use crate::leading_nodes::is_at_or_before;
-use crate::ways::leads_along_one;
+use crate::paths::leads_along_one;
+use crate::predecessors::is_at_or_before;
 use cp_model::{Node, OrderPair};
 use std::alloc::{AllocError, Global};
 
 /// Appends a pair, unless the others lead from its first node to its second along one pair.
 fn join(pairs: &mut Vec<OrderPair>, pair: OrderPair) -> Result<(), AllocError>
-    ensures { OnOk result (pairs.new.items ≡ joined pairs.old.items pair) }
+    ensures { OnOk result (pairs.new.items ≡ joined_pair pairs.old.items pair) }
 {
     if leads_along_one(pairs, pair.earlier, pair.later) {
         return Ok(());
@@ -26,7 +26,7 @@ fn join_from(
     later: Node,
     pairs: &mut Vec<OrderPair>,
 ) -> Result<(), AllocError>
-    ensures { OnOk result (pairs.new.items ≡ all_joined pairs.old.items (pairs_from closed.now earlier later)) }
+    ensures { OnOk result (pairs.new.items ≡ all_joined pairs.old.items (composed_from closed.now earlier later)) }
 {
     join(pairs, OrderPair { earlier, later })?;
     for next in closed {
@@ -39,13 +39,13 @@ fn join_from(
     Ok(())
 }
 
-/// The closed pairs, and what a pair makes with those that lead to it and those to which it leads.
+/// The closed pairs, and what a pair makes with those that reach it and those that it reaches.
 fn with_composed(
     alloc: Global,
     closed: &[OrderPair],
     pair: OrderPair,
 ) -> Result<Vec<OrderPair>, AllocError>
-    ensures { IfOk result (λ v. v.items ≡ all_joined closed.now (composed closed.now pair)) }
+    ensures { IfOk result (λ v. v.items ≡ all_joined closed.now (composed_pairs closed.now pair)) }
 {
     let mut pairs = Vec::from_slice(alloc, closed)?;
     join_from(closed, pair.earlier, pair.later, &mut pairs)?;
@@ -64,8 +64,8 @@ pub(crate) fn with_pair(
     closed: &[OrderPair],
     pair: OrderPair,
 ) -> Result<Vec<OrderPair>, AllocError>
-    requires { IsClosed closed.now }
-    ensures closed { IfOk result (λ v. IsClosed v.items) }
+    requires { IsTransitive closed.now }
+    ensures closed { IfOk result (λ v. IsTransitive v.items) }
     ensures keeps { IfOk result (λ v. KeepsOrder (pair ∷ closed.now) v.items) }
 {
     let pairs = with_composed(alloc, closed, pair)?;
@@ -74,7 +74,7 @@ pub(crate) fn with_pair(
 
 /// Closed pairs with the same order as these.
 pub(crate) fn closed_pairs(alloc: Global, pairs: &[OrderPair]) -> Result<Vec<OrderPair>, AllocError>
-    ensures closed { IfOk result (λ v. IsClosed v.items) }
+    ensures closed { IfOk result (λ v. IsTransitive v.items) }
     ensures keeps { IfOk result (λ v. KeepsOrder pairs.now v.items) }
 {
     let mut closed = Vec::new(alloc);

@@ -1,15 +1,15 @@
-//! The order of a skeleton's nodes, given by pairs of nodes in addition to the order of each strand: which node leads
-//! to which.
+//! The order of a skeleton's nodes, given by pairs of nodes in addition to the order of each strand: which node
+//! reaches which.
 //!
 //! Every call that returns `AllocError` fails only if memory runs out.
 #![tactic(auto)]
 
 mod closed;
 mod closure;
-mod leading_nodes;
 mod order;
+mod paths;
+mod predecessors;
 mod tops;
-mod ways;
 
-pub use leading_nodes::{Leading, SortedPairs};
 pub use order::Order;
+pub use predecessors::{Predecessors, SortedPairs};

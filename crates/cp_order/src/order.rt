@@ -1,11 +1,11 @@
 // Orders of nodes, given by pairs of nodes in addition to the order of each strand.
 ghost use Rattle.std.specs.Prelude.{◌≡◌, ◌↔◌, ◌∷◌, ◌++◌, [], IsTrue, IfOk, OnOk, OnErr, IfSome};
 ghost use Rattle.cp_model.specs.declared.node.Node.{Node as PlainNode};
-ghost use Rattle.cp_model.specs.Order.{LeadsTo};
-ghost use Rattle.cp_order.specs.Closed.{IsClosed, KeepsOrder, IsClosureOf};
+ghost use Rattle.cp_model.specs.Order.{ReachesAlong};
+ghost use Rattle.cp_order.specs.Closed.{IsTransitive, KeepsOrder, IsClosureOf};
 
 use crate::closed::ClosedPairs;
-use crate::ways::leads_within;
+use crate::paths::leads_within;
 use cp_model::{Node, OrderPair};
 use std::alloc::{AllocError, Global};
 use std::marker::Model;
@@ -69,13 +69,13 @@ impl Order {
         &self.pairs
     }
 
-    /// Whether x leads to y along strands and pairs. In an order that was closed this is looked up; otherwise it is
+    /// Whether x reaches y along strands and pairs. In an order that was closed this is looked up; otherwise it is
     /// searched for.
-    pub fn leads_to(&self, x: Node, y: Node) -> bool
-        ensures { IsTrue result ↔ LeadsTo self.now x y }
+    pub fn reaches(&self, x: Node, y: Node) -> bool
+        ensures { IsTrue result ↔ ReachesAlong self.now x y }
     {
         match &self.closure {
-            Some(closed) => closed.leads_to(x, y),
+            Some(closed) => closed.reaches(x, y),
             None => leads_within(&self.pairs, self.pairs.len(), x, y),
         }
     }
@@ -93,12 +93,12 @@ impl Order {
         Ok(closed)
     }
 
-    /// Closes the order: its pairs become closed ones. What leads where stays the same, and is looked up from now on.
+    /// Closes the order: its pairs become closed ones. What reaches what stays the same, and is looked up from now on.
     /// On an error nothing has changed.
     pub fn close(&mut self, alloc: Global) -> Result<(), AllocError>
-        ensures leads { OnOk result ((x y : PlainNode) → LeadsTo self.new x y ↔ LeadsTo self.old x y) }
+        ensures leads { OnOk result ((x y : PlainNode) → ReachesAlong self.new x y ↔ ReachesAlong self.old x y) }
         ensures keeps { OnOk result (KeepsOrder self.old self.new) }
-        ensures closed { OnOk result (IsClosed self.new) }
+        ensures closed { OnOk result (IsTransitive self.new) }
         ensures unchanged { OnErr result (self.new ≡ self.old) }
     {
         let closed = self.closed_pairs(alloc)?;
@@ -128,7 +128,7 @@ impl Order {
     /// changed.
     pub fn add(&mut self, alloc: Global, pair: OrderPair) -> Result<(), AllocError>
         ensures pairs { OnOk result (self.new ≡ self.old ++ (pair ∷ [])) }
-        ensures leads { OnOk result ((x y : PlainNode) → LeadsTo self.new x y ↔ LeadsTo (pair ∷ self.old) x y) }
+        ensures leads { OnOk result ((x y : PlainNode) → ReachesAlong self.new x y ↔ ReachesAlong (pair ∷ self.old) x y) }
         ensures keeps { OnOk result (KeepsOrder (pair ∷ self.old) self.new) }
         ensures unchanged { OnErr result (self.new ≡ self.old) }
     {

@@ -2,7 +2,7 @@
 ghost use Rattle.std.specs.Prelude.{◌≡◌, ◌==◌, ◌<◌, ◌||◌, ℕ, None, Some, if◌then◌else◌, vec_len, IfOk, OnOk};
 ghost use Rattle.cp_model.specs.declared.node.Node.{Node};
 ghost use Rattle.cp_model.specs.OrderTests.{at_or_after};
-ghost use Rattle.cp_order.specs.LeadingNodes.{tops_of, tops_at, tops_in, is_within, is_below};
+ghost use Rattle.cp_order.specs.PredecessorNodes.{tops_of, tops_at, tops_in, is_within, is_under_tops};
 
 use cp_model::Node;
 use std::alloc::{AllocError, Global};
@@ -20,14 +20,14 @@ pub(crate) fn is_within(top: Option<usize>, index: usize) -> bool
 
 /// Whether a node is at the top of its strand or before it.
 pub(crate) fn is_below(tops: &HashMap<usize, usize>, node: Node) -> bool
-    ensures { result ≡ is_below (tops_of tops.now) node }
+    ensures { result ≡ is_under_tops (tops_of tops.now) node }
 {
     is_within(tops.get(&node.strand).copied(), node.index)
 }
 
 /// Raises the top of a node's strand to the node, if the node is after it.
 pub(crate) fn raise(tops: &mut HashMap<usize, usize>, node: Node) -> Result<(), AllocError>
-    ensures { OnOk result ((x : Node) → is_below (tops_of tops.new) x ≡ (is_below (tops_of tops.old) x || at_or_after x node)) }
+    ensures { OnOk result ((x : Node) → is_under_tops (tops_of tops.new) x ≡ (is_under_tops (tops_of tops.old) x || at_or_after x node)) }
 {
     if !is_below(tops, node) {
         tops.insert(node.strand, node.index)?;

@@ -9,22 +9,22 @@ use Rattle.cp_model.specs.Tree.{Tree}
 use Rattle.cp_sexpr.specs.Spelling.{AppendsFront}
 use Rattle.cp_print.specs.Chosen.{chosen_by}
 use Rattle.cp_print.specs.declared.report.Labels.TheVariants.{All, Shapes}
-use Rattle.cp_print.specs.WrittenForms.{ends_from, HasWritten}
+use Rattle.cp_print.specs.WrittenForms.{ends_from, HasAppendedForms}
 
 module _ {E : Type 0} (entries : List Entry) (trees : List Tree) (a ea b eb : List ℕ) where
-  pub all_written_text : (r : Result (Unit {0}) E) → OnOk r (HasWritten a ea b eb (chosen_report_forms (chosen_by All) entries trees)) → OnOk r (b ≡ a ++ report_text entries trees)
+  pub all_written_text : (r : Result (Unit {0}) E) → OnOk r (HasAppendedForms a ea b eb (chosen_report_forms (chosen_by All) entries trees)) → OnOk r (b ≡ a ++ report_text entries trees)
   all_written_text (Ok u) h = h.text_grew ∙ ap (λ t. a ++ t) (all_text entries trees)
   all_written_text (Err e) h = tt
 
-  pub all_written_ends : (r : Result (Unit {0}) E) → OnOk r (HasWritten a ea b eb (chosen_report_forms (chosen_by All) entries trees)) → OnOk r (eb ≡ ea ++ ends_from (length a) (report_forms entries trees))
+  pub all_written_ends : (r : Result (Unit {0}) E) → OnOk r (HasAppendedForms a ea b eb (chosen_report_forms (chosen_by All) entries trees)) → OnOk r (eb ≡ ea ++ ends_from (length a) (report_forms entries trees))
   all_written_ends (Ok u) h = h.ends_grew ∙ ap (λ fs. ea ++ ends_from (length a) fs) (all_forms entries trees)
   all_written_ends (Err e) h = tt
 
-  pub shapes_written_text : (r : Result (Unit {0}) E) → OnOk r (HasWritten a ea b eb (chosen_report_forms (chosen_by Shapes) entries trees)) → OnOk r (b ≡ a ++ shapes_text entries trees)
+  pub shapes_written_text : (r : Result (Unit {0}) E) → OnOk r (HasAppendedForms a ea b eb (chosen_report_forms (chosen_by Shapes) entries trees)) → OnOk r (b ≡ a ++ shapes_text entries trees)
   shapes_written_text (Ok u) h = h.text_grew
   shapes_written_text (Err e) h = tt
 
-  pub shapes_written_ends : (r : Result (Unit {0}) E) → OnOk r (HasWritten a ea b eb (chosen_report_forms (chosen_by Shapes) entries trees)) → OnOk r (eb ≡ ea ++ ends_from (length a) (shapes_forms entries trees))
+  pub shapes_written_ends : (r : Result (Unit {0}) E) → OnOk r (HasAppendedForms a ea b eb (chosen_report_forms (chosen_by Shapes) entries trees)) → OnOk r (eb ≡ ea ++ ends_from (length a) (shapes_forms entries trees))
   shapes_written_ends (Ok u) h = h.ends_grew
   shapes_written_ends (Err e) h = tt
 

@@ -14,7 +14,7 @@ use Rattle.cp_load.specs.declared.input.Problem as loaded
 use Rattle.cp_load.specs.Inputs.{problem_view, entries_view}
 use Rattle.cp_skel.specs.declared.tree.TreeNode.{TreeNode}
 use Rattle.cp_skel.specs.Trees.{label_view}
-use Rattle.cp_print.specs.WrittenForms.{HasWritten, Leaves, entry_forms, trees_behind}
+use Rattle.cp_print.specs.WrittenForms.{HasAppendedForms, Leaves, entry_forms, trees_behind}
 use Rattle.cp_print.proofs.ValueForms.{either}
 use Rattle.cp_print.proofs.Writings.{leaves_none}
 
@@ -55,7 +55,7 @@ entries_done chosen fs ps k ts h = by_length (length fs) (length ps) refl refl h
 
 -- all is written where no entry is left
 pub all_written : (chosen : Label → Bool) (a ea b eb : List ℕ) (fs : List program.Form) (ps : List (Option loaded.Problem)) (k : ℕ) (ts : List Tree) (whole : List Form)
-    → Leaves a ea b eb whole (entries_left chosen fs ps k ts) → min (length fs) (length ps) ≤ k → HasWritten a ea b eb whole
+    → Leaves a ea b eb whole (entries_left chosen fs ps k ts) → min (length fs) (length ps) ≤ k → HasAppendedForms a ea b eb whole
 all_written chosen a ea b eb fs ps k ts whole l past = leaves_none a ea b eb whole (entries_left chosen fs ps k ts) l (entries_done chosen fs ps k ts past)
 
 -- ---- labels

@@ -1,7 +1,7 @@
 pub mod Spines
 pub mod Writings
 pub mod AllLabels
-pub mod ByMarks
+pub mod ByFlags
 pub mod CoveringPairs
 pub mod Entries
 pub mod PatternForms
@@ -9,7 +9,7 @@ pub mod MarkedForms
 pub mod ValueForms
 pub mod Values
 pub mod CountedNodes
-pub mod CoveringByMarks
+pub mod CoveringByFlags
 pub mod NodesOnPairs
 pub mod TreeForms
 pub mod LabelForms

@@ -5,14 +5,14 @@ use Rattle.std.proofs.lemmas.Bool.{false_from_ne_true, both_ways, cases_Bool, or
 use Rattle.cp_lists.specs.Lists.{IsIn, here, there}
 use Rattle.cp_model.specs.declared.node.Node.{Node}
 use Rattle.cp_model.specs.declared.node.OrderPair.{OrderPair}
-use Rattle.cp_model.specs.Order.{LeadsTo, on_strand, over_pair}
+use Rattle.cp_model.specs.Order.{ReachesAlong, on_strand, over_pair}
 use Rattle.cp_sexpr.specs.Syntax.{Form}
-use Rattle.cp_language.specs.Problems.{reaches}
+use Rattle.cp_language.specs.Problems.{reaches_within}
 use Rattle.cp_language.specs.Printed.{plain_list}
 use Rattle.cp_language.specs.Report.{node_form, is_before, any_node, is_covering, covering_with, covering_from}
 use Rattle.cp_language.proofs.BoundedSearch.{reaches_all}
 use Rattle.cp_print.specs.Order.{OrderedNode, in_order, all_covered, is_on_pair, is_on_pairs, nodes_on_pairs}
-use Rattle.cp_print.proofs.CoveringByMarks.{covered_are}
+use Rattle.cp_print.proofs.CoveringByFlags.{covered_are}
 
 -- ---- tests
 
@@ -24,7 +24,7 @@ first_two false b c h = absurd (cc)
 apart : (m n : ℕ) → not (m == n) ≡ true → m ≡ n → ⊥
 apart m n h e = both_ways (not (m == n)) (ap not (eq-eqb m n e)) h
 
--- ---- the strands of what leads
+-- ---- the strands of what reaches a node
 
 on_earlier : (ps : List OrderPair) (p : OrderPair) (x : Node) → IsIn p ps → x.strand ≡ p.earlier.strand → is_on_pairs ps x ≡ true
 on_earlier [] p x m e = elim m [ ]
@@ -36,11 +36,11 @@ on_later [] p x m e = elim m [ ]
 on_later (q ∷ ps) p x here e = or_left (is_on_pair p x) (is_on_pairs ps x) (or_right (x.strand == p.earlier.strand) (x.strand == p.later.strand) (eq-eqb x.strand p.later.strand e))
 on_later (q ∷ ps) p x (there m) e = or_right (is_on_pair q x) (is_on_pairs ps x) (on_later ps p x m e)
 
-first_strand : (pairs : List OrderPair) (x y : Node) → LeadsTo pairs x y → (x.strand ≡ y.strand) ⊎ (is_on_pairs pairs x ≡ true)
+first_strand : (pairs : List OrderPair) (x y : Node) → ReachesAlong pairs x y → (x.strand ≡ y.strand) ⊎ (is_on_pairs pairs x ≡ true)
 first_strand pairs x y (on_strand a) = inl a.0
 first_strand pairs x y (over_pair {p} m a l) = inr (on_earlier pairs p x m a.0)
 
-last_strand : (pairs : List OrderPair) (x y : Node) → LeadsTo pairs x y → (x.strand ≡ y.strand) ⊎ (is_on_pairs pairs y ≡ true)
+last_strand : (pairs : List OrderPair) (x y : Node) → ReachesAlong pairs x y → (x.strand ≡ y.strand) ⊎ (is_on_pairs pairs y ≡ true)
 last_strand pairs x y (on_strand a) = inl a.0
 last_strand pairs x y (over_pair {p} m a l) = inr (by_rest (last_strand pairs p.later y l))
   where
@@ -49,9 +49,9 @@ last_strand pairs x y (over_pair {p} m a l) = inr (by_rest (last_strand pairs p.
     by_rest (inr h) = h
 
 module _ (pairs : List OrderPair) where
-  before_leads : (x y : Node) → is_before pairs x y ≡ true → LeadsTo pairs x y
+  before_leads : (x y : Node) → is_before pairs x y ≡ true → ReachesAlong pairs x y
   before_leads x y h =
-      let both = and_parts (not ((x.strand == y.strand) && (x.index == y.index))) (reaches (length pairs) pairs x y) h in
+      let both = and_parts (not ((x.strand == y.strand) && (x.index == y.index))) (reaches_within (length pairs) pairs x y) h in
       (reaches_all pairs x y).0 both.1
 
   other_or_on : (b : Bool) {P : Type 0} → (P → ⊥) → P ⊎ (b ≡ true) → b ≡ true
@@ -151,7 +151,7 @@ module _ (pairs : List OrderPair) where
           ∙ rest
           ∙ sym (ap (λ (fs : List Form). fs ++ covering_from pairs nodes xs) (with_off nodes x e nodes))
 
--- what is covered by the marks of the nodes on pairs is what is covered
+-- what is covered by the flags of the nodes on pairs is what is covered
 pub covered_on_pairs : (pairs : List OrderPair) (nodes on : List Node) (all : List OrderedNode) → on ≡ nodes_on_pairs pairs nodes → all ≡ map (in_order pairs on) on → all_covered all 0 all ≡ covering_from pairs nodes nodes
 covered_on_pairs pairs nodes on all same e =
     covered_are pairs on all e

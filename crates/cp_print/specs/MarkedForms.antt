@@ -1,4 +1,4 @@
--- The forms of marked variables.
+-- The forms of flagged variables.
 use Rattle.std.specs.Prelude.{ℕ, ◌+◌, List, [], ◌∷◌, get_or, Bool, false, if◌then◌else◌}
 use Rattle.cp_lists.specs.Lists.{item_at}
 use Rattle.cp_model.specs.Term.{Variable, atom_of_variable, Substitution, apply_to_atom}
@@ -8,16 +8,16 @@ use Rattle.cp_language.specs.Printed.{variable, word, plain_list, atom_form}
 use Rattle.cp_language.specs.Report.{name_or_none}
 use Rattle.cp_sexpr.specs.Syntax.{Form}
 
--- Each marked variable by its name, with its sort; the first of the list has number n.
+-- Each flagged variable by its name, with its sort; the first of the list has number n.
 abbrev pub vars_by : List (List ℕ) → List Bool → ℕ → List Declaration → List Form
-vars_by names marks n [] = []
-vars_by names marks n (d ∷ ds) =
-    if get_or marks n false then plain_list (word (name_or_none (item_at names n)) ∷ word (sort_text d.sort) ∷ []) ∷ vars_by names marks (n + 1) ds
-    else vars_by names marks (n + 1) ds
+vars_by names flags n [] = []
+vars_by names flags n (d ∷ ds) =
+    if get_or flags n false then plain_list (word (name_or_none (item_at names n)) ∷ word (sort_text d.sort) ∷ []) ∷ vars_by names flags (n + 1) ds
+    else vars_by names flags (n + 1) ds
 
--- Each marked variable of a role by its identifier, with what it becomes; the first of the list has number n.
+-- Each flagged variable of a role by its identifier, with what it becomes; the first of the list has number n.
 abbrev pub maplets_by : (Variable → Form) → List Bool → Substitution → ℕ → List Declaration → List Form
-maplets_by named marks terms n [] = []
-maplets_by named marks terms n (d ∷ ds) =
-    if get_or marks n false then plain_list (word d.identifier ∷ atom_form named (apply_to_atom terms (atom_of_variable (variable d.sort n))) ∷ []) ∷ maplets_by named marks terms (n + 1) ds
-    else maplets_by named marks terms (n + 1) ds
+maplets_by named flags terms n [] = []
+maplets_by named flags terms n (d ∷ ds) =
+    if get_or flags n false then plain_list (word d.identifier ∷ atom_form named (apply_to_atom terms (atom_of_variable (variable d.sort n))) ∷ []) ∷ maplets_by named flags terms (n + 1) ds
+    else maplets_by named flags terms (n + 1) ds

@@ -22,18 +22,18 @@ abbrev pub ordered_view : Ordered → OrderedNode
 ordered_view o = record { node = o.node; before = o.before.items }
 
 -- For each of these nodes whether it is before y.
-abbrev pub marks_before : List OrderPair → Node → List Node → List Bool
-marks_before pairs y nodes = map (λ x. is_before pairs x y) nodes
+abbrev pub flags_before : List OrderPair → Node → List Node → List Bool
+flags_before pairs y nodes = map (λ x. is_before pairs x y) nodes
 
 abbrev pub in_order : List OrderPair → List Node → Node → OrderedNode
-in_order pairs nodes y = record { node = y; before = marks_before pairs y nodes }
+in_order pairs nodes y = record { node = y; before = flags_before pairs y nodes }
 
--- ---- by the marks, x being the number of a node
+-- ---- by the flags, x being the number of a node
 
--- One of these nodes, of which the first has number n, is after x and before the node with these marks.
+-- One of these nodes, of which the first has number n, is after x and before the node with these flags.
 abbrev pub any_between : ℕ → List Bool → ℕ → List OrderedNode → Bool
-any_between x marks n [] = false
-any_between x marks n (z ∷ zs) = (get_or marks n false && get_or z.before x false) || any_between x marks (suc n) zs
+any_between x flags n [] = false
+any_between x flags n (z ∷ zs) = (get_or flags n false && get_or z.before x false) || any_between x flags (suc n) zs
 
 abbrev pub covers : List OrderedNode → ℕ → Node → OrderedNode → Bool
 covers all number x y = not (x.strand == y.node.strand) && get_or y.before number false && not (any_between number y.before 0 all)

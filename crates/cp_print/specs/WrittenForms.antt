@@ -13,7 +13,7 @@ ends_from n [] = []
 ends_from n (f ∷ fs) = (n + length (top_spelling f)) ∷ ends_from (n + length (top_spelling f)) fs
 
 -- These top forms were written behind a text, and their ends behind others.
-pub record HasWritten (text ends new_text new_ends : List ℕ) (fs : List Form) : Type 0 where
+pub record HasAppendedForms (text ends new_text new_ends : List ℕ) (fs : List Form) : Type 0 where
   pub text_grew : new_text ≡ text ++ text_of_forms fs
   pub ends_grew : new_ends ≡ ends ++ ends_from (length text) fs
 
@@ -21,7 +21,7 @@ pub record HasWritten (text ends new_text new_ends : List ℕ) (fs : List Form) 
 pub record Leaves (text ends new_text new_ends : List ℕ) (whole rest : List Form) : Type 0 where
   pub done : List Form
   pub split : whole ≡ done ++ rest
-  pub written : HasWritten text ends new_text new_ends done
+  pub written : HasAppendedForms text ends new_text new_ends done
 
 -- What is written for a form of the input, of a problem with the chosen labels of the first of the trees that are left.
 abbrev pub entry_forms : (Label → Bool) → Form → Option Problem → List Tree → List Form

@@ -109,7 +109,7 @@ pub(crate) fn label_form(
     let vars = vars(
         alloc,
         &variables.names,
-        &variables.marks,
+        &variables.flags,
         &variables.declared,
     )?;
     let naming = Naming {

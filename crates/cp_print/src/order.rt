@@ -1,19 +1,19 @@
 // The covering pairs of a skeleton's order.
 ghost use Rattle.std.specs.Prelude.{◌≡◌, ◌++◌, ◌&&◌, [], map, length, get_or, false, not, IfOk, OnOk};
-ghost use Rattle.cp_language.specs.Problems.{reaches};
+ghost use Rattle.cp_language.specs.Problems.{reaches_within};
 ghost use Rattle.cp_language.specs.Report.{nodes_from, covering_pairs};
 ghost use Rattle.cp_model.specs.Same.{same_node};
 ghost use Rattle.cp_model.specs.Skeleton.{skeleton_trace};
 ghost use Rattle.cp_sexpr.specs.View.{view};
-ghost use Rattle.cp_print.specs.Order.{nodes_counted, ordered_view, marks_before, in_order, any_between, covers, covered, all_covered, is_on_pair, is_on_pairs, nodes_on_pairs};
+ghost use Rattle.cp_print.specs.Order.{nodes_counted, ordered_view, flags_before, in_order, any_between, covers, covered, all_covered, is_on_pair, is_on_pairs, nodes_on_pairs};
 ghost use Rattle.cp_strand.specs.View.{strand_view};
 ghost use Rattle.cp_skel.specs.View.{skeleton_view};
 
 use crate::items::node_form;
 use crate::makers::{plain_list, two};
-use cp_names::is_marked;
+use cp_names::is_flagged;
 use cp_sexpr::Form;
-use cp_skel::{Leading, Node, OrderPair, Skeleton, SortedPairs, Strand, StrandShape};
+use cp_skel::{Node, OrderPair, Predecessors, Skeleton, SortedPairs, Strand, StrandShape};
 use std::alloc::{AllocError, Global};
 
 /// A node, and for each node of its skeleton whether that node is before this one.
@@ -23,35 +23,35 @@ struct Ordered {
     before: Vec<bool>,
 }
 
-/// Whether a path leads from a node to the one asked about.
-fn leads(leading: &Leading<'_>, x: Node) -> bool
-    ensures { result ≡ reaches (length leading.now.pairs) leading.now.pairs x leading.now.node }
+/// Whether a node reaches the one asked about.
+fn leads(leading: &Predecessors<'_>, x: Node) -> bool
+    ensures { result ≡ reaches_within (length leading.now.pairs) leading.now.pairs x leading.now.node }
 {
     leading.has(x)
 }
 
-/// Whether a path leads from x to the node asked about, and x is not y.
-fn is_before(leading: &Leading<'_>, x: Node, y: Node) -> bool
-    ensures { result ≡ (not (same_node x y) && reaches (length leading.now.pairs) leading.now.pairs x leading.now.node) }
+/// Whether x reaches the node asked about, and x is not y.
+fn is_before(leading: &Predecessors<'_>, x: Node, y: Node) -> bool
+    ensures { result ≡ (not (same_node x y) && reaches_within (length leading.now.pairs) leading.now.pairs x leading.now.node) }
 {
     x != y && leads(leading, x)
 }
 
 /// For each of these nodes whether it is before y.
-fn marks_before(
+fn flags_before(
     alloc: Global,
     sorted: &SortedPairs<'_>,
     nodes: &[Node],
     y: Node,
 ) -> Result<Vec<bool>, AllocError>
-    ensures { IfOk result (λ marks. marks.items ≡ marks_before sorted.now y nodes.now) }
+    ensures { IfOk result (λ flags. flags.items ≡ flags_before sorted.now y nodes.now) }
 {
-    let leading = sorted.leading_to(alloc, y)?;
-    let mut marks = Vec::with_capacity(alloc, nodes.len())?;
+    let leading = sorted.predecessors_of(alloc, y)?;
+    let mut flags = Vec::with_capacity(alloc, nodes.len())?;
     for x in nodes {
-        marks.push(is_before(&leading, *x, y))?;
+        flags.push(is_before(&leading, *x, y))?;
     }
-    Ok(marks)
+    Ok(flags)
 }
 
 /// The nodes with what is before them.
@@ -61,7 +61,7 @@ fn in_order(alloc: Global, pairs: &[OrderPair], nodes: &[Node]) -> Result<Vec<Or
     let sorted = SortedPairs::new(alloc, pairs)?;
     let mut all = Vec::with_capacity(alloc, nodes.len())?;
     for node in nodes {
-        let before = marks_before(alloc, &sorted, nodes, *node)?;
+        let before = flags_before(alloc, &sorted, nodes, *node)?;
         all.push(Ordered {
             node: *node,
             before,
@@ -74,7 +74,7 @@ fn in_order(alloc: Global, pairs: &[OrderPair], nodes: &[Node]) -> Result<Vec<Or
 fn is_between(first: usize, second: usize, z: &Ordered, y: &Ordered) -> bool
     ensures { result ≡ (get_or y.now.before.items second false && get_or z.now.before.items first false) }
 {
-    is_marked(&y.before, second) && is_marked(&z.before, first)
+    is_flagged(&y.before, second) && is_flagged(&z.before, first)
 }
 
 /// Whether one of the nodes is after the node of this number and before y.
@@ -93,7 +93,7 @@ fn is_any_between(all: &[Ordered], number: usize, y: &Ordered) -> bool
 fn is_covering(all: &[Ordered], number: usize, x: Node, y: &Ordered) -> bool
     ensures { result ≡ covers (map ordered_view all.now) number x (ordered_view y.now) }
 {
-    x.strand != y.node.strand && is_marked(&y.before, number) && !is_any_between(all, number, y)
+    x.strand != y.node.strand && is_flagged(&y.before, number) && !is_any_between(all, number, y)
 }
 
 /// Appends the covering pairs that begin with the node of this number, x.

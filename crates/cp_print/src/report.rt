@@ -3,13 +3,13 @@ ghost use Rattle.std.specs.Prelude.{◌≡◌, ◌++◌, [], ◌∷◌, length, 
 ghost use Rattle.cp_language.specs.Printed.{word, numeral};
 ghost use Rattle.cp_language.specs.Report.{status_form, report_forms, report_text, shape_count, text_of_forms};
 ghost use Rattle.cp_language.specs.ShapesText.{chosen_from, chosen_tree_forms, chosen_report_forms, chosen_text, shapes_forms, shapes_text};
-ghost use Rattle.cp_load.specs.Inputs.{problem_view, entries_of};
+ghost use Rattle.cp_load.specs.Inputs.{problem_view, input_entries};
 ghost use Rattle.cp_model.specs.Tree.{expanded_count};
 ghost use Rattle.cp_sexpr.specs.Spelling.{AppendsFront};
 ghost use Rattle.cp_sexpr.specs.View.{view};
 ghost use Rattle.cp_skel.specs.Trees.{label_view, tree_view};
 ghost use Rattle.cp_print.specs.Chosen.{chosen_by};
-ghost use Rattle.cp_print.specs.WrittenForms.{ends_from, HasWritten, entry_forms, trees_behind};
+ghost use Rattle.cp_print.specs.WrittenForms.{ends_from, HasAppendedForms, entry_forms, trees_behind};
 
 use crate::items::outcome_words;
 use crate::labels::label_form;
@@ -41,7 +41,7 @@ fn is_chosen(labels: Labels, label: &TreeNode) -> bool
 /// Writes a top form.
 #[tactic(auto, using(crate::proofs::Writings::written_one, crate::proofs::Writings::front_one, crate::proofs::Writings::front_whole))]
 fn put(form: &Form, out: &mut Vec<u8>, ends: &mut Vec<usize>) -> Result<(), AllocError>
-    ensures ok { OnOk result (HasWritten out.old.items ends.old.items out.new.items ends.new.items (view form.now ∷ [])) }
+    ensures ok { OnOk result (HasAppendedForms out.old.items ends.old.items out.new.items ends.new.items (view form.now ∷ [])) }
     ensures err { OnErr result (AppendsFront out.old.items out.new.items (text_of_forms (view form.now ∷ []))) }
 {
     write_top(form, out)?;
@@ -58,7 +58,7 @@ fn put_labels(
     out: &mut Vec<u8>,
     ends: &mut Vec<usize>,
 ) -> Result<(), AllocError>
-    ensures ok { OnOk result (HasWritten out.old.items ends.old.items out.new.items ends.new.items (chosen_from (chosen_by chosen) of_problem.now 0 (map label_view labels.now))) }
+    ensures ok { OnOk result (HasAppendedForms out.old.items ends.old.items out.new.items ends.new.items (chosen_from (chosen_by chosen) of_problem.now 0 (map label_view labels.now))) }
     ensures err { OnErr result (AppendsFront out.old.items out.new.items (text_of_forms (chosen_from (chosen_by chosen) of_problem.now 0 (map label_view labels.now)))) }
 {
     for number in 0..labels.len() {
@@ -133,7 +133,7 @@ fn put_tree(
     out: &mut Vec<u8>,
     ends: &mut Vec<usize>,
 ) -> Result<(), AllocError>
-    ensures ok { OnOk result (HasWritten out.old.items ends.old.items out.new.items ends.new.items (chosen_tree_forms (chosen_by chosen) (problem_view problem.now) (tree_view tree.now))) }
+    ensures ok { OnOk result (HasAppendedForms out.old.items ends.old.items out.new.items ends.new.items (chosen_tree_forms (chosen_by chosen) (problem_view problem.now) (tree_view tree.now))) }
     ensures err { OnErr result (AppendsFront out.old.items out.new.items (text_of_forms (chosen_tree_forms (chosen_by chosen) (problem_view problem.now) (tree_view tree.now)))) }
 {
     let names = problem_names(alloc, problem.declared, problem.skeleton.variables())?;
@@ -153,7 +153,7 @@ fn put_problem(
     out: &mut Vec<u8>,
     ends: &mut Vec<usize>,
 ) -> Result<(), AllocError>
-    ensures ok { OnOk result (HasWritten out.old.items ends.old.items out.new.items ends.new.items (view form.now ∷ chosen_tree_forms (chosen_by chosen) (problem_view problem.now) (tree_view tree.now))) }
+    ensures ok { OnOk result (HasAppendedForms out.old.items ends.old.items out.new.items ends.new.items (view form.now ∷ chosen_tree_forms (chosen_by chosen) (problem_view problem.now) (tree_view tree.now))) }
     ensures err { OnErr result (AppendsFront out.old.items out.new.items (text_of_forms (view form.now ∷ chosen_tree_forms (chosen_by chosen) (problem_view problem.now) (tree_view tree.now)))) }
 {
     put(form, out, ends)?;
@@ -172,7 +172,7 @@ fn put_entry<'a>(
     out: &mut Vec<u8>,
     ends: &mut Vec<usize>,
 ) -> Result<&'a [Tree], AllocError>
-    ensures ok { OnOk result (HasWritten out.old.items ends.old.items out.new.items ends.new.items (entry_forms (chosen_by chosen) (view form.now) (option_map problem_view problem.now) (map tree_view trees.now))) }
+    ensures ok { OnOk result (HasAppendedForms out.old.items ends.old.items out.new.items ends.new.items (entry_forms (chosen_by chosen) (view form.now) (option_map problem_view problem.now) (map tree_view trees.now))) }
     ensures rest { IfOk result (λ rest. map tree_view rest.now ≡ trees_behind (option_map problem_view problem.now) (map tree_view trees.now)) }
     ensures err { OnErr result (AppendsFront out.old.items out.new.items (text_of_forms (entry_forms (chosen_by chosen) (view form.now) (option_map problem_view problem.now) (map tree_view trees.now)))) }
 {
@@ -197,8 +197,8 @@ fn put_report(
     out: &mut Vec<u8>,
     ends: &mut Vec<usize>,
 ) -> Result<(), AllocError>
-    ensures ok { OnOk result (HasWritten out.old.items ends.old.items out.new.items ends.new.items (chosen_report_forms (chosen_by chosen) (entries_of input.now) (map tree_view trees.now))) }
-    ensures err { OnErr result (AppendsFront out.old.items out.new.items (chosen_text (chosen_by chosen) (entries_of input.now) (map tree_view trees.now))) }
+    ensures ok { OnOk result (HasAppendedForms out.old.items ends.old.items out.new.items ends.new.items (chosen_report_forms (chosen_by chosen) (input_entries input.now) (map tree_view trees.now))) }
+    ensures err { OnErr result (AppendsFront out.old.items out.new.items (chosen_text (chosen_by chosen) (input_entries input.now) (map tree_view trees.now))) }
 {
     let forms = input.forms;
     let mut rest = trees;
@@ -226,9 +226,9 @@ pub fn print_pieces(
     out: &mut Vec<u8>,
     ends: &mut Vec<usize>,
 ) -> Result<(), AllocError>
-    ensures ok { OnOk result (out.new.items ≡ out.old.items ++ report_text (entries_of input.now) (map tree_view trees.now)) }
-    ensures ends { OnOk result (ends.new.items ≡ ends.old.items ++ ends_from (length out.old.items) (report_forms (entries_of input.now) (map tree_view trees.now))) }
-    ensures err { OnErr result (AppendsFront out.old.items out.new.items (report_text (entries_of input.now) (map tree_view trees.now))) }
+    ensures ok { OnOk result (out.new.items ≡ out.old.items ++ report_text (input_entries input.now) (map tree_view trees.now)) }
+    ensures ends { OnOk result (ends.new.items ≡ ends.old.items ++ ends_from (length out.old.items) (report_forms (input_entries input.now) (map tree_view trees.now))) }
+    ensures err { OnErr result (AppendsFront out.old.items out.new.items (report_text (input_entries input.now) (map tree_view trees.now))) }
 {
     put_report(alloc, Labels::All, input, trees, out, ends)
 }
@@ -241,8 +241,8 @@ pub fn print(
     trees: &[Tree],
     out: &mut Vec<u8>,
 ) -> Result<(), AllocError>
-    ensures ok { OnOk result (out.new.items ≡ out.old.items ++ report_text (entries_of input.now) (map tree_view trees.now)) }
-    ensures err { OnErr result (AppendsFront out.old.items out.new.items (report_text (entries_of input.now) (map tree_view trees.now))) }
+    ensures ok { OnOk result (out.new.items ≡ out.old.items ++ report_text (input_entries input.now) (map tree_view trees.now)) }
+    ensures err { OnErr result (AppendsFront out.old.items out.new.items (report_text (input_entries input.now) (map tree_view trees.now))) }
 {
     let mut ends = Vec::new(alloc);
     print_pieces(alloc, input, trees, out, &mut ends)?;
@@ -259,9 +259,9 @@ pub fn print_shape_pieces(
     out: &mut Vec<u8>,
     ends: &mut Vec<usize>,
 ) -> Result<(), AllocError>
-    ensures ok { OnOk result (out.new.items ≡ out.old.items ++ shapes_text (entries_of input.now) (map tree_view trees.now)) }
-    ensures ends { OnOk result (ends.new.items ≡ ends.old.items ++ ends_from (length out.old.items) (shapes_forms (entries_of input.now) (map tree_view trees.now))) }
-    ensures err { OnErr result (AppendsFront out.old.items out.new.items (shapes_text (entries_of input.now) (map tree_view trees.now))) }
+    ensures ok { OnOk result (out.new.items ≡ out.old.items ++ shapes_text (input_entries input.now) (map tree_view trees.now)) }
+    ensures ends { OnOk result (ends.new.items ≡ ends.old.items ++ ends_from (length out.old.items) (shapes_forms (input_entries input.now) (map tree_view trees.now))) }
+    ensures err { OnErr result (AppendsFront out.old.items out.new.items (shapes_text (input_entries input.now) (map tree_view trees.now))) }
 {
     put_report(alloc, Labels::Shapes, input, trees, out, ends)
 }
@@ -274,8 +274,8 @@ pub fn print_shapes(
     trees: &[Tree],
     out: &mut Vec<u8>,
 ) -> Result<(), AllocError>
-    ensures ok { OnOk result (out.new.items ≡ out.old.items ++ shapes_text (entries_of input.now) (map tree_view trees.now)) }
-    ensures err { OnErr result (AppendsFront out.old.items out.new.items (shapes_text (entries_of input.now) (map tree_view trees.now))) }
+    ensures ok { OnOk result (out.new.items ≡ out.old.items ++ shapes_text (input_entries input.now) (map tree_view trees.now)) }
+    ensures err { OnErr result (AppendsFront out.old.items out.new.items (shapes_text (input_entries input.now) (map tree_view trees.now))) }
 {
     let mut ends = Vec::new(alloc);
     print_shape_pieces(alloc, input, trees, out, &mut ends)?;

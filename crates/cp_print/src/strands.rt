@@ -13,7 +13,7 @@ ghost use Rattle.cp_print.specs.Named.{named_in};
 use crate::makers::{headed_list, numeral, one, plain_list, two, word};
 use crate::terms::{atom_form, term_form};
 use crate::variable_names::{Naming, name_of, sort_text};
-use cp_names::{is_marked, prefix_marks};
+use cp_names::{is_flagged, prefix_flags};
 use cp_sexpr::Form;
 use cp_strand::{Declaration, Instance, Role, Strand, StrandShape, applied};
 use cp_term::{Sort, Term, Text, VarId, var};
@@ -28,25 +28,25 @@ fn var_form(alloc: Global, name: &str, sort: Sort) -> Result<Form, AllocError>
     Ok(plain_list(two(alloc, name, sort)?))
 }
 
-/// How many marks are set.
-fn marked_count(marks: &[bool]) -> usize
-    ensures { result ≡ count_by (λ mark. mark) marks.now }
+/// How many flags are set.
+fn flagged_count(flags: &[bool]) -> usize
+    ensures { result ≡ count_by (λ mark. mark) flags.now }
 {
-    marks.iter().filter(|mark| **mark).count()
+    flags.iter().filter(|mark| **mark).count()
 }
 
-/// The marked variables, each with its sort.
+/// The flagged variables, each with its sort.
 pub(crate) fn vars(
     alloc: Global,
     names: &[Text],
-    marks: &[bool],
+    flags: &[bool],
     variables: &[Declaration],
 ) -> Result<Vec<Form>, AllocError>
-    ensures { IfOk result (λ fs. map view fs.items ≡ vars_by names.now marks.now 0 (map declaration_view variables.now)) }
+    ensures { IfOk result (λ fs. map view fs.items ≡ vars_by names.now flags.now 0 (map declaration_view variables.now)) }
 {
-    let mut forms = Vec::with_capacity(alloc, marked_count(marks).saturating_add(1))?;
+    let mut forms = Vec::with_capacity(alloc, flagged_count(flags).saturating_add(1))?;
     for number in 0..variables.len() {
-        if !is_marked(marks, number) {
+        if !is_flagged(flags, number) {
             continue;
         }
         let variable = &variables[number];
@@ -86,19 +86,19 @@ fn maplet(
     Ok(plain_list(two(alloc, identifier, value)?))
 }
 
-/// The maplets of the marked variables of a role.
+/// The maplets of the flagged variables of a role.
 fn maplets(
     alloc: Global,
     naming: &Naming<'_>,
     values: &[Term],
-    marks: &[bool],
+    flags: &[bool],
     variables: &[Declaration],
 ) -> Result<Vec<Form>, AllocError>
-    ensures { IfOk result (λ fs. map view fs.items ≡ maplets_by (named_in naming.now) marks.now (substitution_by values.now) 0 (map declaration_view variables.now)) }
+    ensures { IfOk result (λ fs. map view fs.items ≡ maplets_by (named_in naming.now) flags.now (substitution_by values.now) 0 (map declaration_view variables.now)) }
 {
-    let mut forms = Vec::with_capacity(alloc, marked_count(marks).saturating_add(3))?;
+    let mut forms = Vec::with_capacity(alloc, flagged_count(flags).saturating_add(3))?;
     for number in 0..variables.len() {
-        if !is_marked(marks, number) {
+        if !is_flagged(flags, number) {
             continue;
         }
         let form = maplet(alloc, naming, values, &variables[number], number)?;
@@ -108,7 +108,7 @@ fn maplets(
 }
 
 /// An instance as a form.
-#[tactic(auto, using(crate::proofs::ByMarks::instance_maplets))]
+#[tactic(auto, using(crate::proofs::ByFlags::instance_maplets))]
 fn instance_form(
     alloc: Global,
     naming: &Naming<'_>,
@@ -117,8 +117,8 @@ fn instance_form(
     ensures { IfOk result (λ f. view f ≡ strand_form (named_in naming.now) (instance_view instance.now)) }
 {
     let role: &Role = instance.role();
-    let marks = prefix_marks(alloc, role, instance.height())?;
-    let mut items = maplets(alloc, naming, instance.values(), &marks, role.variables())?;
+    let flags = prefix_flags(alloc, role, instance.height())?;
+    let mut items = maplets(alloc, naming, instance.values(), &flags, role.variables())?;
     items.insert(0, numeral(instance.height())?)?;
     items.insert(0, word(alloc, role.name().as_str())?)?;
     headed_list(alloc, "defstrand", items)

@@ -14,10 +14,10 @@ use Rattle.cp_language.specs.Faults.{place_of}
 use Rattle.cp_language.specs.Names.{problem_names}
 use Rattle.cp_language.specs.Problems.{Problem, is_known}
 use Rattle.cp_language.specs.Report.{variables_of_test, variables_of_patterns, occurring}
-use Rattle.cp_wellformed.specs.Role.{IsWellFormedRole}
-use Rattle.cp_wellformed.proofs.Terms.{AreDeclared, both_declared}
+use Rattle.cp_language.specs.Role.{IsWellFormedRole}
+use Rattle.cp_language.proofs.Terms.{AreDeclared, both_declared}
 use Rattle.cp_report.specs.Misfits.{misfit_unless, first_or, number_misfits}
-use Rattle.cp_report.specs.Heads.{item_with, items_with, entries_of, entries_under, optional_misfits, mark_heads, strand_heads, lines_of_label, order_misfits}
+use Rattle.cp_report.specs.Heads.{item_with, items_with, forms_after_head, entries_under, optional_misfits, mark_heads, strand_heads, lines_of_label, order_misfits}
 use Rattle.cp_report.specs.Skeletons.{declarations_of_label, scope_of, strands_of_label, precedes_misfits, has_atoms, atoms_misfits, atoms_under, values_misfits, has_uniques, uniques_misfits, uniques_under, all_uniques_misfits, map_misfits, skeleton_stated}
 use Rattle.cp_report.specs.Labels.{operation_place_misfits, word_of_label, unrealised_misfits, test_misfits, has_children, has_mark, wants_parent, behind_number, items_misfits, numbered_misfits, label_misfits, label_by, label_of}
 use Rattle.cp_report.specs.ReadBack.{labels_misfits}
@@ -170,7 +170,7 @@ module _ (p : Problem) (well : (role : Role) → IsIn role p.protocol.roles → 
   forms_accepted n (f ∷ fs) e zero l g =
       let same : label_of p f ≡ l = cc in
       let z : n ≡ n + 0 = omega arith in
-      subst (λ (m : ℕ). IsAcceptedIn p labels m l) z (subst (IsAcceptedIn p labels n) same (form_accepted n (place_of f) (entries_of f) (none_before (label_misfits p (Some forms) n f) (labels_misfits p (Some forms) (suc n) fs) e)))
+      subst (λ (m : ℕ). IsAcceptedIn p labels m l) z (subst (IsAcceptedIn p labels n) same (form_accepted n (place_of f) (forms_after_head f) (none_before (label_misfits p (Some forms) n f) (labels_misfits p (Some forms) (suc n) fs) e)))
   forms_accepted n (f ∷ fs) e (suc i) l g =
       let z : suc n + i ≡ n + suc i = omega arith in
       subst (λ (m : ℕ). IsAcceptedIn p labels m l) z (forms_accepted (suc n) fs (none_behind (label_misfits p (Some forms) n f) (labels_misfits p (Some forms) (suc n) fs) e) i l g)

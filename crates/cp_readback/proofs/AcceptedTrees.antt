@@ -18,8 +18,8 @@ use Rattle.cp_language.specs.Names.{identifiers_in, first_of, problem_names}
 use Rattle.cp_language.specs.Terms.{variable_named}
 use Rattle.cp_language.specs.Problems.{Problem}
 use Rattle.cp_language.specs.Input.{stated_problem, protocols_behind, faults_of, entries_from, input_of}
-use Rattle.cp_wellformed.specs.Role.{IsWellFormedRole}
-use Rattle.cp_wellformed.proofs.Problems.{map_to_themselves, roles_are_well_formed, variables_found}
+use Rattle.cp_language.specs.Role.{IsWellFormedRole}
+use Rattle.cp_language.proofs.Problems.{map_to_themselves, roles_are_well_formed, variables_found}
 use Rattle.cp_report.specs.Labels.{label_of}
 use Rattle.cp_report.specs.ReadBack.{Section, sections_of, input_forms, labels_in_front, behind_labels, places_of, labels_misfits, if_whole, ending_misfits, tree_misfits, next_place, trees_misfits, fault_places, first_place, misfits, tree_of, tree_onto, trees_from, report_of}
 use Rattle.cp_report.specs.FittingTrees.{TreeFits, problem_onto, problems_in}

@@ -5,13 +5,13 @@ use Rattle.std.proofs.lemmas.Bool.Decides.{Decides-eqb}
 use Rattle.std.proofs.lemmas.List.{append_assoc}
 use Rattle.cp_base.specs.declared.place.Place.{Place}
 use Rattle.cp_base.specs.declared.place.Refusal.{Refusal}
-use Rattle.cp_language.specs.FirstFault.{rank_of, comes_before}
-use Rattle.cp_forms.specs.FirstFault as faults
+use Rattle.cp_language.specs.FirstFault.{rank_of, refusal_before}
+use Rattle.cp_scope.specs.FirstFault as faults
 use Rattle.cp_report.specs.ReadBack.{fault_places}
-use Rattle.cp_variables.specs.FirstMisfit.{earlier_of, first_onto, merged}
-use Rattle.cp_report.specs.Misfits.{stands_before}
-use Rattle.cp_forms.proofs.FirstOf.{first_onto-append, first_onto-merged, first_onto-swap}
-use Rattle.cp_variables.proofs.Firsts.{in_order}
+use Rattle.cp_spelled.specs.FirstMisfit.{earlier_of, first_onto, merged}
+use Rattle.cp_report.specs.Misfits.{place_before}
+use Rattle.cp_scope.proofs.FirstOf.{first_onto-append, first_onto-merged, first_onto-swap}
+use Rattle.cp_spelled.proofs.Firsts.{in_order}
 
 -- By place alone, or by place and then by kind: what comes before, and what does not, at another place.
 by_place : (a b c d e : Bool) (p q : Place) → (b ≡ true → d ≡ true → q ≡ p)
@@ -35,7 +35,7 @@ place_if false r s = refl
 
 earlier-place : (s r : Refusal) → (faults.earlier_of (Some s) r).place ≡ earlier_of (Some s.place) r.place
 earlier-place s r =
-    place_if (comes_before r s) r s
+    place_if (refusal_before r s) r s
     ∙ by_place (nat_lt r.place.line s.place.line) (r.place.line == s.place.line) (nat_lt r.place.col s.place.col) (r.place.col == s.place.col) (nat_lt (rank_of r.code) (rank_of s.code))
     r.place s.place (same_place r.place s.place)
 
@@ -55,8 +55,8 @@ pub gathered : (rs : List Refusal) (front trees : List Place) (fault : Option Re
 gathered rs front trees fault others all is_fault is_others is_all =
     let places = fault_places rs in
     is_all ∙ ap (merged others) (ap (option_map (λ r. r.place)) is_fault ∙ none-place rs)
-    ∙ sym (first_onto-merged stands_before in_order others places)
+    ∙ sym (first_onto-merged place_before in_order others places)
     ∙ ap (λ o. first_onto o places) is_others
-    ∙ sym (first_onto-append stands_before None (front ++ trees) places)
-    ∙ first_onto-swap stands_before in_order None (front ++ trees) places
+    ∙ sym (first_onto-append place_before None (front ++ trees) places)
+    ∙ first_onto-swap place_before in_order None (front ++ trees) places
     ∙ ap (first_onto None) (sym (append_assoc places front trees))

@@ -9,7 +9,7 @@ use Rattle.cp_model.specs.Term.{AtomTerm, apply_to_atom}
 use Rattle.cp_model.specs.declared.node.OrderPair.{OrderPair}
 use Rattle.cp_model.specs.Given.{has_atom, has_unique}
 use Rattle.cp_model.specs.Homomorphism.{map_from_problem}
-use Rattle.cp_model.specs.OrderTests.{reaches}
+use Rattle.cp_model.specs.OrderTests.{reaches_within}
 use Rattle.cp_model.specs.Skeleton.{UniqueAt, Skeleton, Before, IsOrderPair, IsSkeleton, IsNodeOf, term_event_at}
 use Rattle.cp_model.specs.Stated.{unique_image, pair_image, IsImageOfOne, KeepsStated}
 use Rattle.cp_model.proofs.Gathered.{atoms, uniques}
@@ -53,12 +53,12 @@ ordered_images k order_pairs g xs p = (forth, back)
     forth i =
         let kept = from_filter (is_in_order k.strands k.pairs) (map g xs) i in
         let one = from_map g xs kept.0 in
-        let three = three_parts (not (on_one_strand p)) (is_known (term_event_at k.strands p.later)) (reaches (length k.pairs) k.pairs p.earlier p.later) kept.1 in
+        let three = three_parts (not (on_one_strand p)) (is_known (term_event_at k.strands p.later)) (reaches_within (length k.pairs) k.pairs p.earlier p.later) kept.1 in
         (record { item = one.0; listed = one.1; image = one.2 }, apart (not-true (on_one_strand p) three.0), in_order k order_pairs p kept.1)
 
     back : IsImageOfOne g xs p × (p.earlier.strand ≢ p.later.strand) × Before k p.earlier p.later → IsIn p (filter (is_in_order k.strands k.pairs) (map g xs))
     back (one, differ, before) =
-        let test : is_in_order k.strands k.pairs p ≡ true = all_three (not (on_one_strand p)) (is_known (term_event_at k.strands p.later)) (reaches (length k.pairs) k.pairs p.earlier p.later)
+        let test : is_in_order k.strands k.pairs p ≡ true = all_three (not (on_one_strand p)) (is_known (term_event_at k.strands p.later)) (reaches_within (length k.pairs) k.pairs p.earlier p.later)
         (ap not (false_from_ne_true (on_one_strand p) (λ h. absurd (differ (eqb-true p.earlier.strand p.later.strand h)))))
         (known (way_ends k p.earlier p.later order_pairs before)) ((reaches_all k.pairs p.earlier p.later).1 (before_leads k p.earlier p.later before)) in
         into_filter (is_in_order k.strands k.pairs) (map g xs) (subst (λ (q : OrderPair). IsIn q (map g xs)) one.image (into_map g one.listed)) test

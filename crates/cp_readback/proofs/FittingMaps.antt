@@ -19,7 +19,7 @@ use Rattle.cp_language.specs.Terms.{variable_named}
 use Rattle.cp_language.specs.Names.{identifiers_in, problem_names}
 use Rattle.cp_language.specs.Problems.{Problem, is_known, number_of, name_in_front, second_form}
 use Rattle.cp_report.specs.Misfits.{misfit_unless, entries_misfits, list_misfits, symbol_misfits}
-use Rattle.cp_report.specs.Heads.{entries_of, entries_or_none, optional_misfits}
+use Rattle.cp_report.specs.Heads.{forms_after_head, entries_or_none, optional_misfits}
 use Rattle.cp_report.specs.Spelled.{Scope, plain_scope, value_misfits}
 use Rattle.cp_report.specs.Skeletons.{identifier_of, maplet_misfits, maplets_misfits, are_mapped, mapping_misfits, term_or_tag, value_mapped, values_mapped, named_declarations, problem_variables, strand_number_misfits, map_misfits, strands_mapped, values_of_map}
 use Rattle.cp_report.specs.FittingTrees.{HasSortOf}
@@ -139,4 +139,4 @@ module _ (ds : List Declaration) where
     -- The same of the item, which has to be there.
     pub map_is : (o : Option Form) → is_known o ≡ true → optional_misfits (map_misfits p s strands) o ≡ [] → IsMap (entries_or_none o)
     map_is None known e = absurd (cc)
-    map_is (Some f) known e = map_of_entries (place_of f) (entries_of f) e
+    map_is (Some f) known e = map_of_entries (place_of f) (forms_after_head f) e

@@ -16,8 +16,8 @@ use Rattle.cp_language.specs.Faults.{place_of}
 use Rattle.cp_language.specs.Roles.{Headed, headed}
 use Rattle.cp_language.specs.Problems.{Problem, is_known, number_of, name_in_front}
 use Rattle.cp_report.specs.Misfits.{misfit_unless, lacking, entries_misfits, number_misfits, symbol_misfits}
-use Rattle.cp_report.specs.Heads.{is_headed_by, has_head, entries_of, entries_or_none, entries_under, optional_misfits, mark_heads}
-use Rattle.cp_report.specs.Labels.{is_among, is_number, stated_number, number_in_front, numbers_in, items_of_label, stated_parent, stated_children, has_parent, has_child, has_parent_in, has_child_in, is_label_in, parent_misfits, children_misfits, number_stated, mark_kinds, mark_by, mark_of, headed_mark_misfits, label_of}
+use Rattle.cp_report.specs.Heads.{is_headed_by, has_head, forms_after_head, entries_or_none, entries_under, optional_misfits, mark_heads}
+use Rattle.cp_report.specs.Labels.{is_among, is_number, stated_number, number_in_front, numbers_in, items_of_label, stated_parent, stated_children, has_parent, has_child, has_parent_in, has_child_in, is_label_in, parent_misfits, children_misfits, number_stated, mark_kinds, mark_named, mark_of, headed_mark_misfits, label_of}
 use Rattle.cp_report.specs.FittingTrees.{HasChild, HasParent, AreChildrenOf, IsMarkIn, HasMarkOrChildren}
 use Rattle.cp_stated.proofs.NoMisfits.{holds}
 use Rattle.cp_readback.proofs.FittingItems.{number_fits}
@@ -77,7 +77,7 @@ module _ (p : Problem) (forms : List Form) where
   -- The same of the item, if it is there.
   pub parent_there : (i : ℕ) (o : Option Form) → optional_misfits (parent_misfits (Some forms) i) o ≡ [] → is_known o ≡ true → HasParent labels i (number_in_front (entries_or_none o))
   parent_there i None e h = absurd (cc)
-  parent_there i (Some f) e h = one_parent i (place_of f) (entries_of f) e
+  parent_there i (Some f) e h = one_parent i (place_of f) (forms_after_head f) e
 
   -- ---- children
 
@@ -129,8 +129,8 @@ module _ (p : Problem) (forms : List Form) where
   pub children_agree : (i : ℕ) (o : Option Form) → optional_misfits (λ q fs. lacking 1 q fs ++ children_misfits (Some forms) i [] fs) o ≡ [] → AreChildrenOf labels i (map number_of (entries_or_none o))
   children_agree i None e = record { each = λ n m. elim m [ ]; once = λ a b n g h. absurd (cc) }
   children_agree i (Some f) e =
-      let fit = none_behind (lacking 1 (place_of f) (entries_of f)) (children_misfits (Some forms) i [] (entries_of f)) e in
-      record { each = λ n m. has_parent_label i n (each_child i [] (entries_of f) fit n m); once = children_once i [] (entries_of f) fit }
+      let fit = none_behind (lacking 1 (place_of f) (forms_after_head f)) (children_misfits (Some forms) i [] (forms_after_head f)) e in
+      record { each = λ n m. has_parent_label i n (each_child i [] (forms_after_head f) fit n m); once = children_once i [] (forms_after_head f) fit }
 
   -- ---- marks
 
@@ -161,7 +161,7 @@ module _ (p : Problem) (forms : List Form) where
   mark_by_words false false false false false n h = tt
 
   -- where its entries have no misfit.
-  mark_there : (at : Place) (head : List ℕ) (fs : List Form) → entries_misfits (mark_kinds (Some forms) head) at fs ≡ [] → IsMarkIn labels (mark_by head fs)
+  mark_there : (at : Place) (head : List ℕ) (fs : List Form) → entries_misfits (mark_kinds (Some forms) head) at fs ≡ [] → IsMarkIn labels (mark_named head fs)
   mark_there at head fs e =
       mark_by_words (same_text head (codes "shape")) (same_text head (codes "dead")) (same_text head (codes "seen")) (same_text head (codes "instance-of")) (same_text (name_in_front fs) (codes "steps")) (number_stated fs)
       (named_kind (same_text head (codes "seen")) (same_text head (codes "instance-of")) (same_text head (codes "limit")) at fs e)
@@ -174,7 +174,7 @@ module _ (p : Problem) (forms : List Form) where
   -- Where children are asked for, there is one.
   some_children : (o : Option Form) (inside : List Form → List Place) → is_known o ≡ true → optional_misfits (λ q fs. lacking 1 q fs ++ inside fs) o ≡ [] → map number_of (entries_or_none o) ≢ []
   some_children None inside k e = absurd (cc)
-  some_children (Some f) inside k e = by (entries_of f) (none_before (lacking 1 (place_of f) (entries_of f)) (inside (entries_of f)) e)
+  some_children (Some f) inside k e = by (forms_after_head f) (none_before (lacking 1 (place_of f) (forms_after_head f)) (inside (forms_after_head f)) e)
     where
       by : (fs : List Form) → lacking 1 (place_of f) fs ≡ [] → map number_of fs ≢ []
       by [] h = absurd (cc)

@@ -14,9 +14,9 @@ use Rattle.cp_language.specs.Faults.{place_of}
 use Rattle.cp_language.specs.Roles.{text_of_symbol}
 use Rattle.cp_language.specs.Problems.{Problem, is_known, number_of, name_in_front}
 use Rattle.cp_report.specs.Misfits.{misfit_unless, entries_misfits, symbol_misfits, any_number_misfits}
-use Rattle.cp_report.specs.Heads.{entries_of, entries_or_none, optional_misfits}
+use Rattle.cp_report.specs.Heads.{forms_after_head, entries_or_none, optional_misfits}
 use Rattle.cp_report.specs.Skeletons.{strand_number_misfits}
-use Rattle.cp_report.specs.Labels.{is_number, number_in_front, OperationWord, problem_word, collapsed_word, contracted_word, displaced_word, added_strand_word, added_listener_word, generalised_word, no_operation_word, operation_word, is_operation, makes_root, block_misfits, blocks, operation_kinds, operation_misfits, index_misfits, operation_place_misfits, operation_by, parent_misfits, label_of}
+use Rattle.cp_report.specs.Labels.{is_number, number_in_front, OperationWord, problem_word, collapsed_word, contracted_word, displaced_word, added_strand_word, added_listener_word, generalised_word, no_operation_word, operation_word, is_operation, makes_root, block_misfits, block_checks, operation_kinds, operation_misfits, index_misfits, operation_place_misfits, operation_by, parent_misfits, label_of}
 use Rattle.cp_report.specs.FittingTrees.{IsOperationOn, IsParentOf}
 use Rattle.cp_stated.proofs.NoMisfits.{none_of_unless, holds}
 use Rattle.cp_readback.proofs.FittingItems.{number_fits}
@@ -25,24 +25,24 @@ use Rattle.cp_readback.proofs.FittingNumbers.{number_is, parent_there}
 -- ---- partitions
 
 -- There are as many entries as strands.
-as_many_blocks : (ns : List ℕ) (i : ℕ) (ks : List SkeletonStrand) (at : Place) (fs : List Form) → entries_misfits (blocks ns i ks) at fs ≡ [] → length (map number_of fs) ≡ length ks
+as_many_blocks : (ns : List ℕ) (i : ℕ) (ks : List SkeletonStrand) (at : Place) (fs : List Form) → entries_misfits (block_checks ns i ks) at fs ≡ [] → length (map number_of fs) ≡ length ks
 as_many_blocks ns i [] at [] e = refl
 as_many_blocks ns i [] at (f ∷ fs) e = absurd (cc)
 as_many_blocks ns i (k ∷ ks) at [] e = absurd (cc)
-as_many_blocks ns i (k ∷ ks) at (f ∷ fs) e = ap suc (as_many_blocks ns (suc i) ks at fs (none_behind (block_misfits ns i f) (entries_misfits (blocks ns (suc i) ks) at fs) e))
+as_many_blocks ns i (k ∷ ks) at (f ∷ fs) e = ap suc (as_many_blocks ns (suc i) ks at fs (none_behind (block_misfits ns i f) (entries_misfits (block_checks ns (suc i) ks) at fs) e))
 
 -- Each entry is at most its place, and names a strand that names itself.
-lowest_blocks : (ns : List ℕ) (i : ℕ) (ks : List SkeletonStrand) (at : Place) (fs : List Form) → entries_misfits (blocks ns i ks) at fs ≡ [] → (j n : ℕ) → item_at (map number_of fs) j ≡ Some n → (n ≤ i + j) × (item_at ns n ≡ Some n)
+lowest_blocks : (ns : List ℕ) (i : ℕ) (ks : List SkeletonStrand) (at : Place) (fs : List Form) → entries_misfits (block_checks ns i ks) at fs ≡ [] → (j n : ℕ) → item_at (map number_of fs) j ≡ Some n → (n ≤ i + j) × (item_at ns n ≡ Some n)
 lowest_blocks ns i ks at [] e j n g = absurd (cc)
 lowest_blocks ns i [] at (f ∷ fs) e j n g = absurd (cc)
 lowest_blocks ns i (k ∷ ks) at (f ∷ fs) e zero n g =
     let same : number_of f ≡ n = cc in
-    let test = number_fits (λ m. nat_le m i && is_number m (item_at ns m)) f (none_before (block_misfits ns i f) (entries_misfits (blocks ns (suc i) ks) at fs) e) in
+    let test = number_fits (λ m. nat_le m i && is_number m (item_at ns m)) f (none_before (block_misfits ns i f) (entries_misfits (block_checks ns (suc i) ks) at fs) e) in
     let both = and_parts (nat_le (number_of f) i) (is_number (number_of f) (item_at ns (number_of f))) test in
     let low : number_of f ≤ i = leb-true (number_of f) i both.0 in
     (omega (arith, same, low), subst (λ (m : ℕ). item_at ns m ≡ Some m) same (number_is (number_of f) (item_at ns (number_of f)) both.1))
 lowest_blocks ns i (k ∷ ks) at (f ∷ fs) e (suc j) n g =
-    let rest = lowest_blocks ns (suc i) ks at fs (none_behind (block_misfits ns i f) (entries_misfits (blocks ns (suc i) ks) at fs) e) j n g in
+    let rest = lowest_blocks ns (suc i) ks at fs (none_behind (block_misfits ns i f) (entries_misfits (block_checks ns (suc i) ks) at fs) e) j n g in
     let low : n ≤ suc i + j = rest.0 in
     (omega (arith, low), rest.1)
 
@@ -96,7 +96,7 @@ module _ (p : Problem) (k : Skeleton) where
   pub operation_fits : (o : Option Form) → is_known o ≡ true → optional_misfits (operation_misfits p) o ≡ [] → operation_place_misfits k.strands (operation_word (name_in_front (entries_or_none o))) (drop 1 (entries_or_none o)) ≡ []
       → IsOperationOn p k (operation_by (operation_word (name_in_front (entries_or_none o))) (drop 1 (entries_or_none o)))
   operation_fits None known e h = absurd (cc)
-  operation_fits (Some f) known e h = of_entries (place_of f) (entries_of f) e h
+  operation_fits (Some f) known e h = of_entries (place_of f) (forms_after_head f) e h
 
 -- ---- the word, and the parent
 
@@ -110,7 +110,7 @@ symbol_fits test (list at fs) e = absurd (cc)
 -- The word of an item without misfits names an operation.
 pub word_names : (p : Problem) (o : Option Form) → is_known o ≡ true → optional_misfits (operation_misfits p) o ≡ [] → is_operation (operation_word (name_in_front (entries_or_none o))) ≡ true
 word_names p None known e = absurd (cc)
-word_names p (Some f) known e = by (entries_of f) e
+word_names p (Some f) known e = by (forms_after_head f) e
   where
     by : (fs : List Form) → operation_misfits p (place_of f) fs ≡ [] → is_operation (operation_word (name_in_front fs)) ≡ true
     by [] h = absurd (cc)

@@ -15,7 +15,7 @@ use Rattle.cp_sexpr.specs.Syntax.{Form, Forms, none, more, symbol, string, numbe
 use Rattle.cp_language.specs.Faults.{place_of, items_of}
 use Rattle.cp_language.specs.Problems.{is_known, first_form, node_of, option_node}
 use Rattle.cp_report.specs.Misfits.{misfit_unless, lacking, each_misfits, entries_misfits, list_misfits, any_number_misfits}
-use Rattle.cp_report.specs.Heads.{entries_of, entries_or_none, optional_misfits}
+use Rattle.cp_report.specs.Heads.{forms_after_head, entries_or_none, optional_misfits}
 use Rattle.cp_report.specs.Spelled.{Scope, term_misfits, pattern_misfits, pattern_of}
 use Rattle.cp_report.specs.Skeletons.{there_misfits, node_misfits, node_or_first}
 use Rattle.cp_report.specs.Labels.{unrealised_misfits, test_misfits, test_of}
@@ -68,9 +68,9 @@ node_fits strands f e =
 pub unrealised_there : (strands : List SkeletonStrand) (o : Option Form) → optional_misfits (unrealised_misfits strands) o ≡ [] → (n : Node) → IsIn n (map (λ f. node_or_first (option_node (Some f))) (entries_or_none o)) → IsNodeOf strands n
 unrealised_there strands None e n m = elim m [ ]
 unrealised_there strands (Some f) e n m =
-    let one = from_map (λ g. node_or_first (option_node (Some g))) (entries_of f) m in
+    let one = from_map (λ g. node_or_first (option_node (Some g))) (forms_after_head f) m in
     subst (IsNodeOf strands) one.2
-    (node_fits strands one.0 (none_of_each (node_misfits strands) (entries_of f) (none_behind (lacking 1 (place_of f) (entries_of f)) (each_misfits (node_misfits strands) (entries_of f)) e) one.0 one.1))
+    (node_fits strands one.0 (none_of_each (node_misfits strands) (forms_after_head f) (none_behind (lacking 1 (place_of f) (forms_after_head f)) (each_misfits (node_misfits strands) (forms_after_head f)) e) one.0 one.1))
 
 -- ---- the test
 
@@ -82,7 +82,7 @@ first_node s strands at (f ∷ fs) e = node_fits strands f (none_before (node_mi
 -- The same of the item; it may be missing.
 pub test_there : (s : Scope) (k : Skeleton) (o : Option Form) → optional_misfits (test_misfits s k.strands) o ≡ [] → IsTestOn k (test_of s o)
 test_there s k None e = tt
-test_there s k (Some f) e = first_node s k.strands (place_of f) (entries_of f) e
+test_there s k (Some f) e = first_node s k.strands (place_of f) (forms_after_head f) e
 
 -- ---- patterns
 
@@ -94,9 +94,9 @@ patterns_misfits ds tested at fs = misfit_unless tested at ++ lacking 1 at fs ++
 pub patterns_are : (ds : List Declaration) (tested : Bool) (o : Option Form) → optional_misfits (patterns_misfits ds tested) o ≡ [] → (q : Pattern) → IsIn q (map (pattern_of ds) (entries_or_none o)) → IsPattern q
 patterns_are ds tested None e q m = elim m [ ]
 patterns_are ds tested (Some f) e q m =
-    let one = from_map (pattern_of ds) (entries_of f) m in
-    let parts = none_of_three (misfit_unless tested (place_of f)) (lacking 1 (place_of f) (entries_of f)) (each_misfits (pattern_misfits ds) (entries_of f)) e in
-    subst IsPattern one.2 (pattern-is ds one.0 (none_of_each (pattern_misfits ds) (entries_of f) parts.2 one.0 one.1))
+    let one = from_map (pattern_of ds) (forms_after_head f) m in
+    let parts = none_of_three (misfit_unless tested (place_of f)) (lacking 1 (place_of f) (forms_after_head f)) (each_misfits (pattern_misfits ds) (forms_after_head f)) e in
+    subst IsPattern one.2 (pattern-is ds one.0 (none_of_each (pattern_misfits ds) (forms_after_head f) parts.2 one.0 one.1))
 
 -- Without a test there are no patterns.
 pub none_untested : (ds : List Declaration) (s : Scope) (t o : Option Form) → optional_misfits (patterns_misfits ds (is_known t)) o ≡ [] → test_of s t ≡ None → map (pattern_of ds) (entries_or_none o) ≡ []

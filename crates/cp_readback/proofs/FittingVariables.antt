@@ -16,19 +16,19 @@ use Rattle.cp_model.specs.Skeleton.{SkeletonStrand, listener, skeleton_trace, Un
 use Rattle.cp_model.proofs.LawPrefixes.{in_front_of_trace}
 use Rattle.cp_model.proofs.OccurringVariables.{strand_with}
 use Rattle.cp_model.proofs.SameTests.{in_has_variable}
-use Rattle.cp_skel.proofs.UnderVariables.{of_trace}
+use Rattle.cp_model.proofs.UnderVariables.{of_trace}
 use Rattle.cp_sexpr.specs.Syntax.{Form, none, more, symbol, string, number, list}
 use Rattle.cp_language.specs.Faults.{place_of, items_of}
 use Rattle.cp_language.specs.Roles.{text_of_symbol}
 use Rattle.cp_language.specs.Problems.{Problem, role_named, is_known, first_form, second_form, number_of}
 use Rattle.cp_language.specs.Report.{variables_of_test, variables_but, variables_of_patterns}
-use Rattle.cp_wellformed.specs.Role.{IsWellFormedRole}
-use Rattle.cp_wellformed.proofs.Strands.{role_listed}
-use Rattle.cp_wellformed.proofs.Terms.{AreDeclared, none_declared, both_declared, named_is_declared}
+use Rattle.cp_language.specs.Role.{IsWellFormedRole}
+use Rattle.cp_language.proofs.Strands.{role_listed}
+use Rattle.cp_language.proofs.Terms.{AreDeclared, none_declared, both_declared, named_is_declared}
 use Rattle.cp_report.specs.Misfits.{misfit_unless, lacking, each_misfits, entries_misfits, list_misfits, symbol_misfits}
-use Rattle.cp_report.specs.Heads.{entries_of, entries_or_none, optional_misfits}
+use Rattle.cp_report.specs.Heads.{forms_after_head, entries_or_none, optional_misfits}
 use Rattle.cp_report.specs.Spelled.{Scope, plain_scope, Local, term_misfits, term_in, atom_misfits, atom_in, locals_in, locals_onto, clash_misfits, place_of_local, variables_of_locals, pattern_scope, pattern_misfits, pattern_of}
-use Rattle.cp_report.specs.Skeletons.{node_misfits, height_misfits, declared_in_prefix, prefix_misfits, instance_misfits, is_instance, strand_misfits, instance_with, instance_of_entries, strand_of, term_or_tag, value_mapped, values_mapped, atoms_misfits, unique_of, unique_misfits, uniques_misfits, problem_variables, values_of_map}
+use Rattle.cp_report.specs.Skeletons.{node_misfits, height_misfits, declared_in_prefix, prefix_misfits, instance_misfits, states_instance, strand_misfits, instance_with, instance_of_entries, strand_of, term_or_tag, value_mapped, values_mapped, atoms_misfits, unique_of, unique_misfits, uniques_misfits, problem_variables, values_of_map}
 use Rattle.cp_report.specs.Labels.{test_misfits, test_of}
 use Rattle.cp_report.proofs.ApartIdentifiers.{apart_identifiers, apart_in_prefix}
 use Rattle.cp_report.proofs.PrintedStrands.{value_taken}
@@ -116,12 +116,12 @@ module _ (ds : List Declaration) where
 
     -- One strand.
     of_strand : (f : Form) → strand_misfits roles s f ≡ [] → AreDeclared ds (variables_of_trace (skeleton_trace (strand_of roles s f)))
-    of_strand f e = by (is_instance f) e
+    of_strand f e = by (states_instance f) e
       where
-        by : (b : Bool) → (if b then instance_misfits roles s (place_of f) (entries_of f) else entries_misfits (term_misfits s ∷ []) (place_of f) (entries_of f)) ≡ []
-            → AreDeclared ds (variables_of_trace (skeleton_trace (if b then instance_of_entries roles s (entries_of f) else listener (term_or_tag s (first_form (entries_of f))))))
-        by true h = of_instance (place_of f) (entries_of f) h
-        by false h = of_listener (place_of f) (entries_of f) h
+        by : (b : Bool) → (if b then instance_misfits roles s (place_of f) (forms_after_head f) else entries_misfits (term_misfits s ∷ []) (place_of f) (forms_after_head f)) ≡ []
+            → AreDeclared ds (variables_of_trace (skeleton_trace (if b then instance_of_entries roles s (forms_after_head f) else listener (term_or_tag s (first_form (forms_after_head f))))))
+        by true h = of_instance (place_of f) (forms_after_head f) h
+        by false h = of_listener (place_of f) (forms_after_head f) h
 
     -- All strands.
     pub strands_declared : (fs : List Form) → each_misfits (strand_misfits roles s) fs ≡ [] → AreDeclared ds (variables_of_strands (map (strand_of roles s) fs))
@@ -172,7 +172,7 @@ module _ (ds : List Declaration) where
   -- The critical term of a test.
   pub test_declared : (strands : List SkeletonStrand) (o : Option Form) → optional_misfits (test_misfits s strands) o ≡ [] → AreDeclared ds (variables_of_test (test_of s o))
   test_declared strands None e = none_declared ds
-  test_declared strands (Some f) e = by (place_of f) (entries_of f) e
+  test_declared strands (Some f) e = by (place_of f) (forms_after_head f) e
     where
       by : (at : Place) (fs : List Form) → test_misfits s strands at fs ≡ [] → AreDeclared ds (variables_of (term_or_tag s (second_form fs)))
       by at [] h = absurd (cc)
@@ -228,4 +228,4 @@ module _ (ds : List Declaration) where
   pub patterns_declared : (tested : Bool) (o : Option Form) → optional_misfits (patterns_misfits ds tested) o ≡ [] → AreDeclared ds (variables_of_patterns (map (pattern_of ds) (entries_or_none o)))
   patterns_declared tested None e = none_declared ds
   patterns_declared tested (Some f) e =
-      each_declared (entries_of f) (none_of_three (misfit_unless tested (place_of f)) (lacking 1 (place_of f) (entries_of f)) (each_misfits (pattern_misfits ds) (entries_of f)) e).2
+      each_declared (forms_after_head f) (none_of_three (misfit_unless tested (place_of f)) (lacking 1 (place_of f) (forms_after_head f)) (each_misfits (pattern_misfits ds) (forms_after_head f)) e).2

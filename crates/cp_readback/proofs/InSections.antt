@@ -15,13 +15,13 @@ use Rattle.cp_language.specs.Problems.{Problem}
 use Rattle.cp_language.specs.Input.{headed_top_faults, protocols_behind, faults_from, stated_problem, entries_from}
 use Rattle.cp_language.specs.StatedInput.{protocols_in}
 use Rattle.cp_roles.specs.Above.{turned}
-use Rattle.cp_forms.specs.FirstFault as faults
-use Rattle.cp_forms.proofs.Firsts as faults_met
+use Rattle.cp_scope.specs.FirstFault as faults
+use Rattle.cp_scope.proofs.Firsts as faults_met
 use Rattle.cp_load.proofs.TopForms.{behind-turned}
 use Rattle.cp_report.specs.ReadBack.{Section, next_place, tree_misfits, trees_misfits, tree_of, tree_onto}
-use Rattle.cp_variables.specs.FirstMisfit.{first_onto}
-use Rattle.cp_report.specs.Misfits.{stands_before}
-use Rattle.cp_forms.proofs.FirstOf.{first_onto-append}
+use Rattle.cp_spelled.specs.FirstMisfit.{first_onto}
+use Rattle.cp_report.specs.Misfits.{place_before}
+use Rattle.cp_scope.proofs.FirstOf.{first_onto-append}
 use Rattle.cp_readback.specs.Sections.{section_view}
 use Rattle.cp_readback.specs.declared.sections.Section as program
 use Rattle.cp_readback.specs.Reports.{forms_in, problem_at, trees_by}
@@ -67,7 +67,7 @@ module _ (ss : List program.Section) (k : ℕ) where
           ∙ ap (λ y. first_onto y (trees_misfits first after rest))
           (e ∙ ap (λ y. first_onto o (tree_misfits y next (map view s.behind.now))) stated
           ∙ ap (λ y. first_onto o (tree_misfits (stated_problem (turned ps []) (headed (view s.form.now))) y (map view s.behind.now))) is_next)
-          ∙ sym (first_onto-append stands_before o own (trees_misfits first after rest))
+          ∙ sym (first_onto-append place_before o own (trees_misfits first after rest))
           ∙ sym (ap (λ ts. first_onto o (trees_misfits first (turned ps []) ts)) section-read) ∙ i
 
       pub problems-taken : (xs ys all : List (Option Problem)) (x : Option Problem) → x ≡ stated_problem (turned ps []) (headed (view s.form.now)) → ys ≡ xs ++ x ∷ []

@@ -1,3 +1,12 @@
+pub mod InLine
+pub mod Relations
+pub mod InFront
+pub mod InKinds
+pub mod Counted
+pub mod AllItems
+pub mod InTree
+pub mod LabelsFit
+pub mod LabelParts
 pub mod Sectioned
 pub mod FaultPlaces
 pub mod InSections

@@ -14,11 +14,11 @@ use Rattle.cp_language.specs.Words.{TermHead, cat, encrypt, long_term_key, publi
 use Rattle.cp_language.specs.Faults.{place_of, items_of}
 use Rattle.cp_language.specs.Roles.{front_of, last_form}
 use Rattle.cp_language.specs.Problems.{is_known}
-use Rattle.cp_language.specs.Terms.{variable_named, TermSort, of_atoms, of_all, sort_of_variable, is_sort, is_atom, term_of_variable, paired, all_but_last, last_of, as_key, as_name, as_atom, key_as_term, long_term, inverted, key_of_name, applied}
+use Rattle.cp_language.specs.Terms.{variable_named, TermSort, of_atoms, of_all, sort_of_variable, is_sort, admits_atom, term_of_variable, paired, all_but_last, last_of, as_key, as_name, as_atom, key_as_term, long_term, inverted, key_of_name, applied}
 use Rattle.cp_report.specs.Misfits.{misfit, misfit_unless, unless_misfit, lacking, all_misfits}
-use Rattle.cp_report.specs.Spelled.{Scope, plain_scope, local_by, variable_of_local, is_of_sort, sort_of_head, known_or, sort_in, sort_misfits, atom_misfits, atom_in, variable_misfits, variables_misfits, name_misfits, spread_misfits, last_key_misfits, local_misfits, applied_misfits, term_misfits, each_term_misfits, term_in, terms_in}
+use Rattle.cp_report.specs.Spelled.{Scope, plain_scope, local_by, variable_of_local, is_found_of_sort, sort_of_head, known_or, sort_in, sort_misfits, atom_misfits, atom_in, variable_misfits, variables_misfits, name_misfits, spread_misfits, last_key_misfits, local_misfits, applied_misfits, term_misfits, each_term_misfits, term_in, terms_in}
 use Rattle.cp_report.specs.FittingTrees.{sort_of_atom}
-use Rattle.cp_wellformed.proofs.Terms.{AreDeclared, none_declared, one_declared, both_declared, named_is_declared, IsOfSort, variable_of_sort, variable_declared, IsSound, sound_of_sort}
+use Rattle.cp_language.proofs.Terms.{AreDeclared, none_declared, one_declared, both_declared, named_is_declared, IsOfSort, variable_of_sort, variable_declared, IsSound, sound_of_sort}
 use Rattle.cp_stated.proofs.NoMisfits.{holds}
 
 module _ (ds : List Declaration) where
@@ -43,19 +43,19 @@ module _ (ds : List Declaration) where
     term : term_in s f ≡ atom_term (atom_of_variable variable)
 
   -- An identifier that names a variable of the sort.
-  named_variable : (r : Sort) (t : List ℕ) (o : Option Variable) → variable_named ds t ≡ o → is_of_sort r o ≡ true → (x : Variable) × (o ≡ Some x) × (r ≡ x.sort) × IsDeclared ds x
+  named_variable : (r : Sort) (t : List ℕ) (o : Option Variable) → variable_named ds t ≡ o → is_found_of_sort r o ≡ true → (x : Variable) × (o ≡ Some x) × (r ≡ x.sort) × IsDeclared ds x
   named_variable r t None e h = absurd (cc)
   named_variable r t (Some x) e h = (x, refl, sort_is r x.sort h, named_is_declared ds t x e)
 
   -- No list is a local outside patterns.
-  no_local : (b : Bool) (at : Place) (inside : List Place) (o : Option Variable) (r : Sort) → unless_misfit (if b && false then inside else []) (misfit_unless (is_of_sort r (if b && false then o else None)) at) ≡ [] → ⊥
+  no_local : (b : Bool) (at : Place) (inside : List Place) (o : Option Variable) (r : Sort) → unless_misfit (if b && false then inside else []) (misfit_unless (is_found_of_sort r (if b && false then o else None)) at) ≡ [] → ⊥
   no_local true at inside o r e = cc
   no_local false at inside o r e = cc
 
   -- Where a variable has to stand, one stands.
   variable_fits : (r : Sort) (f : Form) → variable_misfits s r f ≡ [] → IsVariable r f
   variable_fits r (symbol at t) e =
-      let x = named_variable r t (variable_named ds t) refl (holds (is_of_sort r (variable_named ds t)) at e) in
+      let x = named_variable r t (variable_named ds t) refl (holds (is_found_of_sort r (variable_named ds t)) at e) in
       record { variable = x.0; declared = x.3; sort = sym x.2; term = ap term_of_variable x.1 }
   variable_fits r (string at t) e = absurd (cc)
   variable_fits r (number at n) e = absurd (cc)
@@ -256,10 +256,10 @@ module _ (ds : List Declaration) where
   -- A term that fits as an atom is one over declared variables.
   pub atom_declared : (f : Form) → atom_misfits s f ≡ [] → AreDeclared ds (variables_of_atom (atom_in s f))
   atom_declared f e =
-      let atomic = misfit_unless (is_atom (sort_in s f)) (place_of f) in
-      by (sort_in s f) (term_in s f) (term_sound f (none_behind atomic (term_misfits s f) e)) (holds (is_atom (sort_in s f)) (place_of f) (none_before atomic (term_misfits s f) e))
+      let atomic = misfit_unless (admits_atom (sort_in s f)) (place_of f) in
+      by (sort_in s f) (term_in s f) (term_sound f (none_behind atomic (term_misfits s f) e)) (holds (admits_atom (sort_in s f)) (place_of f) (none_before atomic (term_misfits s f) e))
     where
-      by : (o : Option TermSort) (t : Term) → IsSound ds o t → is_atom o ≡ true → AreDeclared ds (variables_of_atom (as_atom t))
+      by : (o : Option TermSort) (t : Term) → IsSound ds o t → admits_atom o ≡ true → AreDeclared ds (variables_of_atom (as_atom t))
       by None t h q = absurd (h.known refl)
       by (Some of_all) t h q = absurd (cc)
       by (Some (of_atoms r)) t h q =

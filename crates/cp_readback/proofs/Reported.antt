@@ -14,22 +14,22 @@ use Rattle.cp_sexpr.specs.declared.form.Form as program
 use Rattle.cp_language.specs.Roles.{headed}
 use Rattle.cp_language.specs.Problems.{Problem}
 use Rattle.cp_language.specs.Input.{stated_problem, protocols_behind, faults_from, faults_of, Entry, entries_from, input_of}
-use Rattle.cp_forms.specs.FirstFault as faults
-use Rattle.cp_forms.proofs.Views.{items_of-forms_of}
-use Rattle.cp_load.specs.Drafts.{draft_view, HaveSoundSkeletons}
+use Rattle.cp_scope.specs.FirstFault as faults
+use Rattle.cp_scope.proofs.Views.{items_of-forms_of}
+use Rattle.cp_load.specs.UncheckedProblems.{unchecked_view, HaveSoundSkeletons}
 use Rattle.cp_load.specs.Inputs.{problem_view, entries_view}
-use Rattle.cp_load.specs.declared.drafts.Draft.{Draft}
+use Rattle.cp_load.specs.declared.unchecked_problems.UncheckedProblem.{UncheckedProblem}
 use Rattle.cp_load.specs.declared.input.Problem as loaded
-use Rattle.cp_load.proofs.SoundDrafts.{drafts_sound}
+use Rattle.cp_load.proofs.SoundUnchecked.{unchecked_sound}
 use Rattle.cp_load.proofs.TopForms.{entries-finished}
 use Rattle.cp_report.specs.ReadBack.{Section, Sections, sections_of, input_forms, fault_places, first_place, next_place, places_of, tree_misfits, trees_misfits, tree_onto, trees_from, misfits, report_of, IsReadBack}
-use Rattle.cp_variables.specs.FirstMisfit.{first_onto, merged}
-use Rattle.cp_report.specs.Misfits.{stands_before}
-use Rattle.cp_forms.proofs.FirstOf.{first_then, none_found}
-use Rattle.cp_variables.proofs.Firsts.{first_found}
+use Rattle.cp_spelled.specs.FirstMisfit.{first_onto, merged}
+use Rattle.cp_report.specs.Misfits.{place_before}
+use Rattle.cp_scope.proofs.FirstOf.{first_then, none_found}
+use Rattle.cp_spelled.proofs.Firsts.{first_found}
 use Rattle.cp_readback.specs.Sections.{section_view}
 use Rattle.cp_readback.specs.declared.sections.Section as of_program
-use Rattle.cp_readback.specs.Reports.{forms_in, problems_stated, drafts_view, problem_at, trees_by, HaveTrees}
+use Rattle.cp_readback.specs.Reports.{forms_in, problems_stated, all_unchecked_view, problem_at, trees_by, AreFollowedByTrees}
 use Rattle.cp_readback.proofs.FaultPlaces.{gathered}
 
 -- ---- the problems of the input
@@ -43,25 +43,25 @@ forms-same : (ss : List of_program.Section) → map view (map (λ s. s.form.now)
 forms-same [] = refl
 forms-same (s ∷ ss) = ap (λ fs. view s.form.now ∷ fs) (forms-same ss)
 
-pub sound-drafts : (ss : List of_program.Section) (ds : List (Option Draft)) → faults_from [] (forms_in (map section_view ss)) ≡ [] → drafts_view ds ≡ problems_stated (map section_view ss) → HaveSoundSkeletons ds
-sound-drafts ss ds none same =
+pub sound-unchecked_problems : (ss : List of_program.Section) (ds : List (Option UncheckedProblem)) → faults_from [] (forms_in (map section_view ss)) ≡ [] → all_unchecked_view ds ≡ problems_stated (map section_view ss) → HaveSoundSkeletons ds
+sound-unchecked_problems ss ds none same =
     let fs = map (λ s. s.form.now) ss in
-    drafts_sound fs ds (ap (faults_from []) (items_of-forms_of (map view fs)) ∙ ap (faults_from []) (forms-same ss) ∙ none)
+    unchecked_sound fs ds (ap (faults_from []) (items_of-forms_of (map view fs)) ∙ ap (faults_from []) (forms-same ss) ∙ none)
     (same ∙ ap (λ gs. map (λ e. e.problem) (entries_from [] gs)) (sym (forms-same ss)))
 
-pub draft-read : (ds : List (Option Draft)) (n : ℕ) (d : Option Draft) → Some d ≡ item_at ds n → option_map draft_view d ≡ problem_at (drafts_view ds) n
-draft-read [] n d e = absurd (cc)
-draft-read (x ∷ ds) zero d e = let is : d ≡ x = cc in ap (option_map draft_view) is
-draft-read (x ∷ ds) (suc n) d e = draft-read ds n d e
+pub unchecked-read : (ds : List (Option UncheckedProblem)) (n : ℕ) (d : Option UncheckedProblem) → Some d ≡ item_at ds n → option_map unchecked_view d ≡ problem_at (all_unchecked_view ds) n
+unchecked-read [] n d e = absurd (cc)
+unchecked-read (x ∷ ds) zero d e = let is : d ≡ x = cc in ap (option_map unchecked_view) is
+unchecked-read (x ∷ ds) (suc n) d e = unchecked-read ds n d e
 
-pub draft-none : (ds : List (Option Draft)) (n : ℕ) → None ≡ item_at ds n → None ≡ problem_at (drafts_view ds) n
-draft-none [] n e = refl
-draft-none (x ∷ ds) zero e = absurd (cc)
-draft-none (x ∷ ds) (suc n) e = draft-none ds n e
+pub unchecked-none : (ds : List (Option UncheckedProblem)) (n : ℕ) → None ≡ item_at ds n → None ≡ problem_at (all_unchecked_view ds) n
+unchecked-none [] n e = refl
+unchecked-none (x ∷ ds) zero e = absurd (cc)
+unchecked-none (x ∷ ds) (suc n) e = unchecked-none ds n e
 
 -- ---- the trees behind them
 
-have-trees : (first : Place) (above : List Protocol) (ss : List Section) → trees_misfits first above ss ≡ [] → HaveTrees (map (λ e. e.problem) (entries_from above (forms_in ss))) ss
+have-trees : (first : Place) (above : List Protocol) (ss : List Section) → trees_misfits first above ss ≡ [] → AreFollowedByTrees (map (λ e. e.problem) (entries_from above (forms_in ss))) ss
 have-trees first above [] e n p s g h = absurd (cc)
 have-trees first above (t ∷ ss) e zero p s g h =
     let is : t ≡ s = cc in
@@ -96,7 +96,7 @@ module _ (fs : List program.Form) (cut : Sections) (is_cut : cut ≡ sections_of
       let rs = faults_from [] (forms_in read) in
       let behind = trees_misfits (first_place (map view fs)) [] read in
       gathered rs front behind g q all (at_input ∙ ap (λ x. faults.first_onto x rs) none)
-      (first_then stands_before o p q front behind at_front (at_trees ∙ ap (λ x. first_onto p (trees_misfits x [] read)) is_start) ∙ ap (λ x. first_onto x (front ++ behind)) new) noted
+      (first_then place_before o p q front behind at_front (at_trees ∙ ap (λ x. first_onto p (trees_misfits x [] read)) is_start) ∙ ap (λ x. first_onto x (front ++ behind)) new) noted
       ∙ ap (first_onto None) (sym misfits-are)
 
 pub read-refused : (fs : List program.Form) (o : Option Place) (at : Place) → o ≡ first_onto None (misfits (views fs)) → o ≡ Some at → IsReadBack (views fs) (Err at)
@@ -109,7 +109,7 @@ module _ (fs : List program.Form) (o : Option Place) (found : o ≡ first_onto N
   sections = (sections_of (map view fs)).sections
 
   no-misfits : misfits (views fs) ≡ []
-  no-misfits = none_found stands_before (misfits (views fs)) (sym found ∙ e)
+  no-misfits = none_found place_before (misfits (views fs)) (sym found ∙ e)
 
   none-here : ((fault_places (faults_from [] (forms_in sections)) ++ places_of (sections_of (map view fs)).front) ≡ []) × (trees_misfits (first_place (map view fs)) [] sections ≡ [])
   none-here =
@@ -119,11 +119,11 @@ module _ (fs : List program.Form) (o : Option Place) (found : o ≡ first_onto N
   input-fits : faults_from [] (forms_in sections) ≡ []
   input-fits = no_faults (faults_from [] (forms_in sections)) (none_in_both (fault_places (faults_from [] (forms_in sections))) (places_of (sections_of (map view fs)).front) none-here.0).0
 
-  pub trees-fit : (os : List (Option Problem)) (ss : List Section) → os ≡ problems_stated sections → ss ≡ sections → HaveTrees os ss
-  trees-fit os ss stated are = subst (λ ts. HaveTrees os ts) (sym are) (subst (λ qs. HaveTrees qs sections) (sym stated) (have-trees (first_place (map view fs)) [] sections none-here.1))
+  pub trees-fit : (os : List (Option Problem)) (ss : List Section) → os ≡ problems_stated sections → ss ≡ sections → AreFollowedByTrees os ss
+  trees-fit os ss stated are = subst (λ ts. AreFollowedByTrees os ts) (sym are) (subst (λ qs. AreFollowedByTrees qs sections) (sym stated) (have-trees (first_place (map view fs)) [] sections none-here.1))
 
-  pub drafts-fit : (ss : List of_program.Section) (ds : List (Option Draft)) → map section_view ss ≡ sections → drafts_view ds ≡ problems_stated sections → HaveSoundSkeletons ds
-  drafts-fit ss ds are stated = sound-drafts ss ds (ap (λ ts. faults_from [] (forms_in ts)) are ∙ input-fits) (stated ∙ ap problems_stated (sym are))
+  pub unchecked_problems-fit : (ss : List of_program.Section) (ds : List (Option UncheckedProblem)) → map section_view ss ≡ sections → all_unchecked_view ds ≡ problems_stated sections → HaveSoundSkeletons ds
+  unchecked_problems-fit ss ds are stated = sound-unchecked_problems ss ds (ap (λ ts. faults_from [] (forms_in ts)) are ∙ input-fits) (stated ∙ ap problems_stated (sym are))
 
   pub report-read : (entries : List Entry) (trees : List Tree) → entries ≡ entries_from [] (forms_in sections) → trees ≡ trees_from [] sections
       → IsReadBack (views fs) (Ok (record { entries = entries; trees = trees }))
@@ -144,7 +144,7 @@ entries-length : (above : List Protocol) (fs : List Form) → length (map (λ e.
 entries-length above [] = refl
 entries-length above (f ∷ fs) = ap suc (entries-length (protocols_behind (headed f) above) fs)
 
-module _ (fs gs : List Form) (ds : List (Option Draft)) (ps : List (Option loaded.Problem)) (are : gs ≡ fs) (stated : drafts_view ds ≡ map (λ e. e.problem) (entries_from [] fs)) (finished : map (option_map problem_view) ps ≡ drafts_view ds) where
+module _ (fs gs : List Form) (ds : List (Option UncheckedProblem)) (ps : List (Option loaded.Problem)) (are : gs ≡ fs) (stated : all_unchecked_view ds ≡ map (λ e. e.problem) (entries_from [] fs)) (finished : map (option_map problem_view) ps ≡ all_unchecked_view ds) where
   pub entries-are : entries_view gs ps ≡ entries_from [] fs
   entries-are = ap (λ hs. entries_view hs ps) are ∙ entries-finished ds ps finished fs stated
 

@@ -8,8 +8,8 @@ use Rattle.cp_sexpr.specs.View.{view}
 use Rattle.cp_sexpr.specs.declared.form.Form as program
 use Rattle.cp_report.specs.Heads.{is_of_tree}
 use Rattle.cp_report.specs.ReadBack.{Section, Sections, with_form, sections_of}
-use Rattle.cp_reading.specs.InFront.{leading}
-use Rattle.cp_reading.proofs.InFront.{taken}
+use Rattle.cp_readback.specs.InFront.{leading}
+use Rattle.cp_readback.proofs.InFront.{taken}
 
 front_by : (f : Form) (s : Sections) (b : Bool)
     → (let t : Sections = if b then record { front = f ∷ s.front; sections = s.sections } else record { front = []; sections = record { form = f; behind = s.front } ∷ s.sections } in t).front ≡ (if b then f ∷ s.front else [])

@@ -12,7 +12,7 @@ use Rattle.cp_model.specs.Pattern.{IsPattern}
 use Rattle.cp_model.specs.Problem.{declared_sort, IsDeclared, variables_of_strands, variables_of_atoms, variables_of_uniques, variables_of_assumptions, variables_of_skeleton, variables_of_terms}
 use Rattle.cp_model.specs.Skeleton.{SkeletonStrand, skeleton_trace, UniqueAt, Skeleton}
 use Rattle.cp_model.specs.Tree.{Operation, by_problem, by_collapse, by_contraction, by_displacement, by_added_strand, by_added_listener, by_generalising, Mark, shape, dead, seen, instance_of, limit_steps, limit_strands, Pattern, Test, Label}
-use Rattle.cp_skel.proofs.UnderVariables.{of_trace}
+use Rattle.cp_model.proofs.UnderVariables.{of_trace}
 use Rattle.cp_language.specs.Problems.{Problem}
 use Rattle.cp_language.specs.Report.{variables_of_test, variables_but, variables_of_patterns, occurring}
 use Rattle.cp_language.proofs.NoLocals.{from_but}

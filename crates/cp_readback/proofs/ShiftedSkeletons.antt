@@ -18,11 +18,11 @@ use Rattle.cp_model.proofs.Images.{own_images, images_then}
 use Rattle.cp_model.proofs.LawAgreement.{agree_atom, agree_term}
 use Rattle.cp_model.proofs.LawTerms.{atom_composed, term_composed, atom_unchanged, term_unchanged}
 use Rattle.cp_report.specs.FittingTrees.{HasSortOf}
-use Rattle.cp_report.specs.UpToNames.{renamed, renaming, IsSameStrand, unique_renamed, AreSameAssumptions, IsSameSkeleton}
+use Rattle.cp_report.specs.UpToNames.{renamed, renaming, IsSameStrandUnder, unique_renamed, AreSameAssumptions, IsSameSkeleton}
 use Rattle.cp_report.proofs.Inverses.{renamed_atom}
 use Rattle.cp_report.proofs.OwnStated.{AreOver, assumptions_renamed, atom_image}
 use Rattle.cp_report.proofs.RenamedStrands.{event_renamed}
-use Rattle.cp_legible.proofs.SameMaps.{same_is_skeleton}
+use Rattle.cp_printable.proofs.SameMaps.{same_is_skeleton}
 
 -- ---- images
 
@@ -43,10 +43,10 @@ images_back h k xs same y = (forth_of, back_of)
 -- ---- the order
 
 -- The event at a node of the first strands gives one at that node of the second.
-pub node_kept : (s : Substitution) (ks ls : List SkeletonStrand) → ArePaired (IsSameStrand s) ks ls → (n : Node) (e : Event Term) → term_event_at ks n ≡ Some e → term_event_at ls n ≡ Some (event_map (apply_to s) e)
+pub node_kept : (s : Substitution) (ks ls : List SkeletonStrand) → ArePaired (IsSameStrandUnder s) ks ls → (n : Node) (e : Event Term) → term_event_at ks n ≡ Some e → term_event_at ls n ≡ Some (event_map (apply_to s) e)
 node_kept s ks ls paired n e at = event_renamed s ks ls paired n ∙ ap (option_map (event_map (apply_to s))) at
 
-module _ (s : Substitution) (k m : Skeleton) (paired : ArePaired (IsSameStrand s) k.strands m.strands) (wider : (p : OrderPair) → IsIn p k.pairs → IsIn p m.pairs) where
+module _ (s : Substitution) (k m : Skeleton) (paired : ArePaired (IsSameStrandUnder s) k.strands m.strands) (wider : (p : OrderPair) → IsIn p k.pairs → IsIn p m.pairs) where
   -- A step of the order is one of the other's,
   step_kept : {x y : Node} → OrderStep k x y → OrderStep m x y
   step_kept (along_strand_of {s = a} {i = i} {e = e} at) = along_strand_of (node_kept s k.strands m.strands paired (node_at a (suc i)) e at)
@@ -100,12 +100,12 @@ module _ (n : ℕ) where
   shifted_strand (listener t) = listener (apply_to up t)
 
   -- A strand is the same as the shifted one,
-  pub up_strand : (s : SkeletonStrand) → IsSameStrand up s (shifted_strand s)
+  pub up_strand : (s : SkeletonStrand) → IsSameStrandUnder up s (shifted_strand s)
   up_strand (instance role height terms) = (refl, refl, λ x m. refl)
   up_strand (listener t) = refl
 
   -- and the other way round.
-  down_strand : (s : SkeletonStrand) → IsSameStrand down (shifted_strand s) s
+  down_strand : (s : SkeletonStrand) → IsSameStrandUnder down (shifted_strand s) s
   down_strand (instance role height terms) = (
     refl,
     refl,
@@ -114,12 +114,12 @@ module _ (n : ℕ) where
   down_strand (listener t) = term_back t
 
   -- The same of all strands.
-  pub up_strands : (ss : List SkeletonStrand) → ArePaired (IsSameStrand up) ss (map shifted_strand ss)
+  pub up_strands : (ss : List SkeletonStrand) → ArePaired (IsSameStrandUnder up) ss (map shifted_strand ss)
   up_strands [] = tt
   up_strands (s ∷ ss) = (up_strand s, up_strands ss)
 
   -- The same the other way round.
-  down_strands : (ss : List SkeletonStrand) → ArePaired (IsSameStrand down) (map shifted_strand ss) ss
+  down_strands : (ss : List SkeletonStrand) → ArePaired (IsSameStrandUnder down) (map shifted_strand ss) ss
   down_strands [] = tt
   down_strands (s ∷ ss) = (down_strand s, down_strands ss)
 

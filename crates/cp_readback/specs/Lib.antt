@@ -1,3 +1,10 @@
+pub mod Lines
+pub mod Families
+pub mod Parts
+pub mod Kinds
+pub mod Counts
+pub mod InFront
+pub mod Items
 pub mod Sections
 pub mod Reports
 pub mod AcceptedLabels

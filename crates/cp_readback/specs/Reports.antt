@@ -8,9 +8,9 @@ use Rattle.cp_sexpr.specs.View.{view}
 use Rattle.cp_language.specs.Problems.{Problem}
 use Rattle.cp_language.specs.Input.{entries_from}
 use Rattle.cp_skel.specs.Trees.{tree_view}
-use Rattle.cp_load.specs.Drafts.{draft_view}
+use Rattle.cp_load.specs.UncheckedProblems.{unchecked_view}
 use Rattle.cp_load.specs.Inputs.{entries_view}
-use Rattle.cp_load.specs.declared.drafts.Draft.{Draft}
+use Rattle.cp_load.specs.declared.unchecked_problems.UncheckedProblem.{UncheckedProblem}
 use Rattle.cp_report.specs.ReadBack as report
 use Rattle.cp_readback.specs.declared.report.Report.{Report}
 
@@ -25,9 +25,9 @@ forms_in ss = map (λ s. s.form) ss
 abbrev pub problems_stated : List report.Section → List (Option Problem)
 problems_stated ss = map (λ e. e.problem) (entries_from [] (forms_in ss))
 
--- The problems that drafts stand for.
-abbrev pub drafts_view : List (Option Draft) → List (Option Problem)
-drafts_view ds = map (option_map draft_view) ds
+-- The problems that unchecked ones stand for.
+abbrev pub all_unchecked_view : List (Option UncheckedProblem) → List (Option Problem)
+all_unchecked_view ds = map (option_map unchecked_view) ds
 
 -- The problem at a place, if there is such a place and it has one.
 abbrev pub problem_at : List (Option Problem) → ℕ → Option Problem
@@ -42,5 +42,5 @@ trees_by (o ∷ os) [] = []
 trees_by (o ∷ os) (s ∷ ss) = report.tree_onto o s.behind (trees_by os ss)
 
 -- Behind each form that states a problem stands a tree for it.
-abbrev pub HaveTrees : List (Option Problem) → List report.Section → Type 0
-HaveTrees os ss = (n : ℕ) (p : Problem) (s : report.Section) → problem_at os n ≡ Some p → item_at ss n ≡ Some s → (next : Place) × (report.tree_misfits (Some p) next s.behind ≡ [])
+abbrev pub AreFollowedByTrees : List (Option Problem) → List report.Section → Type 0
+AreFollowedByTrees os ss = (n : ℕ) (p : Problem) (s : report.Section) → problem_at os n ≡ Some p → item_at ss n ≡ Some s → (next : Place) × (report.tree_misfits (Some p) next s.behind ≡ [])

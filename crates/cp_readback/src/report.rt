@@ -4,26 +4,25 @@ ghost use Rattle.cp_base.specs.declared.place.Place.{Place as Where};
 ghost use Rattle.cp_sexpr.specs.View.{view, views};
 ghost use Rattle.cp_language.specs.Input.{faults_from};
 ghost use Rattle.cp_language.specs.StatedInput.{protocols_in};
-ghost use Rattle.cp_forms.specs.FirstFault as fault;
+ghost use Rattle.cp_scope.specs.FirstFault as fault;
 ghost use Rattle.cp_roles.specs.Above.{protocols_view};
 ghost use Rattle.cp_skel.specs.Trees.{tree_view};
-ghost use Rattle.cp_load.specs.Drafts.{draft_view};
+ghost use Rattle.cp_load.specs.UncheckedProblems.{unchecked_view};
 ghost use Rattle.cp_report.specs.ReadBack.{IsReadBack, sections_of, next_place, first_place, trees_misfits, misfits};
-ghost use Rattle.cp_variables.specs.FirstMisfit.{first_onto, merged};
+ghost use Rattle.cp_spelled.specs.FirstMisfit.{first_onto, merged};
 ghost use Rattle.cp_readback.specs.Sections.{section_view};
-ghost use Rattle.cp_readback.specs.Reports.{report_view, forms_in, problems_stated, drafts_view, problem_at, trees_by, HaveTrees};
+ghost use Rattle.cp_readback.specs.Reports.{report_view, forms_in, problems_stated, all_unchecked_view, problem_at, trees_by, AreFollowedByTrees};
 ghost use Rattle.cp_readback.specs.declared.error.ReadBackError.TheVariants.{NotReport};
 
 use crate::error::ReadBackError;
 use crate::sections::{Section, Sections, sections_of};
+use crate::{behind_misfits, none_may_stand, tree_of};
 use cp_base::Place;
-use cp_forms::{FirstFault, place_of};
-use cp_load::{Draft, Problem, all_finished, top_form};
-use cp_reading::{behind_misfits, none_may_stand, tree_of};
-use cp_scope::Taken;
+use cp_load::{Problem, UncheckedProblem, all_finished, top_form};
+use cp_scope::{FirstFault, NameSet, place_of};
 use cp_sexpr::Form;
 use cp_skel::{Protocol, Tree};
-use cp_variables::FirstMisfit;
+use cp_spelled::FirstMisfit;
 use std::alloc::{AllocError, Global};
 use std::rc::Rc;
 
@@ -37,11 +36,11 @@ pub struct Report<'a> {
     pub trees: Vec<Tree>,
 }
 
-/// What the forms of the input state: their protocols in order, and for each form the draft of its problem.
+/// What the forms of the input state: their protocols in order, and for each form its unchecked problem.
 #[derive(Drop)]
 struct Stated {
     protocols: Vec<Rc<Protocol>>,
-    drafts: Vec<Option<Draft>>,
+    unchecked_problems: Vec<Option<UncheckedProblem>>,
 }
 
 /// The forms of the input with the forms after each, what they state, and the first place, if any, at which the forms
@@ -50,7 +49,7 @@ struct Stated {
 struct Judged<'a> {
     sections: Vec<Section<'a>>,
     protocols: Vec<Rc<Protocol>>,
-    drafts: Vec<Option<Draft>>,
+    unchecked_problems: Vec<Option<UncheckedProblem>>,
     misfit: Option<Place>,
 }
 
@@ -85,20 +84,23 @@ fn stated_in(
 ) -> Result<Stated, AllocError>
     ensures faults { OnOk result (faults.new ≡ fault.first_onto faults.old (faults_from [] (forms_in (map section_view sections.now)))) }
     ensures misfits { OnOk result (first.new ≡ first_onto first.old (trees_misfits start [] (map section_view sections.now))) }
-    ensures problems { IfOk result (λ s. drafts_view s.drafts.items ≡ problems_stated (map section_view sections.now)) }
+    ensures problems { IfOk result (λ s. all_unchecked_view s.unchecked_problems.items ≡ problems_stated (map section_view sections.now)) }
     ensures protocols { IfOk result (λ s. protocols_view s.protocols.items ≡ protocols_in (forms_in (map section_view sections.now))) }
 {
     let mut protocols = Vec::new(alloc);
-    let mut names = Taken::new(alloc);
-    let mut drafts = Vec::new(alloc);
+    let mut names = NameSet::new(alloc);
+    let mut unchecked_problems = Vec::new(alloc);
     for (place, section) in sections.iter().enumerate() {
-        let draft = top_form(alloc, &mut protocols, &mut names, section.form, faults)?;
+        let unchecked = top_form(alloc, &mut protocols, &mut names, section.form, faults)?;
         let (_, following) = sections.split_at(place + 1);
         let next = next_place(start, following);
-        behind_misfits(alloc, draft.as_ref(), next, section.behind, first)?;
-        drafts.push(draft)?;
+        behind_misfits(alloc, unchecked.as_ref(), next, section.behind, first)?;
+        unchecked_problems.push(unchecked)?;
     }
-    Ok(Stated { protocols, drafts })
+    Ok(Stated {
+        protocols,
+        unchecked_problems,
+    })
 }
 
 /// Notes the place of the first fault, if there is one, as a misfit.
@@ -113,7 +115,7 @@ fn note_fault(faults: FirstFault, first: &mut FirstMisfit)
 /// Splits forms by those of the input, with what these state, and the first place at which they are no report.
 fn judge(alloc: Global, forms: &[Form]) -> Result<Judged<'_>, AllocError>
     ensures sections { IfOk result (λ j. map section_view j.sections.items ≡ (sections_of (map view forms.now)).sections) }
-    ensures problems { IfOk result (λ j. drafts_view j.drafts.items ≡ problems_stated (sections_of (map view forms.now)).sections) }
+    ensures problems { IfOk result (λ j. all_unchecked_view j.unchecked_problems.items ≡ problems_stated (sections_of (map view forms.now)).sections) }
     ensures protocols { IfOk result (λ j. protocols_view j.protocols.items ≡ protocols_in (forms_in (sections_of (map view forms.now)).sections)) }
     ensures misfit { IfOk result (λ j. j.misfit ≡ first_onto None (misfits (views forms.now))) }
 {
@@ -122,39 +124,45 @@ fn judge(alloc: Global, forms: &[Form]) -> Result<Judged<'_>, AllocError>
     let mut first = FirstMisfit::new();
     none_may_stand(front, &mut first);
     let start = first_place(forms);
-    let Stated { protocols, drafts } = stated_in(alloc, start, &sections, &mut faults, &mut first)?;
+    let Stated {
+        protocols,
+        unchecked_problems,
+    } = stated_in(alloc, start, &sections, &mut faults, &mut first)?;
     note_fault(faults, &mut first);
     let misfit = first.found();
     Ok(Judged {
         sections,
         protocols,
-        drafts,
+        unchecked_problems,
         misfit,
     })
 }
 
-/// The draft at this place in the list, if there is one.
-fn draft_at(drafts: &[Option<Draft>], place: usize) -> Option<&Draft>
-    ensures { option_map (λ d. draft_view d.now) result ≡ problem_at (drafts_view drafts.now) place }
+/// The unchecked problem at this place in the list, if there is one.
+fn unchecked_at(
+    unchecked_problems: &[Option<UncheckedProblem>],
+    place: usize,
+) -> Option<&UncheckedProblem>
+    ensures { option_map (λ d. unchecked_view d.now) result ≡ problem_at (all_unchecked_view unchecked_problems.now) place }
 {
-    match drafts.get(place) {
-        Some(draft) => draft.as_ref(),
+    match unchecked_problems.get(place) {
+        Some(unchecked) => unchecked.as_ref(),
         None => None,
     }
 }
 
-/// The trees after the forms that state the problems of these drafts.
+/// The trees after the forms that state these unchecked problems.
 fn trees_of(
     alloc: Global,
     sections: &[Section<'_>],
-    drafts: &[Option<Draft>],
+    unchecked_problems: &[Option<UncheckedProblem>],
 ) -> Result<Vec<Tree>, AllocError>
-    requires trees { HaveTrees (drafts_view drafts.now) (map section_view sections.now) }
-    ensures { IfOk result (λ ts. map tree_view ts.items ≡ trees_by (drafts_view drafts.now) (map section_view sections.now)) }
+    requires trees { AreFollowedByTrees (all_unchecked_view unchecked_problems.now) (map section_view sections.now) }
+    ensures { IfOk result (λ ts. map tree_view ts.items ≡ trees_by (all_unchecked_view unchecked_problems.now) (map section_view sections.now)) }
 {
     let mut trees = Vec::new(alloc);
     for (place, section) in sections.iter().enumerate() {
-        let Some(problem) = draft_at(drafts, place) else {
+        let Some(problem) = unchecked_at(unchecked_problems, place) else {
             continue;
         };
         let tree = tree_of(alloc, problem, section.behind)?;
@@ -187,15 +195,15 @@ pub fn read_back<'a>(alloc: Global, forms: &'a [Form]) -> Result<Report<'a>, Rea
     let Judged {
         sections,
         protocols,
-        drafts,
+        unchecked_problems,
         misfit,
     } = judge(alloc, forms)?;
     if let Some(place) = misfit {
         return Err(ReadBackError::NotReport(place));
     }
-    let trees = trees_of(alloc, &sections, &drafts)?;
+    let trees = trees_of(alloc, &sections, &unchecked_problems)?;
     let forms = forms_of(alloc, &sections)?;
-    let problems = all_finished(alloc, drafts)?;
+    let problems = all_finished(alloc, unchecked_problems)?;
     Ok(Report {
         forms,
         protocols,

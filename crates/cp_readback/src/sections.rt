@@ -4,8 +4,8 @@ ghost use Rattle.cp_sexpr.specs.View.{view};
 ghost use Rattle.cp_report.specs.ReadBack.{sections_of};
 ghost use Rattle.cp_readback.specs.Sections.{sections_view};
 
+use crate::count_in_front;
 use cp_items::is_of_tree;
-use cp_reading::count_in_front;
 use cp_sexpr::Form;
 use std::alloc::{AllocError, Global};
 

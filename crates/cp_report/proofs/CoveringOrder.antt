@@ -6,8 +6,8 @@ use Rattle.std.proofs.lemmas.Bool.Decides.{nat_tests}
 use Rattle.cp_lists.specs.Lists.{IsIn, here, there}
 use Rattle.cp_model.specs.declared.node.Node.{Node}
 use Rattle.cp_model.specs.declared.node.OrderPair.{OrderPair}
-use Rattle.cp_model.specs.Order.{IsAtOrAfter, LeadsTo, on_strand, over_pair}
-use Rattle.cp_model.specs.OrderTests.{reaches}
+use Rattle.cp_model.specs.Order.{IsAtOrAfter, ReachesAlong, on_strand, over_pair}
+use Rattle.cp_model.specs.OrderTests.{reaches_within}
 use Rattle.cp_model.specs.Same.{same_node}
 use Rattle.cp_model.proofs.SameTests.{node_is, is_node}
 use Rattle.cp_model.proofs.BoundedSearch.{after_leads, leads_both}
@@ -80,32 +80,32 @@ all_three false b c p q r = absurd (cc)
 
 -- ---- an order without cycles
 
--- Two of these nodes that lead to each other are one.
+-- Two of these nodes that reach each other are one.
 abbrev pub IsAntisymmetric : List OrderPair → List Node → Type 0
-IsAntisymmetric pairs nodes = (x y : Node) → IsIn x nodes → IsIn y nodes → LeadsTo pairs x y → LeadsTo pairs y x → x ≡ y
+IsAntisymmetric pairs nodes = (x y : Node) → IsIn x nodes → IsIn y nodes → ReachesAlong pairs x y → ReachesAlong pairs y x → x ≡ y
 
--- What leads to one of these nodes is one of them.
+-- What reaches one of these nodes is one of them.
 abbrev pub IsClosedBack : List OrderPair → List Node → Type 0
-IsClosedBack pairs nodes = (x y : Node) → LeadsTo pairs x y → IsIn y nodes → IsIn x nodes
+IsClosedBack pairs nodes = (x y : Node) → ReachesAlong pairs x y → IsIn y nodes → IsIn x nodes
 
 at_itself : (x : Node) → IsAtOrAfter x x
 at_itself x = (refl, omega arith)
 
 module _ (pairs : List OrderPair) (nodes : List Node) (antisymmetric : IsAntisymmetric pairs nodes) (closed : IsClosedBack pairs nodes) where
-  pub before_parts : (x y : Node) → is_before pairs x y ≡ true → LeadsTo pairs x y × (x ≡ y → ⊥)
+  pub before_parts : (x y : Node) → is_before pairs x y ≡ true → ReachesAlong pairs x y × (x ≡ y → ⊥)
   before_parts x y h =
-      let two = and_parts (not (same_node x y)) (reaches (length pairs) pairs x y) h in
+      let two = and_parts (not (same_node x y)) (reaches_within (length pairs) pairs x y) h in
       ((reaches_all pairs x y).0 two.1, λ e. both_ways (not (same_node x y)) (ap not (is_node x y e)) two.0)
 
-  before_from : (x y : Node) → LeadsTo pairs x y → (x ≡ y → ⊥) → is_before pairs x y ≡ true
+  before_from : (x y : Node) → ReachesAlong pairs x y → (x ≡ y → ⊥) → is_before pairs x y ≡ true
   before_from x y l other =
-      and_from (not (same_node x y)) (reaches (length pairs) pairs x y) (ap not (false_from_ne_true (same_node x y) (λ h. other (node_is x y h)))) ((reaches_all pairs x y).1 l)
+      and_from (not (same_node x y)) (reaches_within (length pairs) pairs x y) (ap not (false_from_ne_true (same_node x y) (λ h. other (node_is x y h)))) ((reaches_all pairs x y).1 l)
 
   before_on : (x y z : Node) → IsIn x nodes → IsIn y nodes → is_before pairs x y ≡ true → is_before pairs y z ≡ true → is_before pairs x z ≡ true
   before_on x y z i j p q =
       let f = before_parts x y p in
       let s = before_parts y z q in
-      before_from x z (leads_both pairs x y z f.0 s.0) (λ e. f.1 (antisymmetric x y i j f.0 (subst (λ (o : Node). LeadsTo pairs y o) (sym e) s.0)))
+      before_from x z (leads_both pairs x y z f.0 s.0) (λ e. f.1 (antisymmetric x y i j f.0 (subst (λ (o : Node). ReachesAlong pairs y o) (sym e) s.0)))
 
   not_itself : (z : Node) → is_before pairs z z ≡ false
   not_itself z = false_from_ne_true (is_before pairs z z) (λ h. (before_parts z z h).1 refl)
@@ -115,7 +115,7 @@ module _ (pairs : List OrderPair) (nodes : List Node) (antisymmetric : IsAntisym
   is_between x y z = is_before pairs x z && is_before pairs z y
 
   -- on one strand the order goes up
-  goes_up : (x y : Node) → IsIn x nodes → IsIn y nodes → LeadsTo pairs x y → x.strand ≡ y.strand → IsAtOrAfter x y
+  goes_up : (x y : Node) → IsIn x nodes → IsIn y nodes → ReachesAlong pairs x y → x.strand ≡ y.strand → IsAtOrAfter x y
   goes_up x y i j l e = by (nat_le x.index y.index) refl
     where
       by : (b : Bool) → nat_le x.index y.index ≡ b → IsAtOrAfter x y
@@ -139,51 +139,51 @@ module _ (pairs : List OrderPair) (nodes : List Node) (antisymmetric : IsAntisym
       (λ w m g. let parts = and_parts (is_before pairs z w) (is_before pairs w y) g in and_from (is_before pairs x w) (is_before pairs w y) (before_on x z w i k first parts.0) parts.1) k
       (ap (λ b. b && is_before pairs z y) (not_itself z)) h
 
-  -- ---- covering pairs lead as far
+  -- ---- covering pairs reach as far
 
   module _ (covers : List OrderPair) (listed : (x y : Node) → IsIn x nodes → IsIn y nodes → is_covering pairs nodes x y ≡ true → IsIn (record { earlier = x; later = y }) covers) where
-    step : (n : ℕ) (x y : Node) → counted (is_between x y) nodes < suc n → LeadsTo pairs x y → IsIn y nodes
-        → ((a b : Node) → counted (is_between a b) nodes < n → LeadsTo pairs a b → IsIn b nodes → LeadsTo covers a b) → LeadsTo covers x y
+    step : (n : ℕ) (x y : Node) → counted (is_between x y) nodes < suc n → ReachesAlong pairs x y → IsIn y nodes
+        → ((a b : Node) → counted (is_between a b) nodes < n → ReachesAlong pairs a b → IsIn b nodes → ReachesAlong covers a b) → ReachesAlong covers x y
     step n x y less l m rest = by_strand (cases_Bool (x.strand == y.strand))
       where
         i : IsIn x nodes
         i = closed x y l m
 
-        through : ((z : Node) × IsIn z nodes × (is_between x y z ≡ true)) → LeadsTo covers x y
+        through : ((z : Node) × IsIn z nodes × (is_between x y z ≡ true)) → ReachesAlong covers x y
         through (z, k, h) =
             let two = and_parts (is_before pairs x z) (is_before pairs z y) h in
             let front : counted (is_between x z) nodes < n = omega (arith, fewer_in_front x y z i k h, less) in
             let back : counted (is_between z y) nodes < n = omega (arith, fewer_behind x y z i k h, less) in
             leads_both covers x z y (rest x z front (before_parts x z two.0).0 k) (rest z y back (before_parts z y two.1).0 m)
 
-        directly : (x.strand == y.strand) ≡ false → any_node (is_between x y) nodes ≡ false → LeadsTo covers x y
+        directly : (x.strand == y.strand) ≡ false → any_node (is_between x y) nodes ≡ false → ReachesAlong covers x y
         directly e none =
             let before : is_before pairs x y ≡ true = before_from x y l (λ p. both_ways (x.strand == y.strand) e (eq-eqb x.strand y.strand (ap (λ (o : Node). o.strand) p))) in
             let covering : is_covering pairs nodes x y ≡ true = all_three (not (x.strand == y.strand)) (is_before pairs x y) (not (any_node (is_between x y) nodes)) (ap not e) before (ap not none) in
             over_pair (listed x y i m covering) (at_itself x) (on_strand (at_itself y))
 
-        by_between : (x.strand == y.strand) ≡ false → (any_node (is_between x y) nodes ≡ true) ⊎ (any_node (is_between x y) nodes ≡ false) → LeadsTo covers x y
+        by_between : (x.strand == y.strand) ≡ false → (any_node (is_between x y) nodes ≡ true) ⊎ (any_node (is_between x y) nodes ≡ false) → ReachesAlong covers x y
         by_between e (inl some) = through (any_found (is_between x y) nodes some)
         by_between e (inr none) = directly e none
 
-        by_strand : ((x.strand == y.strand) ≡ true) ⊎ ((x.strand == y.strand) ≡ false) → LeadsTo covers x y
+        by_strand : ((x.strand == y.strand) ≡ true) ⊎ ((x.strand == y.strand) ≡ false) → ReachesAlong covers x y
         by_strand (inl e) = on_strand (goes_up x y i m l (eqb-true x.strand y.strand e))
         by_strand (inr e) = by_between e (cases_Bool (any_node (is_between x y) nodes))
 
-    covered_within : (n : ℕ) (x y : Node) → counted (is_between x y) nodes < n → LeadsTo pairs x y → IsIn y nodes → LeadsTo covers x y
+    covered_within : (n : ℕ) (x y : Node) → counted (is_between x y) nodes < n → ReachesAlong pairs x y → IsIn y nodes → ReachesAlong covers x y
     covered_within zero x y less l m = absurd (omega arith)
     covered_within (suc n) x y less l m = step n x y less l m (covered_within n)
 
-    -- What leads to a node along the pairs leads there along the covering pairs.
-    pub covers_lead : (x y : Node) → LeadsTo pairs x y → IsIn y nodes → LeadsTo covers x y
+    -- What reaches a node along the pairs reaches it along the covering pairs.
+    pub covers_lead : (x y : Node) → ReachesAlong pairs x y → IsIn y nodes → ReachesAlong covers x y
     covers_lead x y l m = covered_within (suc (counted (is_between x y) nodes)) x y (omega arith) l m
 
-  -- And what leads there along covering pairs does so along the pairs.
-  pub lead_back : (covers : List OrderPair) → ((p : OrderPair) → IsIn p covers → LeadsTo pairs p.earlier p.later) → (x y : Node) → LeadsTo covers x y → LeadsTo pairs x y
+  -- And what reaches it along covering pairs does so along the pairs.
+  pub lead_back : (covers : List OrderPair) → ((p : OrderPair) → IsIn p covers → ReachesAlong pairs p.earlier p.later) → (x y : Node) → ReachesAlong covers x y → ReachesAlong pairs x y
   lead_back covers only x y (on_strand a) = on_strand a
   lead_back covers only x y (over_pair {p} m a l) = after_leads pairs x p.earlier y a (leads_both pairs p.earlier p.later y (only p m) (lead_back covers only p.later y l))
 
-  pub covering_leads : (x y : Node) → is_covering pairs nodes x y ≡ true → LeadsTo pairs x y
+  pub covering_leads : (x y : Node) → is_covering pairs nodes x y ≡ true → ReachesAlong pairs x y
   covering_leads x y h = (before_parts x y (three_parts (not (x.strand == y.strand)) (is_before pairs x y) (not (any_node (is_between x y) nodes)) h).1).0
 
   pub covering_apart : (x y : Node) → is_covering pairs nodes x y ≡ true → (x.strand == y.strand) ≡ false
@@ -202,17 +202,17 @@ module _ (pairs : List OrderPair) (nodes : List Node) (antisymmetric : IsAntisym
         none = not-true (any_node (is_between x y) nodes) (three_parts (not (x.strand == y.strand)) (is_before pairs x y) (not (any_node (is_between x y) nodes)) h).2
 
         -- no other node stands on the way
-        nothing : (z : Node) → LeadsTo pairs x z → LeadsTo pairs z y → (x ≡ z → ⊥) → (z ≡ y → ⊥) → ⊥
+        nothing : (z : Node) → ReachesAlong pairs x z → ReachesAlong pairs z y → (x ≡ z → ⊥) → (z ≡ y → ⊥) → ⊥
         nothing z f s p q =
             any_there (is_between x y) nodes z (closed z y s m) (and_from (is_before pairs x z) (is_before pairs z y) (before_from x z f p) (before_from z y s q)) none
 
-        over : (p : OrderPair) → IsIn p pairs → IsAtOrAfter x p.earlier → LeadsTo pairs p.later y → IsIn (record { earlier = x; later = y }) pairs
+        over : (p : OrderPair) → IsIn p pairs → IsAtOrAfter x p.earlier → ReachesAlong pairs p.later y → IsIn (record { earlier = x; later = y }) pairs
         over p k a l = subst (λ (q : OrderPair). IsIn q pairs) (λ i. record { earlier = sym first i; later = last i }) k
           where
             later_there : IsIn p.later nodes
             later_there = closed p.later y l m
 
-            goes_over : LeadsTo pairs p.earlier p.later
+            goes_over : ReachesAlong pairs p.earlier p.later
             goes_over = over_pair k (at_itself p.earlier) (on_strand (at_itself p.later))
 
             earlier_there : IsIn p.earlier nodes
@@ -221,7 +221,7 @@ module _ (pairs : List OrderPair) (nodes : List Node) (antisymmetric : IsAntisym
             -- the way over the pair does not come back
             no_return : x ≡ p.later → ⊥
             no_return e =
-                apart p k (ap (λ (o : Node). o.strand) (antisymmetric p.earlier p.later earlier_there later_there goes_over (subst (λ (o : Node). LeadsTo pairs o p.earlier) e (on_strand a))))
+                apart p k (ap (λ (o : Node). o.strand) (antisymmetric p.earlier p.later earlier_there later_there goes_over (subst (λ (o : Node). ReachesAlong pairs o p.earlier) e (on_strand a))))
 
             first : x ≡ p.earlier
             first = by (cases_Bool (same_node x p.earlier))
@@ -239,6 +239,6 @@ module _ (pairs : List OrderPair) (nodes : List Node) (antisymmetric : IsAntisym
                 by (inl e) = node_is p.later y e
                 by (inr e) = absurd (nothing p.later (over_pair k a (on_strand (at_itself p.later))) l no_return (λ q. both_ways (same_node p.later y) e (is_node p.later y q)))
 
-        by_way : LeadsTo pairs x y → IsIn (record { earlier = x; later = y }) pairs
+        by_way : ReachesAlong pairs x y → IsIn (record { earlier = x; later = y }) pairs
         by_way (on_strand a) = absurd (differ a.0)
         by_way (over_pair {p} k a l) = over p k a l

@@ -12,13 +12,13 @@ use Rattle.cp_model.specs.Strand.{Event}
 use Rattle.cp_model.specs.declared.node.Node.{Node}
 use Rattle.cp_model.specs.declared.node.OrderPair.{OrderPair}
 use Rattle.cp_model.specs.Skeleton.{SkeletonStrand, term_event_at}
-use Rattle.cp_model.specs.Order.{LeadsTo}
-use Rattle.cp_model.specs.OrderTests.{reaches}
+use Rattle.cp_model.specs.Order.{ReachesAlong}
+use Rattle.cp_model.specs.OrderTests.{reaches_within}
 use Rattle.cp_model.specs.Same.{same_node}
 use Rattle.cp_model.proofs.SameTests.{node_is}
 use Rattle.cp_sexpr.specs.Syntax.{Form}
 use Rattle.cp_language.proofs.BoundedSearch.{reaches_all}
-use Rattle.cp_language.specs.Problems.{is_known, is_transmission, is_reception, on_one_strand, pair_of, pairs_in}
+use Rattle.cp_language.specs.Problems.{is_known, is_some_transmission, is_some_reception, on_one_strand, pair_of, pairs_in}
 use Rattle.cp_language.specs.Printed.{plain_list, no_place}
 use Rattle.cp_language.specs.Report.{node_form, is_covering, covering_with, covering_from}
 use Rattle.cp_report.specs.Misfits.{misfit_unless}
@@ -160,11 +160,11 @@ pub pairs_back : (ps : List OrderPair) → ((p : OrderPair) → IsIn p ps → on
 pairs_back [] other = refl
 pairs_back (p ∷ ps) other = ap (λ qs. qs ++ pairs_in (map pair_form ps)) (one_back p (other p here)) ∙ ap (λ qs. p ∷ qs) (pairs_back ps (λ q i. other q (there i)))
 
-sent_there : (o : Option (Event Term)) → is_transmission o ≡ true → is_known o ≡ true
+sent_there : (o : Option (Event Term)) → is_some_transmission o ≡ true → is_known o ≡ true
 sent_there None e = absurd (cc)
 sent_there (Some x) e = refl
 
-received_there : (o : Option (Event Term)) → is_reception o ≡ true → is_known o ≡ true
+received_there : (o : Option (Event Term)) → is_some_reception o ≡ true → is_known o ≡ true
 received_there None e = absurd (cc)
 received_there (Some x) e = refl
 
@@ -186,8 +186,8 @@ not_among (q ∷ qs) p other =
 
 -- A pair from a transmission to a reception of another strand.
 pub record Goes (strands : List SkeletonStrand) (p : OrderPair) : Type 0 where
-  pub sent : is_transmission (term_event_at strands p.earlier) ≡ true
-  pub received : is_reception (term_event_at strands p.later) ≡ true
+  pub sent : is_some_transmission (term_event_at strands p.earlier) ≡ true
+  pub received : is_some_reception (term_event_at strands p.later) ≡ true
   pub other : on_one_strand p ≡ false
 
 five_true : (a b c d e : Bool) → a ≡ true → b ≡ true → c ≡ false → d ≡ false → e ≡ false → (a && b && not c && not d && not e) ≡ true
@@ -198,12 +198,12 @@ five_true true true true d e p q r s t = absurd (cc)
 five_true true false c d e p q r s t = absurd (cc)
 five_true false b c d e p q r s t = absurd (cc)
 
-module _ (strands : List SkeletonStrand) (all : List OrderPair) (no_way_back : (p : OrderPair) → IsIn p all → LeadsTo all p.later p.earlier → ⊥) where
+module _ (strands : List SkeletonStrand) (all : List OrderPair) (no_way_back : (p : OrderPair) → IsIn p all → ReachesAlong all p.later p.earlier → ⊥) where
   further : (before : List OrderPair) (p : OrderPair) → ((q : OrderPair) → IsIn q before → IsIn q all) → IsIn p all → (IsIn p before → ⊥) → Goes strands p → is_further_pair strands before (Some p) ≡ true
   further before p within m other g =
-      five_true (is_transmission (term_event_at strands p.earlier)) (is_reception (term_event_at strands p.later)) (on_one_strand p) (has_pair before p) (reaches (length before) before p.later p.earlier)
+      five_true (is_some_transmission (term_event_at strands p.earlier)) (is_some_reception (term_event_at strands p.later)) (on_one_strand p) (has_pair before p) (reaches_within (length before) before p.later p.earlier)
       g.sent g.received g.other (not_among before p other)
-      (false_from_ne_true (reaches (length before) before p.later p.earlier) (λ h. no_way_back p m (leads_within_more before all within p.later p.earlier ((reaches_all before p.later p.earlier).0 h))))
+      (false_from_ne_true (reaches_within (length before) before p.later p.earlier) (λ h. no_way_back p m (leads_within_more before all within p.later p.earlier ((reaches_all before p.later p.earlier).0 h))))
 
   one_fits : (before : List OrderPair) (p : OrderPair) → Goes strands p → is_further_pair strands before (Some p) ≡ true → pair_misfits strands before (pair_form p) ≡ []
   one_fits before p g h =

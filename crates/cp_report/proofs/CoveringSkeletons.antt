@@ -11,10 +11,10 @@ use Rattle.cp_model.specs.Strand.{Event, send, recv}
 use Rattle.cp_model.specs.Bundle.{node_at}
 use Rattle.cp_model.specs.declared.node.Node.{Node}
 use Rattle.cp_model.specs.declared.node.OrderPair.{OrderPair}
-use Rattle.cp_model.specs.Order.{LeadsTo, on_strand, over_pair}
+use Rattle.cp_model.specs.Order.{ReachesAlong, on_strand, over_pair}
 use Rattle.cp_model.specs.Skeleton.{SkeletonStrand, skeleton_trace, skeleton_trace_or_none, term_event_at, IsNodeOf, Skeleton, OrderStep, along_strand_of, along_pair, Before, IsOrderPair}
 use Rattle.cp_model.proofs.LawOrder.{before_leads, leads_before}
-use Rattle.cp_language.specs.Problems.{is_transmission, is_reception, on_one_strand, pairs_in}
+use Rattle.cp_language.specs.Problems.{is_some_transmission, is_some_reception, on_one_strand, pairs_in}
 use Rattle.cp_language.specs.Report.{nodes_on, nodes_from, covering_pairs}
 use Rattle.cp_report.specs.Skeletons.{pairs_misfits}
 use Rattle.cp_report.proofs.CoveringOrder.{IsAntisymmetric, IsClosedBack, covers_lead, lead_back, covering_leads, covering_apart, covering_listed}
@@ -119,7 +119,7 @@ IsSameKind (Some e) None = ⊥
 IsSameKind (Some (send a)) (Some (recv b)) = ⊥
 IsSameKind (Some (recv a)) (Some (send b)) = ⊥
 
-same_tests : (o u : Option (Event Term)) → IsSameKind o u → (is_transmission o ≡ is_transmission u) × (is_reception o ≡ is_reception u)
+same_tests : (o u : Option (Event Term)) → IsSameKind o u → (is_some_transmission o ≡ is_some_transmission u) × (is_some_reception o ≡ is_some_reception u)
 same_tests None None h = (refl, refl)
 same_tests (Some (send a)) (Some (send b)) h = (refl, refl)
 same_tests (Some (recv a)) (Some (recv b)) h = (refl, refl)
@@ -129,11 +129,11 @@ same_tests (Some (recv a)) None h = absurd h
 same_tests (Some (send a)) (Some (recv b)) h = absurd h
 same_tests (Some (recv a)) (Some (send b)) h = absurd h
 
-sent_too : (o u : Option (Event Term)) (a : Term) → IsSameKind o u → o ≡ Some (send a) → is_transmission u ≡ true
-sent_too o u a h e = sym (same_tests o u h).0 ∙ ap is_transmission e
+sent_too : (o u : Option (Event Term)) (a : Term) → IsSameKind o u → o ≡ Some (send a) → is_some_transmission u ≡ true
+sent_too o u a h e = sym (same_tests o u h).0 ∙ ap is_some_transmission e
 
-received_too : (o u : Option (Event Term)) (a : Term) → IsSameKind o u → o ≡ Some (recv a) → is_reception u ≡ true
-received_too o u a h e = sym (same_tests o u h).1 ∙ ap is_reception e
+received_too : (o u : Option (Event Term)) (a : Term) → IsSameKind o u → o ≡ Some (recv a) → is_some_reception u ≡ true
+received_too o u a h e = sym (same_tests o u h).1 ∙ ap is_some_reception e
 
 pub there_too : (o u : Option (Event Term)) → IsSameKind o u → (e : Event Term) × (o ≡ Some e) → (e : Event Term) × (u ≡ Some e)
 there_too None u h e = absurd (cc)
@@ -146,12 +146,12 @@ there_back None None h e = absurd (cc)
 there_back None (Some y) h e = absurd h
 there_back (Some x) u h e = (x, refl)
 
-sent_term : (o : Option (Event Term)) → is_transmission o ≡ true → (t : Term) × (o ≡ Some (send t))
+sent_term : (o : Option (Event Term)) → is_some_transmission o ≡ true → (t : Term) × (o ≡ Some (send t))
 sent_term None e = absurd (cc)
 sent_term (Some (send t)) e = (t, refl)
 sent_term (Some (recv t)) e = absurd (cc)
 
-received_term : (o : Option (Event Term)) → is_reception o ≡ true → (t : Term) × (o ≡ Some (recv t))
+received_term : (o : Option (Event Term)) → is_some_reception o ≡ true → (t : Term) × (o ≡ Some (recv t))
 received_term None e = absurd (cc)
 received_term (Some (recv t)) e = (t, refl)
 received_term (Some (send t)) e = absurd (cc)
@@ -194,7 +194,7 @@ module _ (k : Skeleton) (order_pairs : (p : OrderPair) → IsIn p k.pairs → Is
       let c = cover_is k.pairs nodes nodes p i in
       covering_listed k.pairs nodes antisymmetric closed between p.earlier p.later c.later c.covering
 
-  cover_goes : (p : OrderPair) → IsIn p (covers_of k) → LeadsTo k.pairs p.earlier p.later
+  cover_goes : (p : OrderPair) → IsIn p (covers_of k) → ReachesAlong k.pairs p.earlier p.later
   cover_goes p i = covering_leads k.pairs nodes antisymmetric closed p.earlier p.later (cover_is k.pairs nodes nodes p i).covering
 
   cover_other : (p : OrderPair) → IsIn p (covers_of k) → on_one_strand p ≡ false
@@ -204,7 +204,7 @@ module _ (k : Skeleton) (order_pairs : (p : OrderPair) → IsIn p k.pairs → Is
   pub covers_back : pairs_in (covering_pairs k) ≡ covers_of k
   covers_back = ap pairs_in (forms_from k.pairs nodes nodes) ∙ pairs_back (covers_of k) cover_other
 
-  no_way_back : (p : OrderPair) → IsIn p (covers_of k) → LeadsTo (covers_of k) p.later p.earlier → ⊥
+  no_way_back : (p : OrderPair) → IsIn p (covers_of k) → ReachesAlong (covers_of k) p.later p.earlier → ⊥
   no_way_back p i l =
       let c = cover_is k.pairs nodes nodes p i in
       let back = lead_back k.pairs nodes antisymmetric closed (covers_of k) cover_goes p.later p.earlier l in
@@ -256,12 +256,12 @@ module _ (k : Skeleton) (order_pairs : (p : OrderPair) → IsIn p k.pairs → Is
       last_node x z (more_steps {y = y} s b) = last_node y z b
 
       forth : (x y : Node) → Before k x y → Before m x y
-      forth x y b = by (leads_before m cover_pairs x y (there_too (term_event_at k.strands y) (term_event_at m.strands y) (kind_of y) n) (subst (λ (ps : List OrderPair). LeadsTo ps x y) (sym same_pairs) way))
+      forth x y b = by (leads_before m cover_pairs x y (there_too (term_event_at k.strands y) (term_event_at m.strands y) (kind_of y) n) (subst (λ (ps : List OrderPair). ReachesAlong ps x y) (sym same_pairs) way))
         where
           n : IsNodeOf k.strands y
           n = last_node x y b
 
-          way : LeadsTo (covers_of k) x y
+          way : ReachesAlong (covers_of k) x y
           way = covers_lead k.pairs nodes antisymmetric closed (covers_of k) (λ a c i j h. from_listed k.pairs nodes nodes a c i j h) x y (before_leads k x y b) (node_listed k.strands y n)
 
           by : (x ≡ y) ⊎ Before m x y → Before m x y

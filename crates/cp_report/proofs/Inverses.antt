@@ -13,8 +13,8 @@ use Rattle.cp_model.proofs.LawTerms.{atom_composed, term_composed, atom_unchange
 use Rattle.cp_model.proofs.LawAgreement.{agree_atom, agree_term}
 use Rattle.cp_model.specs.Strand.{send}
 use Rattle.cp_model.proofs.OccurringVariables.{in_trace_under}
-use Rattle.cp_skel.proofs.UnderVariables.{of_trace}
-use Rattle.cp_report.specs.UpToNames.{numbered, renamed, renaming, IsOneToOne}
+use Rattle.cp_model.proofs.UnderVariables.{of_trace}
+use Rattle.cp_report.specs.UpToNames.{variable_numbered, renamed, renaming, IsOneToOne}
 
 -- ---- variables under a substitution, of terms and atoms by what is sent
 
@@ -35,7 +35,7 @@ in_atom s x y given v i = in_term s x y given (atom_term v) i
 
 -- ---- renamed variables
 
-by_sort : (number : Variable → ℕ) (s : Sort) (n : ℕ) → apply_to_atom (renaming number) (atom_of_variable (numbered s n)) ≡ atom_of_variable (numbered s (number (numbered s n)))
+by_sort : (number : Variable → ℕ) (s : Sort) (n : ℕ) → apply_to_atom (renaming number) (atom_of_variable (variable_numbered s n)) ≡ atom_of_variable (variable_numbered s (number (variable_numbered s n)))
 by_sort number text_sort n = refl
 by_sort number datum_sort n = refl
 by_sort number name_sort n = refl
@@ -45,7 +45,7 @@ by_sort number akey_sort n = refl
 pub renamed_atom : (number : Variable → ℕ) (x : Variable) → apply_to_atom (renaming number) (atom_of_variable x) ≡ atom_of_variable (renamed number x)
 renamed_atom number x = by_sort number x.sort x.number
 
-pub only_variable : (s : Sort) (n : ℕ) → variables_of_atom (atom_of_variable (numbered s n)) ≡ numbered s n ∷ []
+pub only_variable : (s : Sort) (n : ℕ) → variables_of_atom (atom_of_variable (variable_numbered s n)) ≡ variable_numbered s n ∷ []
 only_variable text_sort n = refl
 only_variable datum_sort n = refl
 only_variable name_sort n = refl
@@ -120,7 +120,7 @@ module _ (a b : Variable → ℕ) (ys : List Variable) (one : IsOneToOne b ys) w
   returned : (y : Variable) → IsIn y ys → apply_to_atom (composed (renaming b) (renaming back)) (atom_of_variable y) ≡ apply_to_atom unchanged (atom_of_variable y)
   returned y m =
       atom_composed (renaming b) (renaming back) (atom_of_variable y) ∙ ap (apply_to_atom (renaming back)) (renamed_atom b y) ∙ renamed_atom back (renamed b y)
-      ∙ ap (λ (n : ℕ). atom_of_variable (numbered y.sort n)) (inverse_back b ys one y m) ∙ sym (atom_unchanged (atom_of_variable y))
+      ∙ ap (λ (n : ℕ). atom_of_variable (variable_numbered y.sort n)) (inverse_back b ys one y m) ∙ sym (atom_unchanged (atom_of_variable y))
 
   pub term_returned : (t : Term) → ((y : Variable) → IsIn y (variables_of t) → IsIn y ys) → apply_to (renaming back) (apply_to (renaming b) t) ≡ t
   term_returned t within =
@@ -149,7 +149,7 @@ module _ (a b : Variable → ℕ) (ys : List Variable) (one : IsOneToOne b ys) w
       let s : y.sort ≡ x.sort = ap (λ (z : Variable). z.sort) e in
       let n : through a b ys x ≡ y.number = ap (inverse b ys) (sym e) ∙ inverse_back b ys one y m in
       let r : x.sort ≡ y.sort = sym s in
-      λ i. numbered (r i) (n i)
+      λ i. variable_numbered (r i) (n i)
 
   -- It is one to one where the first is, and its variables are covered.
   pub one_through : (xs : List Variable) → IsOneToOne a xs → AreCovered a xs b ys → IsOneToOne (through a b ys) xs

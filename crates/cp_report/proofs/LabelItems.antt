@@ -19,7 +19,7 @@ use Rattle.cp_language.specs.Printed.{word, numeral, headed_list, plain_list, at
 use Rattle.cp_language.specs.Report.{occurring, item_unless_empty, named_by, node_form, parent_items, operation_words, vars_from, maplets_from, strand_form, value_forms, covering_pairs, unique_form, map_form, test_items, mark_items, label_items}
 use Rattle.cp_language.proofs.ValidTests.{one_of, is_one}
 use Rattle.cp_report.specs.Misfits.{misfit_unless}
-use Rattle.cp_report.specs.Heads.{has_head, entries_of, item_with, items_with, entries_under, Line, once, strand_heads, mark_heads, heads_behind_strands, up_to_strands, lines_of_label, lines_from, lines_behind, order_misfits}
+use Rattle.cp_report.specs.Heads.{has_head, forms_after_head, item_with, items_with, entries_under, Line, once, strand_heads, mark_heads, heads_behind_strands, up_to_strands, lines_of_label, lines_from, lines_behind, order_misfits}
 use Rattle.cp_report.proofs.PrintedStrands.{items_back}
 
 -- ---- items in groups
@@ -340,4 +340,4 @@ listed_under head (f ∷ fs) = ap (λ (b : Bool). entries (if b then Some (heade
   where
     entries : Option Form → List Form
     entries None = []
-    entries (Some g) = entries_of g
+    entries (Some g) = forms_after_head g

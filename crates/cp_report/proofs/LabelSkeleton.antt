@@ -24,9 +24,9 @@ use Rattle.cp_language.specs.Report.{variables_of_terms, variables_of_test, vari
 use Rattle.cp_language.specs.Problems.{is_known, pairs_in, Problem}
 use Rattle.cp_report.specs.Heads.{entries_under, entries_or_none, items_with, strand_heads}
 use Rattle.cp_report.specs.Spelled.{atom_in}
-use Rattle.cp_report.specs.Skeletons.{declaration_of, declarations_of_label, scope_of, strand_of, strands_of_label, unique_of, atoms_under, uniques_under, problem_variables, strands_mapped, values_of_map, from_problem_by, pairs_under, assumptions_under, from_problem_of, skeleton_stated}
+use Rattle.cp_report.specs.Skeletons.{declaration_of, declarations_of_label, scope_of, strand_of, strands_of_label, unique_of, atoms_under, uniques_under, problem_variables, strands_mapped, values_of_map, from_problem_by, pairs_under, assumptions_stated, from_problem_of, skeleton_stated}
 use Rattle.cp_report.specs.FittingTrees.{MapsAll}
-use Rattle.cp_report.specs.UpToNames.{renamed, renaming, unique_renamed, AreSameAssumptions, IsSameStrand, IsSameSkeleton}
+use Rattle.cp_report.specs.UpToNames.{renamed, renaming, unique_renamed, AreSameAssumptions, IsSameStrandUnder, IsSameSkeleton}
 use Rattle.cp_report.proofs.SpelledTerms.{StandsFor}
 use Rattle.cp_report.proofs.CoveringSkeletons.{IsSameKind, covers_of, covers_back, same_order, last_node, there_too}
 use Rattle.cp_report.proofs.DistinctNames.{AreDifferent, as_many_names}
@@ -113,9 +113,9 @@ module _ (under : IsUnder) (p : Problem) (l : Label) (h : PrintedLabel p l) wher
 
   -- ---- strands and order
 
-  pub strands_same : ArePaired (IsSameStrand f) k.strands (strands_of_label p (items p l))
+  pub strands_same : ArePaired (IsSameStrandUnder f) k.strands (strands_of_label p (items p l))
   strands_same =
-      subst (λ (fs : List Form). ArePaired (IsSameStrand f) k.strands (map (strand_of p.protocol.roles (scope_of (items p l))) fs)) (sym strand_items)
+      subst (λ (fs : List Form). ArePaired (IsSameStrandUnder f) k.strands (map (strand_of p.protocol.roles (scope_of (items p l))) fs)) (sym strand_items)
       (all_strands_back under p.protocol.roles (scope_of (items p l)) (named p l) (number l) k.strands
       (λ n role height terms e. (h.roles role height (h.skeleton.of_role n role height terms e), h.skeleton.heights n role height terms e))
       (λ x m. stands x (in_skeleton x (in_append_left (variables_of_assumptions k.assumptions) m))))
@@ -162,7 +162,7 @@ module _ (under : IsUnder) (p : Problem) (l : Label) (h : PrintedLabel p l) wher
       ap (map (unique_of (scope_of (items p l)))) unique_are
       ∙ uniques_back (scope_of (items p l)) (strands_of_label p (items p l)) (named p l) (number l) (occurring l) (one_to_one (occurring l)) stands (listed k).uniquely_originating uniques_in_place
 
-  assumptions_are : assumptions_under (items p l) ≡ assumptions_renamed f (listed k)
+  assumptions_are : assumptions_stated (items p l) ≡ assumptions_renamed f (listed k)
   assumptions_are = λ i. record { non_originating = non_back i; penetrator_non_originating = penetrator_non_back i; uniquely_originating = unique_back i }
 
   pub lists_all : ListsAll k (listed k)

@@ -10,7 +10,7 @@ use Rattle.cp_sexpr.specs.ReadBack.{unplaced, all_unplaced}
 use Rattle.cp_language.specs.Faults.{place_of, items_of}
 use Rattle.cp_language.specs.Roles.{front_of, last_form}
 use Rattle.cp_report.specs.Misfits.{misfit, misfit_unless, unless_misfit, where_fitting, lacking, each_misfits, entries_misfits, list_misfits, number_misfits, symbol_misfits, any_number_misfits}
-use Rattle.cp_report.specs.Heads.{has_head, entries_of}
+use Rattle.cp_report.specs.Heads.{has_head, forms_after_head}
 
 -- As many misfits, all at one place.
 abbrev pub at_start : List Place → List Place
@@ -64,7 +64,7 @@ head_moved heads (list at (more (string p t) fs)) = refl
 head_moved heads (list at (more (number p n) fs)) = refl
 head_moved heads (list at (more (list p gs) fs)) = refl
 
-pub entries_moved : (f : Form) → entries_of (unplaced f) ≡ all_moved (entries_of f)
+pub entries_moved : (f : Form) → forms_after_head (unplaced f) ≡ all_moved (forms_after_head f)
 entries_moved (symbol at t) = refl
 entries_moved (string at t) = refl
 entries_moved (number at n) = refl

@@ -15,7 +15,7 @@ use Rattle.cp_sexpr.specs.Pieces.{start}
 use Rattle.cp_sexpr.specs.ReadBack.{unplaced, all_unplaced}
 use Rattle.cp_language.specs.Words.{TermHead, cat, encrypt, long_term_key, public_key, private_key, inverse_key, operation_out_of_profile, no_operation, term_head}
 use Rattle.cp_language.specs.Faults.{fault, fault_unless, place_of, items_of}
-use Rattle.cp_language.specs.Terms.{variable_named, sort_by_head, sort_of, sorts_of, is_sort, is_atom, sort_faults, key_faults, lacks, exceeds, first_faults, all_faults, sorts_faults, last_key_faults, operation_faults, name_faults, applied_faults, undeclared, term_faults, each_term_faults, atom_faults, as_atom, applied, term_of, terms_of}
+use Rattle.cp_language.specs.Terms.{variable_named, sort_by_head, sort_of, sorts_of, is_sort, admits_atom, sort_faults, key_faults, lacks, exceeds, first_faults, all_faults, sorts_faults, last_key_faults, operation_faults, name_faults, applied_faults, undeclared, term_faults, each_term_faults, atom_faults, as_atom, applied, term_of, terms_of}
 use Rattle.cp_report.proofs.Moved.{all_moved, place_moved, items_moved}
 use Rattle.cp_report.proofs.MovedTerms.{applied_value_moved}
 
@@ -139,7 +139,7 @@ mutual
   each_faults_moved ds (more f fs) = ap (λ e. e ∷ each_term_faults ds (all_unplaced fs)) (term_faults_moved ds f) ∙ ap (λ es. faults_at_start (term_faults ds f) ∷ es) (each_faults_moved ds fs)
 
 pub atom_faults_moved : (ds : List Declaration) → IsMovedFault (atom_faults ds)
-atom_faults_moved ds f = two _ _ _ _ (fault_at_form (is_atom (sort_of ds (unplaced f))) (is_atom (sort_of ds f)) f NotAtom (ap is_atom (sort_of_moved ds f))) (term_faults_moved ds f)
+atom_faults_moved ds f = two _ _ _ _ (fault_at_form (admits_atom (sort_of ds (unplaced f))) (admits_atom (sort_of ds f)) f NotAtom (ap admits_atom (sort_of_moved ds f))) (term_faults_moved ds f)
 
 -- ---- what terms stand for
 

@@ -13,10 +13,10 @@ use Rattle.cp_language.specs.Faults.{place_of}
 use Rattle.cp_language.specs.Roles.{Headed, headed}
 use Rattle.cp_language.specs.Problems.{is_known, is_not_empty, first_form, second_form, number_of, option_node, Problem}
 use Rattle.cp_report.specs.Misfits.{first_or, lacking, each_misfits, entries_misfits, number_misfits, symbol_misfits}
-use Rattle.cp_report.specs.Heads.{entries_of, item_with, entries_under, optional_misfits, mark_heads, heads_behind_strands, up_to_strands, Line, lines_of_label, lines_from, lines_behind, order_misfits, has_head}
+use Rattle.cp_report.specs.Heads.{forms_after_head, item_with, entries_under, optional_misfits, mark_heads, heads_behind_strands, up_to_strands, Line, lines_of_label, lines_from, lines_behind, order_misfits, has_head}
 use Rattle.cp_report.specs.Spelled.{Scope, term_misfits, pattern_misfits, pattern_of}
 use Rattle.cp_report.specs.Skeletons.{declarations_of_label, scope_of, term_or_tag, node_misfits, node_or_first, strands_of_label, around_strands_misfits}
-use Rattle.cp_report.specs.Labels.{number_in_front, behind_number, items_of_label, is_label_in, parent_misfits, children_misfits, is_operation, makes_root, operation_misfits, operation_place_misfits, operation_by, word_of_label, unrealised_misfits, test_misfits, escape_misfits, test_of, mark_kinds, mark_by, mark_of, mark_in, has_children, has_mark, headed_mark_misfits, mark_misfits, no_parent_misfits, wants_parent, missing_misfits, about_strands_misfits, items_misfits, numbered_misfits, label_misfits, label_by, label_of}
+use Rattle.cp_report.specs.Labels.{number_in_front, behind_number, items_of_label, is_label_in, parent_misfits, children_misfits, is_operation, makes_root, operation_misfits, operation_place_misfits, operation_by, word_of_label, unrealised_misfits, test_misfits, escape_misfits, test_of, mark_kinds, mark_named, mark_of, mark_in, has_children, has_mark, headed_mark_misfits, mark_misfits, no_parent_misfits, wants_parent, missing_misfits, about_strands_misfits, items_misfits, numbered_misfits, label_misfits, label_by, label_of}
 use Rattle.cp_report.proofs.Moved.{at_start, all_moved, IsMovedInside, both, unless_moved, where_moved, test_moved, place_moved, items_moved, head_moved, entries_moved, lacking_moved, each_moved, AreMoved, entries_misfits_moved, symbol_moved, number_moved}
 use Rattle.cp_report.proofs.MovedTerms.{test_at_form, term_moved}
 use Rattle.cp_report.proofs.MovedItems.{map_moved, item_moved, entries_under_moved, number_of_moved, first_moved, second_moved, name_in_front_moved, scope_moved, term_or_tag_moved, option_node_moved, node_moved}
@@ -83,8 +83,8 @@ escape_moved items at fs =
 test_same : (s : Scope) (o : Option Form) → test_of s (option_map unplaced o) ≡ test_of s o
 test_same s None = refl
 test_same s (Some f) =
-    let n = ap node_or_first (ap (λ gs. option_node (first_form gs)) (entries_moved f) ∙ ap option_node (first_moved (entries_of f)) ∙ option_node_moved (first_form (entries_of f))) in
-    let t = ap (λ gs. term_or_tag s (second_form gs)) (entries_moved f) ∙ ap (term_or_tag s) (second_moved (entries_of f)) ∙ term_or_tag_moved s (second_form (entries_of f)) in
+    let n = ap node_or_first (ap (λ gs. option_node (first_form gs)) (entries_moved f) ∙ ap option_node (first_moved (forms_after_head f)) ∙ option_node_moved (first_form (forms_after_head f))) in
+    let t = ap (λ gs. term_or_tag s (second_form gs)) (entries_moved f) ∙ ap (term_or_tag s) (second_moved (forms_after_head f)) ∙ term_or_tag_moved s (second_form (forms_after_head f)) in
     λ i. Some (record { node = n i; critical = t i })
 
 -- ---- marks
@@ -103,7 +103,7 @@ headed_moved (list at (more (string p t) fs)) = refl
 headed_moved (list at (more (number p n) fs)) = refl
 headed_moved (list at (more (list p gs) fs)) = refl
 
-mark_by_moved : (head : List ℕ) (fs : List Form) → mark_by head (all_moved fs) ≡ mark_by head fs
+mark_by_moved : (head : List ℕ) (fs : List Form) → mark_named head (all_moved fs) ≡ mark_named head fs
 mark_by_moved head fs =
     let n = number_stated_moved fs in let t = name_in_front_moved fs in
     λ i. if same_text head (codes "shape") then shape else
@@ -190,7 +190,7 @@ with_items heads inside inside' m items = ap (optional_misfits inside') (item_mo
   where
     by : (o : Option Form) → optional_misfits inside' (option_map unplaced o) ≡ at_start (optional_misfits inside o)
     by None = refl
-    by (Some f) = ap (λ p. inside' p (entries_of (unplaced f))) (place_moved f) ∙ ap (inside' start) (entries_moved f) ∙ m (place_of f) (entries_of f)
+    by (Some f) = ap (λ p. inside' p (forms_after_head (unplaced f))) (place_moved f) ∙ ap (inside' start) (entries_moved f) ∙ m (place_of f) (forms_after_head f)
 
 items_misfits_moved : (p : Problem) (tree : Option (List Form)) (i : ℕ) (at : Place) (items : List Form) →
     items_misfits p (tree_moved tree) i start (all_moved items) ≡ at_start (items_misfits p tree i at items)
@@ -220,8 +220,8 @@ numbered_moved p tree i at (f ∷ fs) =
 
 pub label_misfits_moved : (p : Problem) (tree : Option (List Form)) (i : ℕ) (f : Form) → label_misfits p (tree_moved tree) i (unplaced f) ≡ at_start (label_misfits p tree i f)
 label_misfits_moved p tree i f =
-    ap (λ q. numbered_misfits p (tree_moved tree) i q (entries_of (unplaced f))) (place_moved f)
-    ∙ ap (numbered_misfits p (tree_moved tree) i start) (entries_moved f) ∙ numbered_moved p tree i (place_of f) (entries_of f)
+    ap (λ q. numbered_misfits p (tree_moved tree) i q (forms_after_head (unplaced f))) (place_moved f)
+    ∙ ap (numbered_misfits p (tree_moved tree) i start) (entries_moved f) ∙ numbered_moved p tree i (place_of f) (forms_after_head f)
 
 -- ---- the label
 

@@ -12,9 +12,9 @@ use Rattle.cp_sexpr.specs.ReadBack.{unplaced}
 use Rattle.cp_language.specs.Roles.{text_of_symbol}
 use Rattle.cp_language.specs.Problems.{is_known, number_of, name_in_front, Problem}
 use Rattle.cp_report.specs.Misfits.{entries_misfits, number_misfits}
-use Rattle.cp_report.specs.Heads.{entries_of, entries_under}
+use Rattle.cp_report.specs.Heads.{forms_after_head, entries_under}
 use Rattle.cp_report.specs.Skeletons.{strand_number_misfits}
-use Rattle.cp_report.specs.Labels.{is_among, is_number, stated_number, number_in_front, numbers_onto, numbers_in, behind_number, items_of_label, stated_parent, stated_children, has_parent, has_child, has_parent_in, has_child_in, is_label_in, parent_misfits, children_misfits, OperationWord, problem_word, collapsed_word, contracted_word, displaced_word, added_strand_word, added_listener_word, generalised_word, no_operation_word, operation_word, is_operation, blocks, operation_kinds, operation_misfits, index_misfits, operation_place_misfits, number_stated, node_stated, operation_by, word_of_label}
+use Rattle.cp_report.specs.Labels.{is_among, is_number, stated_number, number_in_front, numbers_onto, numbers_in, behind_number, items_of_label, stated_parent, stated_children, has_parent, has_child, has_parent_in, has_child_in, is_label_in, parent_misfits, children_misfits, OperationWord, problem_word, collapsed_word, contracted_word, displaced_word, added_strand_word, added_listener_word, generalised_word, no_operation_word, operation_word, is_operation, block_checks, operation_kinds, operation_misfits, index_misfits, operation_place_misfits, number_stated, node_stated, operation_by, word_of_label}
 use Rattle.cp_report.proofs.Moved.{at_start, all_moved, IsMoved, IsMovedInside, both, unless_moved, entries_moved, AreMoved, entries_misfits_moved, symbol_moved, number_moved, any_number_moved}
 use Rattle.cp_report.proofs.MovedItems.{map_moved, text_moved, number_of_moved, name_in_front_moved, entries_under_moved}
 
@@ -46,7 +46,7 @@ behind_number_moved (number at n ∷ fs) = refl
 behind_number_moved (list at items ∷ fs) = refl
 
 pub label_items_moved : (f : Form) → items_of_label (unplaced f) ≡ all_moved (items_of_label f)
-label_items_moved f = ap behind_number (entries_moved f) ∙ behind_number_moved (entries_of f)
+label_items_moved f = ap behind_number (entries_moved f) ∙ behind_number_moved (forms_after_head f)
 
 parent_of_moved : (f : Form) → stated_parent (unplaced f) ≡ stated_parent f
 parent_of_moved f =
@@ -113,13 +113,13 @@ children_misfits_moved tree i before (f ∷ fs) =
 
 -- ---- operations
 
-blocks_moved : (ns : List ℕ) (i : ℕ) (ks : List SkeletonStrand) → AreMoved (blocks ns i ks)
+blocks_moved : (ns : List ℕ) (i : ℕ) (ks : List SkeletonStrand) → AreMoved (block_checks ns i ks)
 blocks_moved ns i [] = tt
 blocks_moved ns i (k ∷ ks) = (number_moved (λ n. nat_le n i && is_number n (item_at ns n)), blocks_moved ns (suc i) ks)
 
 kinds_same : (p : Problem) (w : OperationWord) (fs : List Form) → operation_kinds p w (all_moved fs) ≡ operation_kinds p w fs
 kinds_same p problem_word fs = refl
-kinds_same p collapsed_word fs = ap (λ ns. blocks ns 0 p.skeleton.strands) (map_moved number_of number_of_moved fs)
+kinds_same p collapsed_word fs = ap (λ ns. block_checks ns 0 p.skeleton.strands) (map_moved number_of number_of_moved fs)
 kinds_same p contracted_word fs = refl
 kinds_same p displaced_word fs = refl
 kinds_same p added_strand_word fs = refl

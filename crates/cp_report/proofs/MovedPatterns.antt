@@ -6,7 +6,7 @@ use Rattle.cp_model.specs.Strand.{Declaration}
 use Rattle.cp_sexpr.specs.Syntax.{Form, symbol, string, number, list, Forms, none, more}
 use Rattle.cp_sexpr.specs.Pieces.{start}
 use Rattle.cp_sexpr.specs.ReadBack.{unplaced, all_unplaced}
-use Rattle.cp_report.specs.Heads.{has_head, entries_of}
+use Rattle.cp_report.specs.Heads.{has_head, forms_after_head}
 use Rattle.cp_report.specs.Spelled.{Local, is_any, local_by, local_of, term_misfits, term_in, LocalAt, local_at, locals_in, locals_in_each, keeps_sort, clash_misfits, has_local, locals_onto, pattern_scope, pattern_misfits, variables_of_locals, pattern_of}
 use Rattle.cp_report.proofs.Moved.{at_start, IsMoved, both, test_moved, head_moved, entries_moved}
 use Rattle.cp_report.proofs.MovedTerms.{local_by_moved, test_at_form, term_moved, term_in_moved}
@@ -17,8 +17,8 @@ locals_at_start ls = map (λ l. record { at = start; local = l.local }) ls
 
 local_of_moved : (f : Form) → local_of (unplaced f) ≡ local_of f
 local_of_moved f =
-    ap (λ b. if b then local_by (entries_of (unplaced f)) else None) (head_moved (codes "any" ∷ []) f)
-    ∙ ap (λ o. if is_any f then o else None) (ap local_by (entries_moved f) ∙ local_by_moved (entries_of f))
+    ap (λ b. if b then local_by (forms_after_head (unplaced f)) else None) (head_moved (codes "any" ∷ []) f)
+    ∙ ap (λ o. if is_any f then o else None) (ap local_by (entries_moved f) ∙ local_by_moved (forms_after_head f))
 
 local_at_moved : (at : Place) (o : Option Local) → local_at start o ≡ locals_at_start (local_at at o)
 local_at_moved at None = refl

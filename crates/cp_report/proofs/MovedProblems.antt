@@ -20,8 +20,8 @@ use Rattle.cp_language.specs.Words.{is_one_of, ItemHead, non_item, penetrator_no
 use Rattle.cp_language.specs.Faults.{fault, items_of}
 use Rattle.cp_language.specs.Terms.{variable_named, lacks, exceeds, atom_faults, as_atom, term_of}
 use Rattle.cp_language.specs.Roles.{headed, text_of_symbol, list_items, items_behind, declarations_of, item_or_none, forms_under, is_non_item, is_penetrator_non_item, is_unique_item}
-use Rattle.cp_language.specs.Problems.{protocol_named, role_named, is_known, role_name_faults, height_faults, role_variable_faults, mapped_faults, first_form, second_form, second_term_faults, maplet_items_faults, maplet_faults, mapped_identifier, maplets_faults, number_of, maplets_faults_of, instance_faults, listener_faults, term_mapped, Instantiated, is_fresh, term_or_fresh, with_term, instantiated, instance_of_role, instance_by, name_in_front, heard, strand_by, fresh_of, with_strand, Strands, strands_from, node_of, number_faults, two_number_faults, range_faults, node_faults, on_one_strand, closes_cycle, is_transmission, is_reception, direction_faults, order_faults, pair_of_nodes, pair_items_faults, pair_faults, pair_of, pairs_in, pairs_faults, origins_from, is_not_empty, unique_faults, Stage, misplaced_unless, problem_item_faults, is_strand_item, is_assumption_or_order, is_precedes_item, stage_after, pairs_if, body_faults, has_strand, roles_of, protocol_name_faults, before_items, problem_strands, problem_faults, own_uniques, own_assumptions, Problem, protocol_or_none, problem_with, problem_of}
-use Rattle.cp_report.specs.Heads.{entries_of}
+use Rattle.cp_language.specs.Problems.{protocol_named, role_named, is_known, role_name_faults, height_faults, role_variable_faults, mapped_faults, first_form, second_form, second_term_faults, maplet_items_faults, maplet_faults, mapped_identifier, maplets_faults, number_of, maplets_faults_of, instance_faults, listener_faults, term_mapped, Instantiated, is_fresh, term_or_fresh, with_term, instantiated, instance_of_role, instance_by, name_in_front, listened_term, strand_by, fresh_of, with_strand, Strands, strands_from, node_of, number_faults, two_number_faults, range_faults, node_faults, on_one_strand, closes_cycle, is_some_transmission, is_some_reception, direction_faults, order_faults, pair_of_nodes, pair_items_faults, pair_faults, pair_of, pairs_in, pairs_faults, origins_from, is_not_empty, unique_faults, ItemStage, misplaced_unless, problem_item_faults, is_strand_item, is_assumption_or_order, is_precedes_item, stage_after, pairs_if, body_faults, has_strand, roles_of, protocol_name_faults, before_items, problem_strands, problem_faults, own_uniques, own_assumptions, Problem, protocol_or_none, problem_with, problem_of}
+use Rattle.cp_report.specs.Heads.{forms_after_head}
 use Rattle.cp_report.proofs.Moved.{all_moved, items_moved, entries_moved}
 use Rattle.cp_report.proofs.MovedItems.{list_items_moved, text_moved, number_of_moved, first_moved, second_moved, name_in_front_moved, node_moved}
 use Rattle.cp_report.proofs.MovedSkeletons.{pair_of_moved, pairs_in_moved}
@@ -146,7 +146,7 @@ instance_by_moved (Some role) ds next (name ∷ height ∷ maplets) =
     ap (λ n. let i = instance_of_role role ds next n (all_moved maplets) in (instance role n (substitution_by i.terms), i.fresh)) (number_of_moved height)
     ∙ ap (λ (i : Instantiated). (instance role (number_of height) (substitution_by i.terms), i.fresh)) (instantiated_moved (variables_of_prefix role (number_of height)) ds maplets next 0 role.variables)
 
-heard_moved : (ds : List Declaration) (fs : List Form) → heard ds (all_moved fs) ≡ heard ds fs
+heard_moved : (ds : List Declaration) (fs : List Form) → listened_term ds (all_moved fs) ≡ listened_term ds fs
 heard_moved ds [] = refl
 heard_moved ds (f ∷ fs) = term_of_moved ds f
 
@@ -166,7 +166,7 @@ strands_from_moved roles ds next (f ∷ fs) =
     one : strand_by roles ds next (item_or_none (headed (unplaced f))) (items_behind (headed (unplaced f))) ≡ strand_by roles ds next (item_or_none (headed f)) (items_behind (headed f))
     one =
         ap (λ h. strand_by roles ds next h (items_behind (headed (unplaced f)))) (item_or_none_moved f)
-        ∙ ap (strand_by roles ds next (item_or_none (headed f))) (entries_moved f) ∙ strand_by_moved roles ds next (item_or_none (headed f)) (entries_of f)
+        ∙ ap (strand_by roles ds next (item_or_none (headed f))) (entries_moved f) ∙ strand_by_moved roles ds next (item_or_none (headed f)) (forms_after_head f)
 
 -- ---- nodes and pairs
 
@@ -197,7 +197,7 @@ node_faults_moved strands (number at n) = refl
 direction_moved : (strands : List SkeletonStrand) (f g : Form) (p : OrderPair) → direction_faults strands (unplaced f) (unplaced g) p ≡ faults_at_start (direction_faults strands f g p)
 direction_moved strands f g p =
     chosen_faults (on_one_strand p) [] _ _ _ refl
-    (two _ _ _ _ (fault_at_form _ (is_transmission (term_event_at strands p.earlier)) f BadNode refl) (fault_at_form _ (is_reception (term_event_at strands p.later)) g BadNode refl))
+    (two _ _ _ _ (fault_at_form _ (is_some_transmission (term_event_at strands p.earlier)) f BadNode refl) (fault_at_form _ (is_some_reception (term_event_at strands p.later)) g BadNode refl))
 
 order_faults_moved : (strands : List SkeletonStrand) (before : List OrderPair) (at : Place) (f g : Form) (o : Option OrderPair) →
     order_faults strands before start (unplaced f) (unplaced g) o ≡ faults_at_start (order_faults strands before at f g o)
@@ -241,7 +241,7 @@ misplaced_moved : (b : Bool) (at : Place) (xs us : List Refusal) → us ≡ faul
 misplaced_moved true at xs us e = e
 misplaced_moved false at xs us e = refl
 
-problem_item_moved : (roles : List Role) (ds : List Declaration) (strands : List SkeletonStrand) (before : List OrderPair) (stage : Stage) → IsMovedItem (problem_item_faults roles ds strands before stage)
+problem_item_moved : (roles : List Role) (ds : List Declaration) (strands : List SkeletonStrand) (before : List OrderPair) (stage : ItemStage) → IsMovedItem (problem_item_faults roles ds strands before stage)
 problem_item_moved roles ds strands before stage at strand_item fs = misplaced_moved (not stage.after_item) at _ _ (instance_faults_moved roles ds at fs)
 problem_item_moved roles ds strands before stage at listener_item fs = misplaced_moved (not stage.after_item) at _ _ (listener_faults_moved ds at fs)
 problem_item_moved roles ds strands before stage at non_item fs = misplaced_moved stage.after_strand at _ _ (each_faults_of_moved (atom_faults ds) (atom_faults_moved ds) fs)
@@ -254,14 +254,14 @@ pairs_if_moved : (b : Bool) (fs : List Form) → pairs_if b (all_moved fs) ≡ p
 pairs_if_moved true fs = pairs_in_moved fs
 pairs_if_moved false fs = refl
 
-body_faults_moved : (roles : List Role) (ds : List Declaration) (strands : List SkeletonStrand) (before : List OrderPair) (stage : Stage) (fs : List Form) →
+body_faults_moved : (roles : List Role) (ds : List Declaration) (strands : List SkeletonStrand) (before : List OrderPair) (stage : ItemStage) (fs : List Form) →
     body_faults roles ds strands before stage (all_moved fs) ≡ faults_at_start (body_faults roles ds strands before stage fs)
 body_faults_moved roles ds strands before stage [] = refl
 body_faults_moved roles ds strands before stage (f ∷ fs) =
     two _ _ _ _ (item_faults_moved (problem_item_faults roles ds strands before stage) (problem_item_moved roles ds strands before stage) f)
     (ap (λ h. body_faults roles ds strands (before ++ pairs_if (is_precedes_item h) (items_behind (headed (unplaced f)))) (stage_after stage h) (all_moved fs)) (item_or_none_moved f)
     ∙ ap (λ ps. body_faults roles ds strands (before ++ ps) (stage_after stage (item_or_none (headed f))) (all_moved fs))
-    (ap (pairs_if (is_precedes_item (item_or_none (headed f)))) (entries_moved f) ∙ pairs_if_moved (is_precedes_item (item_or_none (headed f))) (entries_of f))
+    (ap (pairs_if (is_precedes_item (item_or_none (headed f)))) (entries_moved f) ∙ pairs_if_moved (is_precedes_item (item_or_none (headed f))) (forms_after_head f))
     ∙ body_faults_moved roles ds strands (before ++ pairs_if (is_precedes_item (item_or_none (headed f))) (items_behind (headed f))) (stage_after stage (item_or_none (headed f))) fs)
 
 has_strand_moved : (fs : List Form) → has_strand (all_moved fs) ≡ has_strand fs
@@ -291,7 +291,7 @@ pub problem_faults_moved : (above : List Protocol) → IsMovedBehind (problem_fa
 problem_faults_moved above at [] = refl
 problem_faults_moved above at (name ∷ []) = refl
 problem_faults_moved above at (name ∷ vars ∷ body) =
-    let begun : Stage = record { after_strand = false; after_item = false } in
+    let begun : ItemStage = record { after_strand = false; after_item = false } in
     let roles = roles_of (protocol_named above (text_of_symbol name)) in
     let ds = declarations_of vars in
     two _ _ _ _ (two _ _ _ _ (two _ _ _ _

@@ -15,7 +15,7 @@ use Rattle.cp_language.specs.Roles.{Headed, headed, text_of_symbol}
 use Rattle.cp_language.specs.Problems.{name_in_front, Problem}
 use Rattle.cp_language.specs.Input.{protocol_names, top_faults, headed_top_faults, protocols_onto, protocols_behind, faults_from, faults_of, Entry, problem_by, stated_problem, entries_from, input_of}
 use Rattle.cp_report.specs.Misfits.{entries_misfits, symbol_misfits}
-use Rattle.cp_report.specs.Heads.{entries_of, is_of_tree, is_label}
+use Rattle.cp_report.specs.Heads.{forms_after_head, is_of_tree, is_label}
 use Rattle.cp_report.specs.Labels.{label_of}
 use Rattle.cp_report.specs.ReadBack.{counts, behind_outcome, status_entries_misfits, status_misfits, outcome_of, Section, Sections, with_form, sections_of, input_forms, labels_in_front, behind_labels, places_of, labels_misfits, if_whole, ending_misfits, tree_misfits, next_place, trees_misfits, fault_places, first_place, misfits, tree_of, tree_onto, trees_from, Report, report_of}
 use Rattle.cp_report.proofs.Moved.{at_start, all_moved, IsMoved, IsMovedInside, both, unless_moved, place_moved, items_moved, head_moved, entries_moved, AreMoved, entries_misfits_moved, symbol_moved, number_moved}
@@ -253,11 +253,11 @@ tree_same p behind =
   where
     outcome_in : List Form → Outcome
     outcome_in [] = complete
-    outcome_in (f ∷ fs) = outcome_of (entries_of f)
+    outcome_in (f ∷ fs) = outcome_of (forms_after_head f)
 
     by : (fs : List Form) → outcome_in (all_moved fs) ≡ outcome_in fs
     by [] = refl
-    by (f ∷ fs) = ap outcome_of (entries_moved f) ∙ outcome_moved (entries_of f)
+    by (f ∷ fs) = ap outcome_of (entries_moved f) ∙ outcome_moved (forms_after_head f)
 
 onto_same : (o : Option Problem) (behind : List Form) (trees : List Tree) → tree_onto o (all_moved behind) trees ≡ tree_onto o behind trees
 onto_same None behind trees = refl

@@ -15,8 +15,8 @@ use Rattle.cp_sexpr.specs.ReadBack.{unplaced}
 use Rattle.cp_language.specs.Words.{is_one_of, heads_out_of_profile, SortWord, of_sort, of_messages, sort_out_of_profile, no_sort, sort_word, EventHead, sending, receiving, event_out_of_profile, no_event, event_head, ItemHead, role_item, non_item, penetrator_non_item, unique_item, item_head}
 use Rattle.cp_language.specs.Faults.{fault, place_of, items_of}
 use Rattle.cp_language.specs.Terms.{lacks, term_faults, atom_faults, as_atom, term_of}
-use Rattle.cp_language.specs.Roles.{Headed, headed, text_of_symbol, fixed_head_faults, fixed_faults, items_behind, front_of, last_form, sort_named, is_of_messages, sort_or_text, sort_word_faults, last_sort_faults, identifier_faults, identifiers_faults, declared_identifiers, list_items, declaration_faults, declarations_faults, vars_faults, declared_of, declarations_in, declarations_of, message_faults, event_head_faults, headed_event_faults, event_faults, events_faults, trace_faults, where_faultless, message_of, is_sending, event_of, events_in, events_of, is_somewhere, unless_faulty, role_unique_faults, each_faults, role_item_faults, headed_item_faults, item_faults, name_faults_at, role_faults, atoms_in, item_or_none, forms_under, is_non_item, is_penetrator_non_item, is_unique_item, role_of, is_role_item, protocol_item_faults, role_name_onto, roles_faults, algebra_faults, protocol_faults, roles_in, protocol_of}
-use Rattle.cp_report.specs.Heads.{entries_of}
+use Rattle.cp_language.specs.Roles.{Headed, headed, text_of_symbol, fixed_head_faults, fixed_faults, items_behind, front_of, last_form, sort_named, is_of_messages, sort_or_text, sort_word_faults, last_sort_faults, identifier_faults, identifiers_faults, declared_identifiers, list_items, declaration_faults, declarations_faults, vars_faults, declared_of, declarations_in, declarations_of, message_faults, event_head_faults, headed_event_faults, event_faults, events_faults, trace_faults, where_faultless, message_of, is_sending, event_of, events_in, events_stated, is_somewhere, unless_faulty, role_unique_faults, each_faults, role_item_faults, headed_item_faults, item_faults, name_faults_at, role_faults, atoms_in, item_or_none, forms_under, is_non_item, is_penetrator_non_item, is_unique_item, role_of, is_role_item, protocol_item_faults, role_name_onto, roles_faults, algebra_faults, protocol_faults, roles_in, protocol_of}
+use Rattle.cp_report.specs.Heads.{forms_after_head}
 use Rattle.cp_report.proofs.Moved.{all_moved, place_moved, items_moved, entries_moved, last_moved, front_moved}
 use Rattle.cp_report.proofs.MovedItems.{list_items_moved, text_moved, sort_named_moved}
 use Rattle.cp_report.proofs.MovedLabels.{headed_at_start, headed_moved}
@@ -120,7 +120,7 @@ declarations_in_moved (f ∷ fs) =
     ∙ ap (λ ds. declared_of (sort_or_text (sort_named (last_form (list_items f)))) (front_of (list_items f)) ++ ds) (declarations_in_moved fs)
 
 pub declarations_of_moved : (f : Form) → declarations_of (unplaced f) ≡ declarations_of f
-declarations_of_moved f = ap declarations_in (entries_moved f) ∙ declarations_in_moved (entries_of f)
+declarations_of_moved f = ap declarations_in (entries_moved f) ∙ declarations_in_moved (forms_after_head f)
 
 -- ---- events
 
@@ -170,8 +170,8 @@ events_in_moved ds [] = refl
 events_in_moved ds (f ∷ fs) =
     ap (λ e. e ∷ events_in ds (all_moved fs)) (ap (event_of ds) (headed_moved f) ∙ event_of_moved ds (headed f)) ∙ ap (λ es. event_of ds (headed f) ∷ es) (events_in_moved ds fs)
 
-events_of_moved : (ds : List Declaration) (f : Form) → events_of ds (unplaced f) ≡ events_of ds f
-events_of_moved ds f = ap (events_in ds) (entries_moved f) ∙ events_in_moved ds (entries_of f)
+events_of_moved : (ds : List Declaration) (f : Form) → events_stated ds (unplaced f) ≡ events_stated ds f
+events_of_moved ds f = ap (events_in ds) (entries_moved f) ∙ events_in_moved ds (forms_after_head f)
 
 -- ---- roles
 
@@ -233,9 +233,9 @@ role_faults_moved before at (name ∷ vars ∷ trace ∷ items) =
     let ds = declarations_of vars in
     two _ _ _ _ (two _ _ _ _ (two _ _ _ _ (duplicate_role_moved before name) (vars_faults_moved vars))
     (ap (λ d. trace_faults d (unplaced trace)) (declarations_of_moved vars) ∙ trace_faults_moved ds trace))
-    (ap (λ d. each_faults (item_faults (role_item_faults d (events_of d (unplaced trace)))) (all_moved items)) (declarations_of_moved vars)
+    (ap (λ d. each_faults (item_faults (role_item_faults d (events_stated d (unplaced trace)))) (all_moved items)) (declarations_of_moved vars)
     ∙ ap (λ es. each_faults (item_faults (role_item_faults ds es)) (all_moved items)) (events_of_moved ds trace)
-    ∙ each_faults_of_moved (item_faults (role_item_faults ds (events_of ds trace))) (item_faults_moved (role_item_faults ds (events_of ds trace)) (role_item_moved ds (events_of ds trace))) items)
+    ∙ each_faults_of_moved (item_faults (role_item_faults ds (events_stated ds trace))) (item_faults_moved (role_item_faults ds (events_stated ds trace)) (role_item_moved ds (events_stated ds trace))) items)
 
 pub atoms_in_moved : (ds : List Declaration) (fs : List Form) → atoms_in ds (all_moved fs) ≡ atoms_in ds fs
 atoms_in_moved ds [] = refl
@@ -249,7 +249,7 @@ forms_under_moved test (f ∷ fs) =
   where
     by : (b : Bool) → forms_under test (all_moved fs) ≡ all_moved (forms_under test fs) →
         (if b then items_behind (headed (unplaced f)) ++ forms_under test (all_moved fs) else forms_under test (all_moved fs)) ≡ all_moved (if b then items_behind (headed f) ++ forms_under test fs else forms_under test fs)
-    by true rest = ap (λ gs. gs ++ forms_under test (all_moved fs)) (entries_moved f) ∙ ap (λ gs. all_moved (entries_of f) ++ gs) rest ∙ sym (map-append unplaced (entries_of f) (forms_under test fs))
+    by true rest = ap (λ gs. gs ++ forms_under test (all_moved fs)) (entries_moved f) ∙ ap (λ gs. all_moved (forms_after_head f) ++ gs) rest ∙ sym (map-append unplaced (forms_after_head f) (forms_under test fs))
     by false rest = rest
 
 pub atoms_under_head_moved : (ds : List Declaration) (test : ItemHead → Bool) (fs : List Form) → atoms_in ds (forms_under test (all_moved fs)) ≡ atoms_in ds (forms_under test fs)
@@ -270,7 +270,7 @@ role_of_moved (name ∷ vars ∷ trace ∷ items) =
     let a = atoms_under_head_moved ds is_non_item items in
     let b = atoms_under_head_moved ds is_penetrator_non_item items in
     let c = atoms_under_head_moved ds is_unique_item items in
-    ap (λ e. role_with (text_of_symbol (unplaced name)) e (events_of e (unplaced trace)) (atoms_in e (forms_under is_non_item (all_moved items)))
+    ap (λ e. role_with (text_of_symbol (unplaced name)) e (events_stated e (unplaced trace)) (atoms_in e (forms_under is_non_item (all_moved items)))
     (atoms_in e (forms_under is_penetrator_non_item (all_moved items))) (atoms_in e (forms_under is_unique_item (all_moved items)))) d
     ∙ (λ i. role_with (t i) ds (es i) (a i) (b i) (c i))
 
@@ -307,7 +307,7 @@ roles_in_moved : (fs : List Form) → roles_in (all_moved fs) ≡ roles_in fs
 roles_in_moved [] = refl
 roles_in_moved (f ∷ fs) =
     ap (λ h. if is_role_item h then role_of (items_behind (headed (unplaced f))) ∷ roles_in (all_moved fs) else roles_in (all_moved fs)) (item_or_none_moved f)
-    ∙ ap (λ r. if is_role_item (item_or_none (headed f)) then r ∷ roles_in (all_moved fs) else roles_in (all_moved fs)) (ap role_of (entries_moved f) ∙ role_of_moved (entries_of f))
+    ∙ ap (λ r. if is_role_item (item_or_none (headed f)) then r ∷ roles_in (all_moved fs) else roles_in (all_moved fs)) (ap role_of (entries_moved f) ∙ role_of_moved (forms_after_head f))
     ∙ ap (λ rs. if is_role_item (item_or_none (headed f)) then role_of (items_behind (headed f)) ∷ rs else rs) (roles_in_moved fs)
 
 pub protocol_of_moved : (fs : List Form) → protocol_of (all_moved fs) ≡ protocol_of fs

@@ -17,9 +17,9 @@ use Rattle.cp_language.specs.Terms.{as_atom}
 use Rattle.cp_language.specs.Roles.{text_of_symbol, list_items}
 use Rattle.cp_language.specs.Problems.{role_named, is_known, first_form, second_form, number_of, node_of, option_node, pair_of_nodes, between_strands, pair_of, pairs_in, Problem}
 use Rattle.cp_report.specs.Misfits.{entries_misfits, any_number_misfits}
-use Rattle.cp_report.specs.Heads.{entries_of, items_with, strand_heads}
+use Rattle.cp_report.specs.Heads.{forms_after_head, items_with, strand_heads}
 use Rattle.cp_report.specs.Spelled.{Scope, term_misfits, atom_in}
-use Rattle.cp_report.specs.Skeletons.{scope_of, declared_in_prefix, height_misfits, prefix_misfits, instance_misfits, is_instance, strand_misfits, instance_with, instance_of_entries, term_or_tag, strand_of, strands_of_label, there_misfits, node_misfits, is_further_pair, pair_stated, pair_misfits, pairs_misfits, precedes_misfits, atoms_misfits, node_or_first, unique_of, second_place}
+use Rattle.cp_report.specs.Skeletons.{scope_of, declared_in_prefix, height_misfits, prefix_misfits, instance_misfits, states_instance, strand_misfits, instance_with, instance_of_entries, term_or_tag, strand_of, strands_of_label, there_misfits, node_misfits, is_further_pair, pair_stated, pair_misfits, pairs_misfits, precedes_misfits, atoms_misfits, node_or_first, unique_of, second_place}
 use Rattle.cp_report.proofs.Moved.{at_start, all_moved, IsMoved, IsMovedInside, both, unless_moved, test_moved, place_moved, head_moved, entries_moved, lacking_moved, entries_misfits_moved, symbol_moved, number_moved, any_number_moved, list_moved}
 use Rattle.cp_report.proofs.MovedTerms.{test_at_form, term_moved, atom_misfits_moved, atom_in_moved}
 use Rattle.cp_report.proofs.MovedItems.{map_moved, items_with_moved, list_items_moved, text_moved, number_of_moved, first_moved, second_moved, scope_moved, mapping_moved, term_or_tag_moved, values_moved, node_moved, option_node_moved}
@@ -50,14 +50,14 @@ chosen true xs ys us vs e f = e
 chosen false xs ys us vs e f = f
 
 -- what is asked of the entries of a form
-pub inside_moved : (inside : Place → List Form → List Place) → IsMovedInside inside → (f : Form) → inside (place_of (unplaced f)) (entries_of (unplaced f)) ≡ at_start (inside (place_of f) (entries_of f))
-inside_moved inside m f = ap (λ p. inside p (entries_of (unplaced f))) (place_moved f) ∙ ap (inside start) (entries_moved f) ∙ m (place_of f) (entries_of f)
+pub inside_moved : (inside : Place → List Form → List Place) → IsMovedInside inside → (f : Form) → inside (place_of (unplaced f)) (forms_after_head (unplaced f)) ≡ at_start (inside (place_of f) (forms_after_head f))
+inside_moved inside m f = ap (λ p. inside p (forms_after_head (unplaced f))) (place_moved f) ∙ ap (inside start) (entries_moved f) ∙ m (place_of f) (forms_after_head f)
 
 pub strand_misfits_moved : (roles : List Role) (s : Scope) → IsMoved (strand_misfits roles s)
 strand_misfits_moved roles s f =
-    ap (λ b. if b then instance_misfits roles s (place_of (unplaced f)) (entries_of (unplaced f)) else entries_misfits (term_misfits s ∷ []) (place_of (unplaced f)) (entries_of (unplaced f)))
+    ap (λ b. if b then instance_misfits roles s (place_of (unplaced f)) (forms_after_head (unplaced f)) else entries_misfits (term_misfits s ∷ []) (place_of (unplaced f)) (forms_after_head (unplaced f)))
     (head_moved (codes "defstrand" ∷ []) f)
-    ∙ chosen (is_instance f) _ _ _ _ (inside_moved (instance_misfits roles s) (instance_moved roles s) f)
+    ∙ chosen (states_instance f) _ _ _ _ (inside_moved (instance_misfits roles s) (instance_moved roles s) f)
     (inside_moved (entries_misfits (term_misfits s ∷ [])) (λ at fs. entries_misfits_moved (term_misfits s ∷ []) at fs (term_moved s, tt)) f)
 
 -- ---- strands: what they stand for
@@ -76,10 +76,10 @@ instance_of_moved roles s (name ∷ height ∷ maplets) =
 
 pub strand_moved : (roles : List Role) (s : Scope) (f : Form) → strand_of roles s (unplaced f) ≡ strand_of roles s f
 strand_moved roles s f =
-    ap (λ b. if b then instance_of_entries roles s (entries_of (unplaced f)) else listener (term_or_tag s (first_form (entries_of (unplaced f))))) (head_moved (codes "defstrand" ∷ []) f)
-    ∙ ap (λ k. if is_instance f then k else listener (term_or_tag s (first_form (entries_of (unplaced f))))) (ap (instance_of_entries roles s) (entries_moved f) ∙ instance_of_moved roles s (entries_of f))
-    ∙ ap (λ t. if is_instance f then instance_of_entries roles s (entries_of f) else listener t)
-    (ap (λ gs. term_or_tag s (first_form gs)) (entries_moved f) ∙ ap (term_or_tag s) (first_moved (entries_of f)) ∙ term_or_tag_moved s (first_form (entries_of f)))
+    ap (λ b. if b then instance_of_entries roles s (forms_after_head (unplaced f)) else listener (term_or_tag s (first_form (forms_after_head (unplaced f))))) (head_moved (codes "defstrand" ∷ []) f)
+    ∙ ap (λ k. if states_instance f then k else listener (term_or_tag s (first_form (forms_after_head (unplaced f))))) (ap (instance_of_entries roles s) (entries_moved f) ∙ instance_of_moved roles s (forms_after_head f))
+    ∙ ap (λ t. if states_instance f then instance_of_entries roles s (forms_after_head f) else listener t)
+    (ap (λ gs. term_or_tag s (first_form gs)) (entries_moved f) ∙ ap (term_or_tag s) (first_moved (forms_after_head f)) ∙ term_or_tag_moved s (first_form (forms_after_head f)))
 
 pub strands_moved : (p : Problem) (items : List Form) → strands_of_label p (all_moved items) ≡ strands_of_label p items
 strands_moved p items =

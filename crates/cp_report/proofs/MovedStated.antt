@@ -12,9 +12,9 @@ use Rattle.cp_language.specs.Faults.{place_of}
 use Rattle.cp_language.specs.Roles.{list_items}
 use Rattle.cp_language.specs.Problems.{second_form, number_of, pairs_in, Problem}
 use Rattle.cp_report.specs.Misfits.{misfit_unless, lacking, each_misfits, entries_misfits}
-use Rattle.cp_report.specs.Heads.{entries_of, item_with, items_with, entries_under, optional_misfits, strand_heads}
+use Rattle.cp_report.specs.Heads.{forms_after_head, item_with, items_with, entries_under, optional_misfits, strand_heads}
 use Rattle.cp_report.specs.Spelled.{Scope, atom_misfits, atom_in}
-use Rattle.cp_report.specs.Skeletons.{vars_misfits, scope_of, strand_misfits, strands_of_label, node_misfits, precedes_misfits, atoms_misfits, has_atoms, has_uniques, assumption_misfits, atoms_under, values_misfits, may_be_origin, unique_of, second_place, unique_misfits, uniques_misfits, uniques_under, all_uniques_misfits, problem_variables, strand_number_misfits, map_misfits, strands_mapped, values_of_map, from_problem_by, pairs_under, assumptions_under, from_problem_of, vars_item_misfits, strands_misfits, around_strands_misfits, skeleton_stated}
+use Rattle.cp_report.specs.Skeletons.{vars_misfits, scope_of, strand_misfits, strands_of_label, node_misfits, precedes_misfits, atoms_misfits, has_atoms, has_uniques, assumption_misfits, atoms_under, values_misfits, may_be_origin, unique_of, second_place, unique_misfits, uniques_misfits, uniques_under, all_uniques_misfits, problem_variables, strand_number_misfits, map_misfits, strands_mapped, values_of_map, from_problem_by, pairs_under, assumptions_stated, from_problem_of, vars_item_misfits, strands_misfits, around_strands_misfits, skeleton_stated}
 use Rattle.cp_report.proofs.Moved.{at_start, all_moved, IsMoved, IsMovedInside, both, unless_moved, test_moved, place_moved, entries_moved, each_moved, lacking_moved, AreMoved, entries_misfits_moved, number_moved, list_moved}
 use Rattle.cp_report.proofs.MovedTerms.{test_at_form, atom_misfits_moved, atom_in_moved}
 use Rattle.cp_report.proofs.MovedItems.{map_moved, item_moved, items_with_moved, entries_under_moved, list_items_moved, number_of_moved, second_moved, scope_moved, vars_moved, mapping_moved, values_moved}
@@ -39,8 +39,8 @@ assumption_moved : (inside inside' : List Form → List Place) → ((fs : List F
 assumption_moved inside inside' m at None b c e = test_moved b c at e
 assumption_moved inside inside' m at (Some f) b c e =
     unless_moved _ _ _ _
-    (ap (λ p. lacking 1 p (entries_of (unplaced f)) ++ inside' (entries_of (unplaced f))) (place_moved f)
-    ∙ ap (λ fs. lacking 1 start fs ++ inside' fs) (entries_moved f) ∙ some_moved inside inside' m (place_of f) (entries_of f))
+    (ap (λ p. lacking 1 p (forms_after_head (unplaced f)) ++ inside' (forms_after_head (unplaced f))) (place_moved f)
+    ∙ ap (λ fs. lacking 1 start fs ++ inside' fs) (entries_moved f) ∙ some_moved inside inside' m (place_of f) (forms_after_head f))
     (test_at_form b c f e)
 
 pub atoms_under_moved : (head : List ℕ) (items : List Form) → atoms_under head (all_moved items) ≡ atoms_under head items
@@ -109,7 +109,7 @@ values_of_map_moved p s (f ∷ maplets) = values_moved s maplets (problem_variab
 pairs_under_moved : (items : List Form) → pairs_under (all_moved items) ≡ pairs_under items
 pairs_under_moved items = ap pairs_in (entries_under_moved (codes "precedes") items) ∙ pairs_in_moved (entries_under (codes "precedes") items)
 
-assumptions_moved : (items : List Form) → assumptions_under (all_moved items) ≡ assumptions_under items
+assumptions_moved : (items : List Form) → assumptions_stated (all_moved items) ≡ assumptions_stated items
 assumptions_moved items =
     let a = atoms_under_moved (codes "non-orig") items in let b = atoms_under_moved (codes "pen-non-orig") items in let c = uniques_under_moved items in
     λ i. record { non_originating = a i; penetrator_non_originating = b i; uniquely_originating = c i }

@@ -9,11 +9,11 @@ use Rattle.cp_sexpr.specs.Pieces.{start}
 use Rattle.cp_sexpr.specs.ReadBack.{unplaced, all_unplaced}
 use Rattle.cp_language.specs.Words.{TermHead, cat, encrypt, long_term_key, public_key, private_key, inverse_key, operation_out_of_profile, no_operation, term_head, sort_word}
 use Rattle.cp_language.specs.Faults.{place_of, items_of}
-use Rattle.cp_language.specs.Terms.{sort_of_variable, is_sort, is_atom, term_of_variable, key_of_name, applied, as_atom}
+use Rattle.cp_language.specs.Terms.{sort_of_variable, is_sort, admits_atom, term_of_variable, key_of_name, applied, as_atom}
 use Rattle.cp_language.specs.Roles.{front_of, last_form}
 use Rattle.cp_report.specs.Misfits.{misfit_unless, all_misfits, symbol_misfits, any_number_misfits}
-use Rattle.cp_report.specs.Heads.{has_head, entries_of}
-use Rattle.cp_report.specs.Spelled.{Scope, names_sort, sort_or_none, local_with, local_by, variable_of_local, variable_in, sort_by_shape, known_or, sort_in, sort_misfits, key_misfits, local_misfits, is_local, is_of_sort, variable_misfits, variables_misfits, name_misfits, spread_misfits, last_key_misfits, applied_misfits, term_misfits, each_term_misfits, value_misfits, atom_misfits, term_in, terms_in, atom_in}
+use Rattle.cp_report.specs.Heads.{has_head, forms_after_head}
+use Rattle.cp_report.specs.Spelled.{Scope, names_sort, sort_or_none, local_with, local_by, variable_of_local, variable_in, sort_by_shape, known_or, sort_in, sort_misfits, key_misfits, local_misfits, is_local, is_found_of_sort, variable_misfits, variables_misfits, name_misfits, spread_misfits, last_key_misfits, applied_misfits, term_misfits, each_term_misfits, value_misfits, atom_misfits, term_in, terms_in, atom_in}
 use Rattle.cp_report.proofs.Moved.{at_start, all_moved, IsMoved, both, unless_moved, test_moved, place_moved, items_moved, head_moved, entries_moved, last_moved, front_moved, lacking_moved, AreMoved, entries_misfits_moved, symbol_moved, any_number_moved}
 
 -- ---- variables and sorts
@@ -42,8 +42,8 @@ variable_moved s (symbol at t) = refl
 variable_moved s (string at t) = refl
 variable_moved s (number at n) = refl
 variable_moved s (list at fs) =
-    ap (λ b. if b then variable_of_local s (local_by (entries_of (unplaced (list at fs)))) else None) (is_local_moved s (list at fs))
-    ∙ ap (λ o. if is_local s (list at fs) then variable_of_local s o else None) (ap local_by (entries_moved (list at fs)) ∙ local_by_moved (entries_of (list at fs)))
+    ap (λ b. if b then variable_of_local s (local_by (forms_after_head (unplaced (list at fs)))) else None) (is_local_moved s (list at fs))
+    ∙ ap (λ o. if is_local s (list at fs) then variable_of_local s o else None) (ap local_by (entries_moved (list at fs)) ∙ local_by_moved (forms_after_head (list at fs)))
 
 shape_moved : (f : Form) → sort_by_shape (unplaced f) ≡ sort_by_shape f
 shape_moved (symbol at t) = refl
@@ -79,9 +79,9 @@ local_misfits_moved at fs = entries_misfits_moved (symbol_misfits names_sort ∷
 pub variable_misfits_moved : (s : Scope) (r : Sort) → IsMoved (variable_misfits s r)
 variable_misfits_moved s r f =
     unless_moved _ _ _ _
-    (if_moved (is_local s (unplaced f)) (is_local s f) (local_misfits (place_of f) (entries_of f)) (local_misfits (place_of (unplaced f)) (entries_of (unplaced f))) (is_local_moved s f)
-    (ap (λ p. local_misfits p (entries_of (unplaced f))) (place_moved f) ∙ ap (local_misfits start) (entries_moved f) ∙ local_misfits_moved (place_of f) (entries_of f)))
-    (test_at_form (is_of_sort r (variable_in s (unplaced f))) (is_of_sort r (variable_in s f)) f (ap (is_of_sort r) (variable_moved s f)))
+    (if_moved (is_local s (unplaced f)) (is_local s f) (local_misfits (place_of f) (forms_after_head f)) (local_misfits (place_of (unplaced f)) (forms_after_head (unplaced f))) (is_local_moved s f)
+    (ap (λ p. local_misfits p (forms_after_head (unplaced f))) (place_moved f) ∙ ap (local_misfits start) (entries_moved f) ∙ local_misfits_moved (place_of f) (forms_after_head f)))
+    (test_at_form (is_found_of_sort r (variable_in s (unplaced f))) (is_found_of_sort r (variable_in s f)) f (ap (is_found_of_sort r) (variable_moved s f)))
 
 kinds_moved : (s : Scope) (sorts : List Sort) → AreMoved (map (variable_misfits s) sorts)
 kinds_moved s [] = tt
@@ -148,7 +148,7 @@ mutual
   each_term_moved s (more f fs) = ap (λ e. e ∷ each_term_misfits s (all_unplaced fs)) (term_moved s f) ∙ ap (λ es. at_start (term_misfits s f) ∷ es) (each_term_moved s fs)
 
 pub atom_misfits_moved : (s : Scope) → IsMoved (atom_misfits s)
-atom_misfits_moved s f = both _ _ _ _ (test_at_form _ (is_atom (sort_in s f)) f (ap is_atom (sort_moved s f))) (term_moved s f)
+atom_misfits_moved s f = both _ _ _ _ (test_at_form _ (admits_atom (sort_in s f)) f (ap admits_atom (sort_moved s f))) (term_moved s f)
 
 pub value_misfits_moved : (s : Scope) (o : Option Variable) → IsMoved (value_misfits s o)
 value_misfits_moved s None f = term_moved s f

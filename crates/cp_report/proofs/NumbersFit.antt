@@ -14,7 +14,7 @@ use Rattle.cp_language.specs.Report.{node_form, operation_words}
 use Rattle.cp_language.specs.Problems.{is_known, name_in_front, Problem}
 use Rattle.cp_report.specs.Misfits.{misfit_unless, each_misfits, entries_misfits}
 use Rattle.cp_report.specs.Skeletons.{node_misfits}
-use Rattle.cp_report.specs.Labels.{is_number, OperationWord, operation_word, blocks, operation_misfits, operation_place_misfits}
+use Rattle.cp_report.specs.Labels.{is_number, OperationWord, operation_word, block_checks, operation_misfits, operation_place_misfits}
 use Rattle.cp_report.specs.FittingTrees.{IsOperationOn}
 use Rattle.cp_report.proofs.PrintedMaps.{numbers_same}
 
@@ -47,7 +47,7 @@ word_for o = operation_word (name_in_front (operation_words o))
 
 -- The entries of a partition fit, the first of these being number i.
 blocks_fit : (ns : List ℕ) (i : ℕ) (ks : List SkeletonStrand) (ps : List ℕ) (at : Place) → length ps ≡ length ks → ((j n : ℕ) → item_at ps j ≡ Some n → (n ≤ i + j) × (item_at ns n ≡ Some n))
-    → entries_misfits (blocks ns i ks) at (map numeral ps) ≡ []
+    → entries_misfits (block_checks ns i ks) at (map numeral ps) ≡ []
 blocks_fit ns i [] [] at e h = refl
 blocks_fit ns i [] (p ∷ ps) at e h = absurd (cc)
 blocks_fit ns i (k ∷ ks) [] at e h = absurd (cc)
@@ -63,7 +63,7 @@ blocks_fit ns i (k ∷ ks) (p ∷ ps) at e h =
 pub operation_fits : (p : Problem) (k : Skeleton) (at : Place) (o : Operation) → IsOperationOn p k o → operation_misfits p at (operation_words o) ≡ []
 operation_fits p k at by_problem h = refl
 operation_fits p k at (by_collapse ps) h =
-    ap (λ ns. entries_misfits (blocks ns 0 p.skeleton.strands) at (map numeral ps)) (numbers_same ps)
+    ap (λ ns. entries_misfits (block_checks ns 0 p.skeleton.strands) at (map numeral ps)) (numbers_same ps)
     ∙ blocks_fit ps 0 p.skeleton.strands ps at h.each (λ j n e. let r = h.lowest j n e in (omega (arith, r.0), r.1))
 operation_fits p k at (by_contraction n) h = refl
 operation_fits p k at (by_displacement n) h = refl

@@ -8,9 +8,9 @@ use Rattle.cp_base.specs.declared.place.Refusal.{Refusal}
 use Rattle.cp_lists.specs.Lists.{IsIn}
 use Rattle.cp_lists.proofs.Members.{into_map, from_map, none_in_empty}
 use Rattle.cp_sexpr.specs.Syntax.{Forms}
-use Rattle.cp_language.specs.FirstFault.{comes_before, IsFirstFault}
+use Rattle.cp_language.specs.FirstFault.{refusal_before, IsFirstFault}
 use Rattle.cp_language.proofs.OneAnswer.{first_fault, one_first as one_first_fault}
-use Rattle.cp_report.specs.Misfits.{stands_before, IsFirstMisfit}
+use Rattle.cp_report.specs.Misfits.{place_before, IsFirstMisfit}
 use Rattle.cp_report.specs.ReadBack.{misfits, Report, report_of, IsReadBack}
 
 -- ---- the order of places
@@ -34,14 +34,14 @@ by_place false true true d = refl
 by_place false true false true = refl
 by_place false true false false = refl
 
-same_order : (p q : Place) → comes_before (at_place p) (at_place q) ≡ stands_before p q
+same_order : (p q : Place) → refusal_before (at_place p) (at_place q) ≡ place_before p q
 same_order p q = by_place (nat_lt p.line q.line) (p.line == q.line) (nat_lt p.col q.col) (p.col == q.col)
 
 as_fault : (places : List Place) (p : Place) → IsFirstMisfit places p → IsFirstFault (map at_place places) (at_place p)
 as_fault places p h = record { listed = into_map at_place h.listed; first = all }
   where
-    all : (s : Refusal) → IsIn s (map at_place places) → comes_before s (at_place p) ≡ false
-    all s m = let r = from_map at_place places m in subst (λ (t : Refusal). comes_before t (at_place p) ≡ false) r.2 (same_order r.0 p ∙ h.first r.0 r.1)
+    all : (s : Refusal) → IsIn s (map at_place places) → refusal_before s (at_place p) ≡ false
+    all s m = let r = from_map at_place places m in subst (λ (t : Refusal). refusal_before t (at_place p) ≡ false) r.2 (same_order r.0 p ∙ h.first r.0 r.1)
 
 as_misfit : (places : List Place) (p : Place) → IsIn p places → IsFirstFault (map at_place places) (at_place p) → IsFirstMisfit places p
 as_misfit places p m h = record { listed = m; first = λ q i. sym (same_order q p) ∙ h.first (at_place q) (into_map at_place i) }

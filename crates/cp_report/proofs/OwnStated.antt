@@ -15,8 +15,8 @@ use Rattle.cp_model.specs.Skeleton.{SkeletonStrand, term_event_at, UniqueAt, Ass
 use Rattle.cp_model.specs.Stated.{unique_image, pair_image, IsImageOfOne, AreImages, KeepsStated}
 use Rattle.cp_model.specs.declared.node.OrderPair.{OrderPair}
 use Rattle.cp_model.specs.Given.{has_atom, has_unique}
-use Rattle.cp_model.specs.Order.{LeadsTo}
-use Rattle.cp_model.specs.OrderTests.{reaches}
+use Rattle.cp_model.specs.Order.{ReachesAlong}
+use Rattle.cp_model.specs.OrderTests.{reaches_within}
 use Rattle.cp_model.proofs.LawTerms.{atom_composed}
 use Rattle.cp_model.proofs.LawAgreement.{agree_atom}
 use Rattle.cp_model.proofs.Gathered.{atoms, uniques}
@@ -131,7 +131,7 @@ module _ (f : Substitution) (problem k : Skeleton) (ds : List Declaration) (keep
 
 -- A pair that is kept is in the order, up to a node that is there.
 abbrev pub AreInOrder : List SkeletonStrand → List OrderPair → List OrderPair → Type 0
-AreInOrder strands pairs kept = (p : OrderPair) → IsIn p kept → LeadsTo pairs p.earlier p.later × (is_known (term_event_at strands p.later) ≡ true)
+AreInOrder strands pairs kept = (p : OrderPair) → IsIn p kept → ReachesAlong pairs p.earlier p.later × (is_known (term_event_at strands p.later) ≡ true)
 
 -- The problem's own pairs are given back.
 pub own_pairs_back : (problem k : Skeleton) → KeepsStated problem k → (strands : List SkeletonStrand) (pairs : List OrderPair) (values : List Term) → AreInOrder strands pairs k.from_problem.pairs
@@ -148,14 +148,14 @@ own_pairs_back problem k keeps strands pairs values ordered y = (forth, back)
     forth i =
         let kept = from_filter (is_in_order strands pairs) (map image problem.from_problem.pairs) i in
         let one = from_map image problem.from_problem.pairs kept.0 in
-        let three = three_parts (not (on_one_strand y)) (is_known (term_event_at strands y.later)) (reaches (length pairs) pairs y.earlier y.later) kept.1 in
+        let three = three_parts (not (on_one_strand y)) (is_known (term_event_at strands y.later)) (reaches_within (length pairs) pairs y.earlier y.later) kept.1 in
         record { item = y; listed = (keeps.pairs y).1 (record { item = one.0; listed = one.1; image = one.2 }, apart (not-true (on_one_strand y) three.0)); image = refl }
 
     back_of : IsIn y k.from_problem.pairs → IsIn y (filter (is_in_order strands pairs) (map image problem.from_problem.pairs))
     back_of i =
         let r = (keeps.pairs y).0 i in
         let o = ordered y i in
-        let test : is_in_order strands pairs y ≡ true = all_three (not (on_one_strand y)) (is_known (term_event_at strands y.later)) (reaches (length pairs) pairs y.earlier y.later)
+        let test : is_in_order strands pairs y ≡ true = all_three (not (on_one_strand y)) (is_known (term_event_at strands y.later)) (reaches_within (length pairs) pairs y.earlier y.later)
         (ap not (false_from_ne_true (on_one_strand y) (λ h. absurd (r.1 (eqb-true y.earlier.strand y.later.strand h))))) o.1 ((reaches_all pairs y.earlier y.later).1 o.0) in
         into_filter (is_in_order strands pairs) (map image problem.from_problem.pairs) (subst (λ (p : OrderPair). IsIn p (map image problem.from_problem.pairs)) r.0.image (into_map image r.0.listed)) test
 

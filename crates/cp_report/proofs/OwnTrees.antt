@@ -17,9 +17,9 @@ use Rattle.cp_sexpr.specs.Syntax.{Forms}
 use Rattle.cp_language.specs.Report.{variables_of_terms, occurring}
 use Rattle.cp_language.specs.Problems.{Problem}
 use Rattle.cp_language.specs.Input.{faults_of, Entry, input_of}
-use Rattle.cp_wellformed.specs.Example.{example_input}
-use Rattle.cp_wellformed.proofs.Problems.{are_skeletons, map_to_themselves}
-use Rattle.cp_wellformed.proofs.Example.{is_well_formed}
+use Rattle.cp_language.specs.Example.{example_input}
+use Rattle.cp_language.proofs.Problems.{are_skeletons, map_to_themselves}
+use Rattle.cp_language.proofs.Example.{is_well_formed}
 use Rattle.cp_report.specs.FittingTrees.{HasSortOf, FitsIn, TreeFits, problems_in}
 use Rattle.cp_report.specs.Laws.{CanBeStated}
 use Rattle.cp_report.specs.Example.{own_label, own_tree, own_trees}

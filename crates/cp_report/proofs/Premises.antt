@@ -13,13 +13,13 @@ use Rattle.cp_model.specs.Skeleton.{Skeleton}
 use Rattle.cp_model.specs.Tree.{Label, Tree}
 use Rattle.cp_model.proofs.LawPrefixes.{in_front_of_trace}
 use Rattle.cp_model.proofs.OccurringVariables.{in_trace_under, in_atoms, in_uniques}
-use Rattle.cp_skel.proofs.UnderVariables.{applies_at}
+use Rattle.cp_model.proofs.UnderVariables.{applies_at}
 use Rattle.cp_sexpr.specs.Syntax.{Forms}
 use Rattle.cp_language.specs.Names.{identifiers_in, first_of, problem_names}
 use Rattle.cp_language.specs.Terms.{variable_named}
 use Rattle.cp_language.specs.Problems.{Problem}
 use Rattle.cp_language.specs.Input.{faults_of, Entry, input_of}
-use Rattle.cp_wellformed.proofs.Problems.{map_to_themselves, roles_are_well_formed, roles_found, variables_found}
+use Rattle.cp_language.proofs.Problems.{map_to_themselves, roles_are_well_formed, roles_found, variables_found}
 use Rattle.cp_report.specs.UpToNames.{IsReport}
 use Rattle.cp_report.specs.FittingTrees.{FitsIn, TreeFits, problem_onto, problems_in}
 use Rattle.cp_report.specs.Laws.{ArePrinted, CanBeStated}

@@ -16,7 +16,7 @@ use Rattle.cp_language.specs.Printed.{variable, atom_form}
 use Rattle.cp_report.specs.Misfits.{misfit_unless, unless_misfit}
 use Rattle.cp_report.specs.Spelled.{Scope, atom_misfits, atom_in}
 use Rattle.cp_report.specs.Skeletons.{atoms_misfits, has_atoms}
-use Rattle.cp_report.specs.UpToNames.{numbered, renamed, renaming, IsOneToOne}
+use Rattle.cp_report.specs.UpToNames.{variable_numbered, renamed, renaming, IsOneToOne}
 use Rattle.cp_report.proofs.SpelledTerms.{StandsFor, printed_atom_fits}
 use Rattle.cp_report.proofs.CoveringPairs.{AreApart, apart_append}
 
@@ -28,7 +28,7 @@ module _ (number : Variable → ℕ) where
   OneToOneOn xs ys = (x y : Variable) → IsIn x xs → IsIn y ys → renamed number x ≡ renamed number y → x ≡ y
 
   one_number : (r : Sort) (m n : ℕ) → OneToOneOn (variable r m ∷ []) (variable r n ∷ []) → number (variable r m) ≡ number (variable r n) → m ≡ n
-  one_number r m n one e = ap (λ (x : Variable). x.number) (one (variable r m) (variable r n) here here (ap (λ (k : ℕ). numbered r k) e))
+  one_number r m n one e = ap (λ (x : Variable). x.number) (one (variable r m) (variable r n) here here (ap (λ (k : ℕ). variable_numbered r k) e))
 
   same_symmetric : (j k : SymmetricTerm) → OneToOneOn (variables_of_symmetric j) (variables_of_symmetric k) → (apply_to_atom (renaming number) (key_term (symmetric_term j)) ≡ apply_to_atom (renaming number) (key_term (symmetric_term k))) → j ≡ k
   same_symmetric (skey_variable m) (skey_variable n) one e = let f : number (variable skey_sort m) ≡ number (variable skey_sort n) = cc in ap skey_variable (one_number skey_sort m n one f)
@@ -37,8 +37,8 @@ module _ (number : Variable → ℕ) where
   same_symmetric (ltk_term a b) (ltk_term c d) one e =
       let f : number (variable name_sort a) ≡ number (variable name_sort c) = cc in
       let g : number (variable name_sort b) ≡ number (variable name_sort d) = cc in
-      let p : a ≡ c = ap (λ (x : Variable). x.number) (one (variable name_sort a) (variable name_sort c) here here (ap (λ (k : ℕ). numbered name_sort k) f)) in
-      let q : b ≡ d = ap (λ (x : Variable). x.number) (one (variable name_sort b) (variable name_sort d) (there here) (there here) (ap (λ (k : ℕ). numbered name_sort k) g)) in
+      let p : a ≡ c = ap (λ (x : Variable). x.number) (one (variable name_sort a) (variable name_sort c) here here (ap (λ (k : ℕ). variable_numbered name_sort k) f)) in
+      let q : b ≡ d = ap (λ (x : Variable). x.number) (one (variable name_sort b) (variable name_sort d) (there here) (there here) (ap (λ (k : ℕ). variable_numbered name_sort k) g)) in
       ap₂ ltk_term p q
 
   same_half : (flag flag' : Bool) (j k : PairTerm) → OneToOneOn (variables_of_pair j) (variables_of_pair k)

@@ -22,7 +22,7 @@ use Rattle.cp_report.specs.Misfits.{misfit_unless, unless_misfit}
 use Rattle.cp_report.specs.Spelled.{Scope, term_misfits, sort_in, term_in}
 use Rattle.cp_report.specs.Skeletons.{declared_in_prefix, mapping_misfits, value_mapped, values_mapped, height_misfits, prefix_misfits, strand_misfits, instance_with, strand_of}
 use Rattle.cp_report.specs.FittingTrees.{sort_of_atom}
-use Rattle.cp_report.specs.UpToNames.{renamed, renaming, IsSameStrand}
+use Rattle.cp_report.specs.UpToNames.{renamed, renaming, IsSameStrandUnder}
 use Rattle.cp_report.proofs.SpelledTerms.{StandsFor, sort_of_named, atom_fits, printed_term_fits}
 use Rattle.cp_report.proofs.PrintedVariables.{declared_there}
 use Rattle.cp_report.proofs.ApartIdentifiers.{NamesOwn, apart_identifiers, all_found, apart_in_prefix}
@@ -201,11 +201,11 @@ module _ (roles : List Role) (s : Scope) (named : Variable → Form) (number : V
       ∙ prefix_fits s named number (variables_of_prefix role height) terms stands role.variables found.own found.declared no_place
   strand_fits (listener t) fit stands = ap (λ (ps : List Place). ps ++ []) (printed_term_fits s named number t stands).0
 
-  pub strand_back : (k : SkeletonStrand) → RoleFits roles k → StandIn s named number k → IsSameStrand (renaming number) k (strand_of roles s (strand_form named k))
+  pub strand_back : (k : SkeletonStrand) → RoleFits roles k → StandIn s named number k → IsSameStrandUnder (renaming number) k (strand_of roles s (strand_form named k))
   strand_back (instance role height terms) (found, height_is) stands =
       let maplets = maplets_from named (variables_of_prefix role height) terms 0 role.variables in
       let back : strand_of roles s (strand_form named (instance role height terms)) ≡ instance role height (substitution_by (values_mapped s maplets role.variables))
       = ap (λ (fs : List Form). instance_with s (role_named roles role.name) height fs) (items_back maplets) ∙ ap (λ (o : Option Role). instance_with s o height maplets) found.named in
-      subst (λ (k : SkeletonStrand). IsSameStrand (renaming number) (instance role height terms) k) (sym back)
+      subst (λ (k : SkeletonStrand). IsSameStrandUnder (renaming number) (instance role height terms) k) (sym back)
       (refl, refl, prefix_agrees s named number (variables_of_prefix role height) terms stands role.variables found.own found.declared)
   strand_back (listener t) fit stands = sym (printed_term_fits s named number t stands).1

@@ -21,7 +21,7 @@ use Rattle.cp_language.specs.Report.{node_form, unique_form}
 use Rattle.cp_report.specs.Misfits.{misfit_unless, unless_misfit}
 use Rattle.cp_report.specs.Spelled.{Scope, atom_misfits, atom_in}
 use Rattle.cp_report.specs.Skeletons.{node_misfits, has_uniques, is_instance_there, carries_value, may_be_origin, unique_of, unique_misfits, uniques_misfits}
-use Rattle.cp_report.specs.UpToNames.{renamed, renaming, unique_renamed, IsOneToOne, IsSameStrand}
+use Rattle.cp_report.specs.UpToNames.{renamed, renaming, unique_renamed, IsOneToOne, IsSameStrandUnder}
 use Rattle.cp_report.proofs.SpelledTerms.{StandsFor, printed_atom_fits}
 use Rattle.cp_report.proofs.CoveringPairs.{AreApart, node_fits}
 use Rattle.cp_report.proofs.PrintedAssumptions.{same_renamed, image_new, each_fits, each_read}
@@ -34,7 +34,7 @@ pub record IsOriginIn (strands : List SkeletonStrand) (v : AtomTerm) (n : Node) 
   pub known : is_known (term_event_at strands n) ≡ true
   pub may : may_be_origin strands v n ≡ true
 
-pub origin_renamed : (number : Variable → ℕ) (k : Skeleton) (ls : List SkeletonStrand) → ArePaired (IsSameStrand (renaming number)) k.strands ls → (u : UniqueAt) → IsOrigin k u
+pub origin_renamed : (number : Variable → ℕ) (k : Skeleton) (ls : List SkeletonStrand) → ArePaired (IsSameStrandUnder (renaming number)) k.strands ls → (u : UniqueAt) → IsOrigin k u
     → IsOriginIn ls (apply_to_atom (renaming number) u.value) u.origin
 origin_renamed number k ls p u o = record {
   known = ap is_known event;

@@ -22,7 +22,7 @@ use Rattle.cp_language.proofs.ValidTests.{one_of}
 use Rattle.cp_report.specs.Misfits.{misfit_unless}
 use Rattle.cp_report.specs.Spelled.{Scope, names_sort}
 use Rattle.cp_report.specs.Skeletons.{vars_misfits, declaration_of}
-use Rattle.cp_report.specs.UpToNames.{numbered, renamed, IsOneToOne}
+use Rattle.cp_report.specs.UpToNames.{variable_numbered, renamed, IsOneToOne}
 use Rattle.cp_report.proofs.DistinctNames.{DifferWhereOccurring}
 use Rattle.cp_report.proofs.SpelledTerms.{StandsFor, identifier_stands}
 
@@ -197,7 +197,7 @@ module _ (occurs : List Variable) where
       variables_fit ds enough = variables_fit_behind [] 0 ds (omega arith) (λ t m. elim m [ ])
 
       abbrev FoundAt : ℕ → List Declaration → ℕ → Declaration → Type 0
-      FoundAt n ds j d = variable_from (rank occurs n) (occurring_from n ds) (name_of (n + j)) ≡ Some (numbered d.sort (rank occurs (n + j)))
+      FoundAt n ds j d = variable_from (rank occurs n) (occurring_from n ds) (name_of (n + j)) ≡ Some (variable_numbered d.sort (rank occurs (n + j)))
 
       found : (n : ℕ) (ds : List Declaration) (j : ℕ) (d : Declaration) → n + length ds ≤ length names → item_at ds j ≡ Some d → has_number occurs (n + j) ≡ true → FoundAt n ds j d
       found n [] j d enough at occurring = absurd (cc)
@@ -205,10 +205,10 @@ module _ (occurs : List Variable) where
           let z : n + 0 ≡ n = omega arith in
           let here_it : has_number occurs n ≡ true = subst (λ (k : ℕ). has_number occurs k ≡ true) z occurring in
           let same : c ≡ d = cc in
-          subst (λ (k : ℕ). variable_from (rank occurs n) (occurring_from n (c ∷ ds)) (name_of k) ≡ Some (numbered d.sort (rank occurs k))) (sym z)
+          subst (λ (k : ℕ). variable_from (rank occurs n) (occurring_from n (c ∷ ds)) (name_of k) ≡ Some (variable_numbered d.sort (rank occurs k))) (sym z)
           (ap (λ (b : Bool). variable_from (rank occurs n) (if b then record { identifier = name_of n; sort = c.sort } ∷ occurring_from (suc n) ds else occurring_from (suc n) ds) (name_of n)) here_it
-          ∙ ap (λ (b : Bool). if b then Some (numbered c.sort (rank occurs n)) else variable_from (suc (rank occurs n)) (occurring_from (suc n) ds) (name_of n)) (same_text_itself (name_of n))
-          ∙ ap (λ (x : Declaration). Some (numbered x.sort (rank occurs n))) same)
+          ∙ ap (λ (b : Bool). if b then Some (variable_numbered c.sort (rank occurs n)) else variable_from (suc (rank occurs n)) (occurring_from (suc n) ds) (name_of n)) (same_text_itself (name_of n))
+          ∙ ap (λ (x : Declaration). Some (variable_numbered x.sort (rank occurs n))) same)
       found n (c ∷ ds) (suc j) d enough at occurring = by (has_number occurs n) refl (found (suc n) ds j d (omega arith) at)
         where
           z : suc n + j ≡ n + suc j
@@ -235,13 +235,13 @@ module _ (occurs : List Variable) where
           other e = false_from_ne_true (same_text (name_of n) (name_of (suc n + j))) (λ h.
               let same : n ≡ suc n + j = one_number n (suc n + j) below (there_below not_past) e occurring_there (text_is (name_of n) (name_of (suc n + j)) h) in absurd (omega arith))
 
-          moved : variable_from (rank occurs n) (occurring_from n (c ∷ ds)) (name_of (suc n + j)) ≡ Some (numbered d.sort (rank occurs (suc n + j))) → FoundAt n (c ∷ ds) (suc j) d
-          moved h = subst (λ (k : ℕ). variable_from (rank occurs n) (occurring_from n (c ∷ ds)) (name_of k) ≡ Some (numbered d.sort (rank occurs k))) z h
+          moved : variable_from (rank occurs n) (occurring_from n (c ∷ ds)) (name_of (suc n + j)) ≡ Some (variable_numbered d.sort (rank occurs (suc n + j))) → FoundAt n (c ∷ ds) (suc j) d
+          moved h = subst (λ (k : ℕ). variable_from (rank occurs n) (occurring_from n (c ∷ ds)) (name_of k) ≡ Some (variable_numbered d.sort (rank occurs k))) z h
 
           by : (b : Bool) → has_number occurs n ≡ b → (has_number occurs (suc n + j) ≡ true → FoundAt (suc n) ds j d) → FoundAt n (c ∷ ds) (suc j) d
           by true e rest =
               moved (ap (λ (b : Bool). variable_from (rank occurs n) (if b then record { identifier = name_of n; sort = c.sort } ∷ occurring_from (suc n) ds else occurring_from (suc n) ds) (name_of (suc n + j))) e
-              ∙ ap (λ (b : Bool). if b then Some (numbered c.sort (rank occurs n)) else variable_from (suc (rank occurs n)) (occurring_from (suc n) ds) (name_of (suc n + j))) (other e)
+              ∙ ap (λ (b : Bool). if b then Some (variable_numbered c.sort (rank occurs n)) else variable_from (suc (rank occurs n)) (occurring_from (suc n) ds) (name_of (suc n + j))) (other e)
               ∙ ap (λ (k : ℕ). variable_from k (occurring_from (suc n) ds) (name_of (suc n + j))) (sym (next_rank n e))
               ∙ rest occurring_there)
           by false e rest =
@@ -256,8 +256,8 @@ module _ (occurs : List Variable) where
           let r = declared_there ds x h in
           let z : 0 + x.number ≡ x.number = omega arith in
           let occurring : has_number occurs (0 + x.number) ≡ true = subst (λ (k : ℕ). has_number occurs k ≡ true) (sym z) (number_occurs occurs x m) in
-          subst (λ (k : ℕ). variable_named (occurring_from 0 ds) (name_of k) ≡ Some (numbered r.0.sort (rank occurs k))) z (found 0 ds x.number r.0 (omega arith) r.1 occurring)
-          ∙ ap (λ (s : Sort). Some (numbered s (rank occurs x.number))) r.2
+          subst (λ (k : ℕ). variable_named (occurring_from 0 ds) (name_of k) ≡ Some (variable_numbered r.0.sort (rank occurs k))) z (found 0 ds x.number r.0 (omega arith) r.1 occurring)
+          ∙ ap (λ (s : Sort). Some (variable_numbered s (rank occurs x.number))) r.2
 
       pub name_stands : (s : Scope) (ds : List Declaration) (x : Variable) → s.variables ≡ occurring_from 0 ds → length ds ≤ length names → IsIn x occurs → IsDeclared ds x
           → StandsFor s (named_by names x) (renamed (renumbered occurs) x)

@@ -16,7 +16,7 @@ use Rattle.cp_model.proofs.LawTerms.{atom_composed, term_composed}
 use Rattle.cp_model.proofs.LawAgreement.{agree_atom, agree_event}
 use Rattle.cp_model.proofs.SameTests.{origin_found, variables_there}
 use Rattle.cp_report.specs.Skeletons.{is_instance_there}
-use Rattle.cp_report.specs.UpToNames.{IsSameStrand, unique_renamed}
+use Rattle.cp_report.specs.UpToNames.{IsSameStrandUnder, unique_renamed}
 use Rattle.cp_report.proofs.CoveringSkeletons.{IsSameKind}
 
 module _ (f : Substitution) where
@@ -34,14 +34,14 @@ module _ (f : Substitution) where
       (sym (agree_event (composed terms f) terms' e (λ x m. agree x (in_append_left (variables_of_trace es) m))) ∙ sym (event_then terms e))
       ∙ ap (λ (xs : List (Event Term)). event_map (apply_to f) (event_map (apply_to terms) e) ∷ xs) (trace_under terms terms' es (λ x m. agree x (in_append_right (variables_of (payload e)) m)))
 
-  pub trace_renamed : (a b : SkeletonStrand) → IsSameStrand f a b → skeleton_trace b ≡ map (event_map (apply_to f)) (skeleton_trace a)
+  pub trace_renamed : (a b : SkeletonStrand) → IsSameStrandUnder f a b → skeleton_trace b ≡ map (event_map (apply_to f)) (skeleton_trace a)
   trace_renamed (instance role height terms) (instance role' height' terms') (r, h, agree) =
       sym (λ i. map (event_map (apply_to terms')) (prefix_of (r i) (h i))) ∙ trace_under terms terms' (prefix_of role height) agree
   trace_renamed (listener t) (listener u) e = sym (ap (λ (x : Term). recv x ∷ send x ∷ []) e)
   trace_renamed (instance role height terms) (listener u) e = absurd e
   trace_renamed (listener t) (instance role height terms) e = absurd e
 
-  trace_on : (ks ls : List SkeletonStrand) → ArePaired (IsSameStrand f) ks ls → (s : ℕ) → skeleton_trace_or_none (item_at ls s) ≡ map (event_map (apply_to f)) (skeleton_trace_or_none (item_at ks s))
+  trace_on : (ks ls : List SkeletonStrand) → ArePaired (IsSameStrandUnder f) ks ls → (s : ℕ) → skeleton_trace_or_none (item_at ls s) ≡ map (event_map (apply_to f)) (skeleton_trace_or_none (item_at ks s))
   trace_on [] [] p s = refl
   trace_on (k ∷ ks) (l ∷ ls) p zero = trace_renamed k l p.0
   trace_on (k ∷ ks) (l ∷ ls) p (suc s) = trace_on ks ls p.1 s
@@ -49,7 +49,7 @@ module _ (f : Substitution) where
   trace_on (k ∷ ks) [] p s = absurd p
 
   -- The event at a node is that of the other under the renaming.
-  pub event_renamed : (ks ls : List SkeletonStrand) → ArePaired (IsSameStrand f) ks ls → (n : Node) → term_event_at ls n ≡ option_map (event_map (apply_to f)) (term_event_at ks n)
+  pub event_renamed : (ks ls : List SkeletonStrand) → ArePaired (IsSameStrandUnder f) ks ls → (n : Node) → term_event_at ls n ≡ option_map (event_map (apply_to f)) (term_event_at ks n)
   event_renamed ks ls p n = ap (λ (es : List (Event Term)). item_at es n.index) (trace_on ks ls p n.strand) ∙ mapped_item (event_map (apply_to f)) (skeleton_trace_or_none (item_at ks n.strand)) n.index
 
   kind_kept : (o : Option (Event Term)) → IsSameKind o (option_map (event_map (apply_to f)) o)
@@ -57,16 +57,16 @@ module _ (f : Substitution) where
   kind_kept (Some (send t)) = tt
   kind_kept (Some (recv t)) = tt
 
-  pub same_kinds : (ks ls : List SkeletonStrand) → ArePaired (IsSameStrand f) ks ls → (n : Node) → IsSameKind (term_event_at ks n) (term_event_at ls n)
+  pub same_kinds : (ks ls : List SkeletonStrand) → ArePaired (IsSameStrandUnder f) ks ls → (n : Node) → IsSameKind (term_event_at ks n) (term_event_at ls n)
   same_kinds ks ls p n = subst (λ (o : Option (Event Term)). IsSameKind (term_event_at ks n) o) (sym (event_renamed ks ls p n)) (kind_kept (term_event_at ks n))
 
-  same_there : (a b : SkeletonStrand) → IsSameStrand f a b → is_instance_there (Some b) ≡ is_instance_there (Some a)
+  same_there : (a b : SkeletonStrand) → IsSameStrandUnder f a b → is_instance_there (Some b) ≡ is_instance_there (Some a)
   same_there (instance role height terms) (instance role' height' terms') p = refl
   same_there (listener t) (listener u) p = refl
   same_there (instance role height terms) (listener u) p = absurd p
   same_there (listener t) (instance role height terms) p = absurd p
 
-  pub instance_there : (ks ls : List SkeletonStrand) → ArePaired (IsSameStrand f) ks ls → (s : ℕ) → is_instance_there (item_at ls s) ≡ is_instance_there (item_at ks s)
+  pub instance_there : (ks ls : List SkeletonStrand) → ArePaired (IsSameStrandUnder f) ks ls → (s : ℕ) → is_instance_there (item_at ls s) ≡ is_instance_there (item_at ks s)
   instance_there [] [] p s = refl
   instance_there (k ∷ ks) (l ∷ ls) p zero = same_there k l p.0
   instance_there (k ∷ ks) (l ∷ ls) p (suc s) = instance_there ks ls p.1 s
@@ -137,7 +137,7 @@ module _ (f : Substitution) where
     abbrev Give : List SkeletonStrand → List AtomTerm → Type 0
     Give ks old = (s : ℕ) (role : Role) (height : ℕ) (terms : Substitution) → item_at ks s ≡ Some (instance role height terms) → (v : AtomTerm) → IsIn v (of_role role) → Applies role height v → IsIn (apply_to_atom terms v) old
 
-    values_among : (ks ls : List SkeletonStrand) → ArePaired (IsSameStrand f) ks ls → (old : List AtomTerm) → Give ks old → (w : AtomTerm) → IsIn w (given_by ls) → IsIn w (map (apply_to_atom f) old)
+    values_among : (ks ls : List SkeletonStrand) → ArePaired (IsSameStrandUnder f) ks ls → (old : List AtomTerm) → Give ks old → (w : AtomTerm) → IsIn w (given_by ls) → IsIn w (map (apply_to_atom f) old)
     values_among [] [] p old give w m = elim (subst (λ (vs : List AtomTerm). IsIn w vs) at_end m) [ ]
     values_among (listener t ∷ ks) (listener u ∷ ls) p old give w m = values_among ks ls p.1 old (λ s role height terms e. give (suc s) role height terms e) w (subst (λ (vs : List AtomTerm). IsIn w vs) (of_listener u ls) m)
     values_among (instance role height terms ∷ ks) (instance role' height' terms' ∷ ls) ((r, h, agree), rest) old give w m =
@@ -155,12 +155,12 @@ module _ (f : Substitution) where
     values_among (k ∷ ks) [] p old give w m = absurd p
 
   -- The non-originating values that the renamed strands' roles give are among the renamed ones.
-  pub non_among : (ks ls : List SkeletonStrand) → ArePaired (IsSameStrand f) ks ls → (old : List AtomTerm)
+  pub non_among : (ks ls : List SkeletonStrand) → ArePaired (IsSameStrandUnder f) ks ls → (old : List AtomTerm)
       → ((s : ℕ) (role : Role) (height : ℕ) (terms : Substitution) → item_at ks s ≡ Some (instance role height terms) → (v : AtomTerm) → IsIn v role.non_originating → Applies role height v → IsIn (apply_to_atom terms v) old)
       → (w : AtomTerm) → IsIn w (given_non ls) → IsIn w (map (apply_to_atom f) old)
   non_among = values_among (λ role. role.non_originating) given_non refl (λ t ks. refl) (λ role height terms ks. refl)
 
-  pub penetrator_non_among : (ks ls : List SkeletonStrand) → ArePaired (IsSameStrand f) ks ls → (old : List AtomTerm)
+  pub penetrator_non_among : (ks ls : List SkeletonStrand) → ArePaired (IsSameStrandUnder f) ks ls → (old : List AtomTerm)
       → ((s : ℕ) (role : Role) (height : ℕ) (terms : Substitution) → item_at ks s ≡ Some (instance role height terms) → (v : AtomTerm) → IsIn v role.penetrator_non_originating → Applies role height v → IsIn (apply_to_atom terms v) old)
       → (w : AtomTerm) → IsIn w (given_penetrator_non ls) → IsIn w (map (apply_to_atom f) old)
   penetrator_non_among = values_among (λ role. role.penetrator_non_originating) given_penetrator_non refl (λ t ks. refl) (λ role height terms ks. refl)
@@ -175,7 +175,7 @@ module _ (f : Substitution) where
         let z : n + suc s ≡ suc n + s = omega arith in
         subst (λ (t : ℕ). IsIn (record { value = apply_to_atom terms v; origin = node_at t i }) old) z (give (suc s) role height terms e v i m a)
 
-    unique_from : (n : ℕ) (ks ls : List SkeletonStrand) → ArePaired (IsSameStrand f) ks ls → (old : List UniqueAt) → GiveUniques n ks old → (w : UniqueAt) → IsIn w (given_uniques n ls) → IsIn w (map (unique_renamed f) old)
+    unique_from : (n : ℕ) (ks ls : List SkeletonStrand) → ArePaired (IsSameStrandUnder f) ks ls → (old : List UniqueAt) → GiveUniques n ks old → (w : UniqueAt) → IsIn w (given_uniques n ls) → IsIn w (map (unique_renamed f) old)
     unique_from n [] [] p old give w m = elim m [ ]
     unique_from n (listener t ∷ ks) (listener u ∷ ls) p old give w m = unique_from (suc n) ks ls p.1 old (further n (listener t) ks old give) w m
     unique_from n (instance role height terms ∷ ks) (instance role' height' terms' ∷ ls) ((r, h, agree), rest) old give w m =
@@ -198,7 +198,7 @@ module _ (f : Substitution) where
     unique_from n (k ∷ ks) [] p old give w m = absurd p
 
     -- The unique values that the renamed strands' roles give are among the renamed ones.
-    pub unique_among : (ks ls : List SkeletonStrand) → ArePaired (IsSameStrand f) ks ls → (old : List UniqueAt)
+    pub unique_among : (ks ls : List SkeletonStrand) → ArePaired (IsSameStrandUnder f) ks ls → (old : List UniqueAt)
         → ((s : ℕ) (role : Role) (height : ℕ) (terms : Substitution) → item_at ks s ≡ Some (instance role height terms) →
         (v : AtomTerm) (i : ℕ) → IsIn v role.uniquely_originating → AppliesAt role height v i → IsIn (record { value = apply_to_atom terms v; origin = node_at s i }) old)
         → (w : UniqueAt) → IsIn w (given_uniques 0 ls) → IsIn w (map (unique_renamed f) old)

@@ -18,7 +18,7 @@ use Rattle.cp_language.proofs.NoLocals.{from_but}
 use Rattle.cp_report.specs.FittingTrees.{TreeFits, problems_in}
 use Rattle.cp_report.specs.ReadBack.{report_of}
 use Rattle.cp_report.specs.Laws.{ArePrinted, CanBeStated}
-use Rattle.cp_report.specs.UpToNames.{numbered, renamed, renaming, IsOneToOne, IsSamePattern, IsSameTest, IsSameLabel, IsSameTree, IsSameEntry, IsSameReport}
+use Rattle.cp_report.specs.UpToNames.{variable_numbered, renamed, renaming, IsOneToOne, IsSamePattern, IsSameTest, IsSameLabel, IsSameTree, IsSameEntry, IsSameReport}
 use Rattle.cp_report.proofs.Inverses.{inverse_back, AreCovered, through, back, term_through, variable_through, one_through, images_through}
 use Rattle.cp_report.proofs.SameSkeletons.{both_covered, term_covered, terms_covered, skeleton_covered, skeleton_through}
 use Rattle.cp_report.proofs.LabelRead.{not_among}
@@ -42,7 +42,7 @@ module _ (a b : Variable → ℕ) (p q r : Pattern) (h : IsSamePattern a p r) (g
   plain x m other =
       let c = matched x m in
       let n = no_local x c.from m other c.is in
-      (c.from, c.listed, n, sym (ap (numbered c.from.sort) (g.others c.from c.listed n)) ∙ c.is ∙ ap (numbered x.sort) (h.others x m other))
+      (c.from, c.listed, n, sym (ap (variable_numbered c.from.sort) (g.others c.from c.listed n)) ∙ c.is ∙ ap (variable_numbered x.sort) (h.others x m other))
 
   pub pattern_covered : AreCovered a (variables_but p.locals (variables_of p.term)) b (variables_but q.locals (variables_of q.term))
   pattern_covered x m =
@@ -58,14 +58,14 @@ module _ (a b : Variable → ℕ) (p q r : Pattern) (h : IsSamePattern a p r) (g
       others = others;
       term = term_through h.with_locals g.with_locals (variables_of q.term) g.one_to_one p.term q.term (λ y i. i) (h.term ∙ sym g.term);
       locals = images_through (renamed h.with_locals) (renamed g.with_locals) (renamed (through h.with_locals g.with_locals (variables_of q.term))) (renamed (back h.with_locals g.with_locals (variables_of q.term) g.one_to_one))
-          p.locals q.locals r.locals h.locals g.locals (λ x i. refl) (λ y i. ap (numbered y.sort) (inverse_back g.with_locals (variables_of q.term) g.one_to_one y (own y i)));
+          p.locals q.locals r.locals h.locals g.locals (λ x i. refl) (λ y i. ap (variable_numbered y.sort) (inverse_back g.with_locals (variables_of q.term) g.one_to_one y (own y i)));
     }
       where
         others : (x : Variable) → IsIn x (variables_of p.term) → (IsIn x p.locals → ⊥) → through h.with_locals g.with_locals (variables_of q.term) x ≡ through a b ys x
         others x m other =
             let c = matched x m in
             let n = no_local x c.from m other c.is in
-            let d = sym (ap (numbered c.from.sort) (g.others c.from c.listed n)) ∙ c.is ∙ ap (numbered x.sort) (h.others x m other) in
+            let d = sym (ap (variable_numbered c.from.sort) (g.others c.from c.listed n)) ∙ c.is ∙ ap (variable_numbered x.sort) (h.others x m other) in
             ap (λ (z : Variable). z.number) (variable_through h.with_locals g.with_locals (variables_of q.term) g.one_to_one x c.from c.listed c.is)
             ∙ sym (ap (λ (z : Variable). z.number) (variable_through a b ys one x c.from (within c.from c.listed n) d))
 

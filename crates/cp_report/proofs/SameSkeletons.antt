@@ -12,9 +12,9 @@ use Rattle.cp_model.specs.Stated.{AreImages, HasOwnAssumptions}
 use Rattle.cp_model.specs.declared.node.Node.{Node}
 use Rattle.cp_model.proofs.LawTerms.{atom_composed}
 use Rattle.cp_model.proofs.OccurringVariables.{in_trace_under, atom_with, in_atoms, unique_with, in_uniques}
-use Rattle.cp_skel.proofs.UnderVariables.{of_trace}
+use Rattle.cp_model.proofs.UnderVariables.{of_trace}
 use Rattle.cp_language.specs.Report.{variables_of_terms}
-use Rattle.cp_report.specs.UpToNames.{renamed, renaming, IsOneToOne, IsSameStrand, unique_renamed, AreSameAssumptions, IsSameSkeleton}
+use Rattle.cp_report.specs.UpToNames.{renamed, renaming, IsOneToOne, IsSameStrandUnder, unique_renamed, AreSameAssumptions, IsSameSkeleton}
 use Rattle.cp_report.proofs.RenamedStrands.{trace_renamed}
 use Rattle.cp_report.proofs.Inverses.{renamed_in, is_renamed, ComesFrom, term_onto, term_from, atom_onto, atom_from, AreCovered, through, back, term_returned, atom_returned, term_in_two, atom_in_two, term_through, images_through}
 
@@ -42,7 +42,7 @@ trace_covered a b es ds e x m =
     of_trace (ComesFrom b (variables_of_trace ds)) (renaming b) ds (λ y i z j. record { from = y; listed = i; is = is_renamed b y z j }) (renamed a x)
     (subst (λ (cs : List (Event Term)). IsIn (renamed a x) (variables_of_trace cs)) e (in_trace_under (renaming a) es x (renamed a x) m (renamed_in a x)))
 
-strands_covered : (a b : Variable → ℕ) (ks ms ss : List SkeletonStrand) → ArePaired (IsSameStrand (renaming a)) ks ss → ArePaired (IsSameStrand (renaming b)) ms ss → AreCovered a (variables_of_strands ks) b (variables_of_strands ms)
+strands_covered : (a b : Variable → ℕ) (ks ms ss : List SkeletonStrand) → ArePaired (IsSameStrandUnder (renaming a)) ks ss → ArePaired (IsSameStrandUnder (renaming b)) ms ss → AreCovered a (variables_of_strands ks) b (variables_of_strands ms)
 strands_covered a b [] ms ss h g x m = elim m [ ]
 strands_covered a b (k ∷ ks) ms [] h g x m = absurd h
 strands_covered a b (k ∷ ks) [] (s ∷ ss) h g x m = absurd g
@@ -81,7 +81,7 @@ module _ (a b : Variable → ℕ) (ys : List Variable) (one : IsOneToOne b ys) w
   abbrev f : Substitution
   f = renaming (through a b ys)
 
-  strand_through : (k m s : SkeletonStrand) → IsSameStrand (renaming a) k s → IsSameStrand (renaming b) m s → ((y : Variable) → IsIn y (variables_of_trace (skeleton_trace m)) → IsIn y ys) → IsSameStrand f k m
+  strand_through : (k m s : SkeletonStrand) → IsSameStrandUnder (renaming a) k s → IsSameStrandUnder (renaming b) m s → ((y : Variable) → IsIn y (variables_of_trace (skeleton_trace m)) → IsIn y ys) → IsSameStrandUnder f k m
   strand_through (instance role height terms) (instance role' height' terms') (instance role'' height'' terms'') h g within = (
     h.0 ∙ sym g.0,
     h.1 ∙ sym g.1,
@@ -100,7 +100,7 @@ module _ (a b : Variable → ℕ) (ys : List Variable) (one : IsOneToOne b ys) w
   strand_through (instance role height terms) (listener u) (instance role' height' terms') h g within = absurd g
   strand_through (listener t) (instance role height terms) (listener v) h g within = absurd g
 
-  strands_through : (ks ms ss : List SkeletonStrand) → ArePaired (IsSameStrand (renaming a)) ks ss → ArePaired (IsSameStrand (renaming b)) ms ss → ((y : Variable) → IsIn y (variables_of_strands ms) → IsIn y ys) → ArePaired (IsSameStrand f) ks ms
+  strands_through : (ks ms ss : List SkeletonStrand) → ArePaired (IsSameStrandUnder (renaming a)) ks ss → ArePaired (IsSameStrandUnder (renaming b)) ms ss → ((y : Variable) → IsIn y (variables_of_strands ms) → IsIn y ys) → ArePaired (IsSameStrandUnder f) ks ms
   strands_through [] [] ss h g within = tt
   strands_through [] (m ∷ ms) [] h g within = absurd g
   strands_through [] (m ∷ ms) (s ∷ ss) h g within = absurd h

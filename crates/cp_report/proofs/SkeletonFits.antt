@@ -22,7 +22,7 @@ use Rattle.cp_language.proofs.ValidTests.{is_one}
 use Rattle.cp_report.specs.Misfits.{misfit_unless, unless_misfit, lacking, each_misfits}
 use Rattle.cp_report.specs.Heads.{item_with, optional_misfits, place_or}
 use Rattle.cp_report.specs.Skeletons.{vars_misfits, scope_of, strand_misfits, strands_of_label, pairs_misfits, precedes_misfits, atoms_misfits, has_atoms, has_uniques, assumption_misfits, atoms_under, values_misfits, uniques_misfits, uniques_under, all_uniques_misfits, problem_variables, map_misfits, vars_item_misfits, strands_misfits, around_strands_misfits}
-use Rattle.cp_report.specs.UpToNames.{renaming, unique_renamed, IsSameStrand}
+use Rattle.cp_report.specs.UpToNames.{renaming, unique_renamed, IsSameStrandUnder}
 use Rattle.cp_report.proofs.CoveringSkeletons.{covers_fit}
 use Rattle.cp_report.proofs.DistinctNames.{as_many_names}
 use Rattle.cp_report.proofs.PrintedVariables.{variables_fit, one_to_one}
@@ -51,7 +51,7 @@ assumption_fits at item inside given e g =
     ap (λ (ps : List Place). unless_misfit ps (misfit_unless given (place_or at item))) e ∙ ap (λ (b : Bool). misfit_unless b (place_or at item)) g
 
 -- As many strands.
-pub paired_length : (f : Substitution) (ks ls : List SkeletonStrand) → ArePaired (IsSameStrand f) ks ls → length ks ≡ length ls
+pub paired_length : (f : Substitution) (ks ls : List SkeletonStrand) → ArePaired (IsSameStrandUnder f) ks ls → length ks ≡ length ls
 paired_length f [] [] q = refl
 paired_length f (a ∷ ks) (b ∷ ls) q = ap suc (paired_length f ks ls q.1)
 paired_length f [] (b ∷ ls) q = absurd q

@@ -18,7 +18,7 @@ use Rattle.cp_language.specs.Problems.{Problem}
 use Rattle.cp_report.specs.Misfits.{each_misfits}
 use Rattle.cp_report.specs.Spelled.{Scope}
 use Rattle.cp_report.specs.Skeletons.{strand_misfits, strand_of}
-use Rattle.cp_report.specs.UpToNames.{renamed, renaming, IsSameStrand}
+use Rattle.cp_report.specs.UpToNames.{renamed, renaming, IsSameStrandUnder}
 use Rattle.cp_report.proofs.SpelledTerms.{StandsFor}
 use Rattle.cp_report.proofs.DistinctNames.{AreDifferent, DifferWhereOccurring, names_different}
 use Rattle.cp_report.proofs.PrintedVariables.{renumbered, occurring_from, name_stands}
@@ -100,7 +100,7 @@ module _ (under : IsUnder) (roles : List Role) (s : Scope) (named : Variable →
 
   -- and are read back as the same.
   pub all_strands_back : (ks : List SkeletonStrand) → AreFoundRoles ks → ((x : Variable) → IsIn x (variables_of_strands ks) → StandsFor s (named x) (renamed number x))
-      → ArePaired (IsSameStrand (renaming number)) ks (map (strand_of roles s) (map (strand_form named) ks))
+      → ArePaired (IsSameStrandUnder (renaming number)) ks (map (strand_of roles s) (map (strand_form named) ks))
   all_strands_back [] found h = tt
   all_strands_back (k ∷ ks) found h = (
     strand_back roles s named number k (role_fits k ks found) (stand_in k (λ x m. h x (in_append_left (variables_of_strands ks) m))),

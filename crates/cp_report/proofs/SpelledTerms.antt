@@ -11,14 +11,14 @@ use Rattle.cp_model.specs.Strand.{Declaration}
 use Rattle.cp_model.specs.Same.{same_sort}
 use Rattle.cp_sexpr.specs.Syntax.{Form, symbol, string, list, Forms, none, more, append}
 use Rattle.cp_language.specs.Problems.{is_known}
-use Rattle.cp_language.specs.Terms.{variable_named, sort_of_variable, of_atoms, is_sort, is_atom, as_atom, key_of_name, paired, as_key, as_name, key_as_term, term_of_variable, all_but_last, last_of}
+use Rattle.cp_language.specs.Terms.{variable_named, sort_of_variable, of_atoms, is_sort, admits_atom, as_atom, key_of_name, paired, as_key, as_name, key_as_term, term_of_variable, all_but_last, last_of}
 use Rattle.cp_language.specs.Roles.{front_of, last_form}
 use Rattle.cp_language.specs.Faults.{place_of, items_of}
 use Rattle.cp_language.specs.Names.{sort_text}
 use Rattle.cp_language.specs.Printed.{word, numeral, headed_list, no_place, variable, symmetric_form, asymmetric_form, key_form, atom_form, gathered, spine, term_form}
 use Rattle.cp_report.specs.Misfits.{misfit_unless, lacking, all_misfits}
 use Rattle.cp_report.specs.Heads.{has_head}
-use Rattle.cp_report.specs.Spelled.{Local, Scope, place_of_local, value_misfits, atom_misfits, atom_in, term_misfits, each_term_misfits, variable_misfits, name_misfits, spread_misfits, key_misfits, last_key_misfits, is_of_sort, known_or, sort_in, term_in, terms_in}
+use Rattle.cp_report.specs.Spelled.{Local, Scope, place_of_local, value_misfits, atom_misfits, atom_in, term_misfits, each_term_misfits, variable_misfits, name_misfits, spread_misfits, key_misfits, last_key_misfits, is_found_of_sort, known_or, sort_in, term_in, terms_in}
 use Rattle.cp_report.specs.FittingTrees.{sort_of_atom}
 use Rattle.cp_report.specs.UpToNames.{renamed, renaming}
 
@@ -267,7 +267,7 @@ module _ (s : Scope) (named : Variable → Form) (number : Variable → ℕ) whe
   pub printed_atom_fits : (v : AtomTerm) → Stands (variables_of_atom v) → (atom_misfits s (atom_form named v) ≡ []) × (atom_in s (atom_form named v) ≡ apply_to_atom (renaming number) v)
   printed_atom_fits v h =
       let a = atom_fits v h in
-      (none_and _ _ (ap (λ o. misfit_unless (is_atom o) (place_of (atom_form named v))) a.sort) a.fits, ap as_atom a.term)
+      (none_and _ _ (ap (λ o. misfit_unless (admits_atom o) (place_of (atom_form named v))) a.sort) a.fits, ap as_atom a.term)
 
   pub printed_value_fits : (v : AtomTerm) (x : Variable) → Stands (variables_of_atom v) → sort_of_atom (apply_to_atom (renaming number) v) ≡ x.sort → value_misfits s (Some x) (atom_form named v) ≡ []
   printed_value_fits v x h e =
@@ -282,7 +282,7 @@ pub identifier_stands : (s : Scope) (at : Place) (t : List ℕ) (y : Variable) �
 identifier_stands s at t y e = record {
   fits = ap (λ o. misfit_unless (is_known o) at) e;
   term = ap term_of_variable e;
-  as_variable = ap (λ o. misfit_unless (is_of_sort y.sort o) at) e ∙ ap (λ b. misfit_unless b at) (same_sort_itself y.sort);
+  as_variable = ap (λ o. misfit_unless (is_found_of_sort y.sort o) at) e ∙ ap (λ b. misfit_unless b at) (same_sort_itself y.sort);
   sort = ap (λ o. known_or (sort_of_variable o) None) e;
   no_cat = refl;
   name = λ p. refl;

@@ -3,11 +3,11 @@ use Rattle.std.specs.Prelude.{ℕ, zero, suc, ◌+◌, List, [], ◌∷◌, leng
 use Rattle.cp_base.specs.declared.place.Place.{Place}
 use Rattle.cp_sexpr.specs.Syntax.{Form, symbol, string, number, list, Forms, none, more, forms_of}
 use Rattle.cp_language.proofs.FirstFault.{p, first_by}
-use Rattle.cp_report.specs.Misfits.{stands_before}
+use Rattle.cp_report.specs.Misfits.{place_before}
 
 -- The first of some places.
 abbrev pub first : List Place → Option Place
-first ps = first_by stands_before ps
+first ps = first_by place_before ps
 
 -- ---- forms on one line
 

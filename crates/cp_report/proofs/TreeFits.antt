@@ -11,10 +11,10 @@ use Rattle.cp_model.specs.Tree.{by_problem, by_collapse, by_contraction, by_disp
 use Rattle.cp_sexpr.specs.Syntax.{Form}
 use Rattle.cp_language.specs.Names.{problem_names}
 use Rattle.cp_language.specs.Printed.{word, numeral, headed_list, no_place}
-use Rattle.cp_language.specs.Report.{label_form, labels_from, outcome_words, is_shape, shape_count, status_form, tree_forms}
+use Rattle.cp_language.specs.Report.{label_form, labels_from, outcome_words, one_if_shape, shape_count, status_form, tree_forms}
 use Rattle.cp_language.specs.Problems.{Problem}
 use Rattle.cp_report.specs.Misfits.{misfit_unless}
-use Rattle.cp_report.specs.Heads.{entries_of}
+use Rattle.cp_report.specs.Heads.{forms_after_head}
 use Rattle.cp_report.specs.Labels.{is_among, is_number, has_child, has_parent, label_misfits, label_of}
 use Rattle.cp_report.specs.ReadBack.{status_misfits, outcome_of, if_whole, ending_misfits, labels_in_front, behind_labels, labels_misfits, tree_misfits, tree_of}
 use Rattle.cp_report.specs.FittingTrees.{HasChild, IsParentOf, HasMarkOrChildren, FitsIn, TreeFits}
@@ -124,7 +124,7 @@ shapes_counted (l ∷ ls) = by l.mark (shapes_counted ls)
     one_more : length (shapes_of ls) ≡ shape_count ls → suc (length (shapes_of ls)) ≡ 1 + shape_count ls
     one_more e = omega (arith, e)
 
-    by : (o : Option Mark) → length (shapes_of ls) ≡ shape_count ls → length (if_shape o l.skeleton (shapes_of ls)) ≡ is_shape o + shape_count ls
+    by : (o : Option Mark) → length (shapes_of ls) ≡ shape_count ls → length (if_shape o l.skeleton (shapes_of ls)) ≡ one_if_shape o + shape_count ls
     by None e = none_more e
     by (Some shape) e = one_more e
     by (Some dead) e = none_more e
@@ -137,7 +137,7 @@ shapes_same : (ls ms : List Label) → ArePaired IsSameLabel ls ms → shape_cou
 shapes_same [] [] h = refl
 shapes_same [] (m ∷ ms) h = absurd h
 shapes_same (l ∷ ls) [] h = absurd h
-shapes_same (l ∷ ls) (m ∷ ms) h = let a = ap is_shape h.0.mark in let b = shapes_same ls ms h.1 in λ i. a i + b i
+shapes_same (l ∷ ls) (m ∷ ms) h = let a = ap one_if_shape h.0.mark in let b = shapes_same ls ms h.1 in λ i. a i + b i
 
 -- ---- the status form
 
@@ -213,9 +213,9 @@ module _ (under : IsUnder) (whole : AppliesWhole) (p : Problem) (t : Tree) (fit 
     where
       outcome_in : List Form → Outcome
       outcome_in [] = complete
-      outcome_in (f ∷ fs) = outcome_of (entries_of f)
+      outcome_in (f ∷ fs) = outcome_of (forms_after_head f)
 
-      by : (o : Outcome) → outcome_of (entries_of (status_of o (length t.labels) (expanded_count t.labels) (shape_count t.labels))) ≡ o
+      by : (o : Outcome) → outcome_of (forms_after_head (status_of o (length t.labels) (expanded_count t.labels) (shape_count t.labels))) ≡ o
       by complete = refl
       by at_step_limit = refl
       by at_strand_limit = refl

@@ -34,13 +34,13 @@ pub record MapsAll (p : Problem) (k : Skeleton) : Type 0 where
 -- ---- operation, parent and children
 
 -- One entry for each of so many strands: at most its place, and a strand that names itself.
-pub record IsPartition (strands : ℕ) (ps : List ℕ) : Type 0 where
+pub record IsPartitionOf (strands : ℕ) (ps : List ℕ) : Type 0 where
   pub each : length ps ≡ strands
   pub lowest : (i n : ℕ) → item_at ps i ≡ Some n → (n ≤ i) × (item_at ps n ≡ Some n)
 
 abbrev pub IsOperationOn : Problem → Skeleton → Operation → Type 0
 IsOperationOn p k by_problem = Unit {0}
-IsOperationOn p k (by_collapse ps) = IsPartition (length p.skeleton.strands) ps
+IsOperationOn p k (by_collapse ps) = IsPartitionOf (length p.skeleton.strands) ps
 IsOperationOn p k (by_contraction n) = IsNodeOf k.strands n
 IsOperationOn p k (by_displacement n) = IsNodeOf k.strands n
 IsOperationOn p k (by_added_strand s) = s < length k.strands

@@ -19,8 +19,8 @@ abbrev pub has_head : List (List ℕ) → Form → Bool
 has_head heads f = is_headed_by heads (headed f)
 
 -- What stands behind the head of a list.
-abbrev pub entries_of : Form → List Form
-entries_of f = items_behind (headed f)
+abbrev pub forms_after_head : Form → List Form
+forms_after_head f = items_behind (headed f)
 
 -- The first of the forms with one of these heads, wherever it stands.
 abbrev pub item_with : List (List ℕ) → List Form → Option Form
@@ -34,7 +34,7 @@ items_with heads (f ∷ fs) = if has_head heads f then f ∷ items_with heads fs
 
 abbrev pub entries_or_none : Option Form → List Form
 entries_or_none None = []
-entries_or_none (Some f) = entries_of f
+entries_or_none (Some f) = forms_after_head f
 
 -- The entries of the first of the items with this head; none where it is not there.
 abbrev pub entries_under : List ℕ → List Form → List Form
@@ -43,7 +43,7 @@ entries_under head items = entries_or_none (item_with (head ∷ []) items)
 -- What is asked of an item that may be left out.
 abbrev pub optional_misfits : (Place → List Form → List Place) → Option Form → List Place
 optional_misfits inside None = []
-optional_misfits inside (Some f) = inside (place_of f) (entries_of f)
+optional_misfits inside (Some f) = inside (place_of f) (forms_after_head f)
 
 -- The place of an item, or where it is not there that of the label form.
 abbrev pub place_or : Place → Option Form → Place

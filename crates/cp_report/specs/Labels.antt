@@ -13,7 +13,7 @@ use Rattle.cp_language.specs.Faults.{place_of}
 use Rattle.cp_language.specs.Roles.{Headed, headed, text_of_symbol}
 use Rattle.cp_language.specs.Problems.{is_known, first_form, second_form, number_of, name_in_front, option_node, Problem}
 use Rattle.cp_report.specs.Misfits.{misfit, misfit_unless, unless_misfit, where_fitting, first_or, lacking, each_misfits, entries_misfits, number_misfits, symbol_misfits, any_number_misfits}
-use Rattle.cp_report.specs.Heads.{entries_of, item_with, entries_under, optional_misfits, mark_heads, up_to_strands, lines_of_label, order_misfits}
+use Rattle.cp_report.specs.Heads.{forms_after_head, item_with, entries_under, optional_misfits, mark_heads, up_to_strands, lines_of_label, order_misfits}
 use Rattle.cp_report.specs.Spelled.{Scope, term_misfits, pattern_misfits, pattern_of}
 use Rattle.cp_report.specs.Skeletons.{declarations_of_label, scope_of, term_or_tag, node_misfits, node_or_first, strands_of_label, strand_number_misfits, vars_item_misfits, strands_misfits, around_strands_misfits, skeleton_stated}
 
@@ -52,7 +52,7 @@ behind_number (f ∷ fs) = fs
 
 -- The items of a label form stand behind its number.
 abbrev pub items_of_label : Form → List Form
-items_of_label f = behind_number (entries_of f)
+items_of_label f = behind_number (forms_after_head f)
 
 -- The parent that a label form states.
 abbrev pub stated_parent : Form → Option ℕ
@@ -133,14 +133,14 @@ abbrev pub block_misfits : List ℕ → ℕ → Form → List Place
 block_misfits ns i f = number_misfits (λ n. nat_le n i && is_number n (item_at ns n)) f
 
 -- The entries of a partition, one for each strand of the problem, the first of them number i.
-abbrev pub blocks : List ℕ → ℕ → List SkeletonStrand → List (Form → List Place)
-blocks ns i [] = []
-blocks ns i (k ∷ ks) = block_misfits ns i ∷ blocks ns (suc i) ks
+abbrev pub block_checks : List ℕ → ℕ → List SkeletonStrand → List (Form → List Place)
+block_checks ns i [] = []
+block_checks ns i (k ∷ ks) = block_misfits ns i ∷ block_checks ns (suc i) ks
 
 -- The kinds of the entries behind the word.
 abbrev pub operation_kinds : Problem → OperationWord → List Form → List (Form → List Place)
 operation_kinds p problem_word fs = []
-operation_kinds p collapsed_word fs = blocks (map number_of fs) 0 p.skeleton.strands
+operation_kinds p collapsed_word fs = block_checks (map number_of fs) 0 p.skeleton.strands
 operation_kinds p contracted_word fs = any_number_misfits ∷ any_number_misfits ∷ []
 operation_kinds p displaced_word fs = any_number_misfits ∷ any_number_misfits ∷ []
 operation_kinds p added_strand_word fs = any_number_misfits ∷ []
@@ -206,7 +206,7 @@ escape_misfits items at fs =
 -- The test that an item states, if it is there.
 abbrev pub test_of : Scope → Option Form → Option Test
 test_of s None = None
-test_of s (Some f) = Some (record { node = node_or_first (option_node (first_form (entries_of f))); critical = term_or_tag s (second_form (entries_of f)) })
+test_of s (Some f) = Some (record { node = node_or_first (option_node (first_form (forms_after_head f))); critical = term_or_tag s (second_form (forms_after_head f)) })
 
 -- The kinds of the entries behind the head of a mark.
 abbrev pub mark_kinds : Option (List Form) → List ℕ → List (Form → List Place)
@@ -215,8 +215,8 @@ mark_kinds tree head =
     if same_text head (codes "limit") then symbol_misfits (λ t. is_one_of t (codes "steps" ∷ codes "strands" ∷ [])) ∷ [] else []
 
 -- The mark that a head and what stands behind it name.
-abbrev pub mark_by : List ℕ → List Form → Mark
-mark_by head fs =
+abbrev pub mark_named : List ℕ → List Form → Mark
+mark_named head fs =
     if same_text head (codes "shape") then shape else
     if same_text head (codes "dead") then dead else
     if same_text head (codes "seen") then seen (number_stated fs) else
@@ -225,7 +225,7 @@ mark_by head fs =
 
 abbrev pub mark_of : Option Headed → Option Mark
 mark_of None = None
-mark_of (Some h) = Some (mark_by h.head h.items)
+mark_of (Some h) = Some (mark_named h.head h.items)
 
 abbrev pub mark_in : List Form → Option Mark
 mark_in items = mark_from (item_with mark_heads items)
@@ -299,7 +299,7 @@ numbered_misfits p tree i at [] = misfit at
 numbered_misfits p tree i at (f ∷ fs) = number_misfits (λ n. n == i) f ++ items_misfits p tree i at (behind_number (f ∷ fs))
 
 abbrev pub label_misfits : Problem → Option (List Form) → ℕ → Form → List Place
-label_misfits p tree i f = numbered_misfits p tree i (place_of f) (entries_of f)
+label_misfits p tree i f = numbered_misfits p tree i (place_of f) (forms_after_head f)
 
 -- The label that items denote, where they fit.
 abbrev pub label_by : Problem → List Form → Label

@@ -76,10 +76,10 @@ any_number_misfits f = number_misfits (λ n. true) f
 -- ---- the first
 
 -- p comes before q: by line, then by column.
-abbrev pub stands_before : Place → Place → Bool
-stands_before p q = nat_lt p.line q.line || ((p.line == q.line) && nat_lt p.col q.col)
+abbrev pub place_before : Place → Place → Bool
+place_before p q = nat_lt p.line q.line || ((p.line == q.line) && nat_lt p.col q.col)
 
 -- The first of the misfits: one of them, and none stands before it.
 pub record IsFirstMisfit (places : List Place) (p : Place) : Type 0 where
   pub listed : IsIn p places
-  pub first : (q : Place) → IsIn q places → stands_before q p ≡ false
+  pub first : (q : Place) → IsIn q places → place_before q p ≡ false

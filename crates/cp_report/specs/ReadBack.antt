@@ -12,7 +12,7 @@ use Rattle.cp_language.specs.Roles.{headed, text_of_symbol}
 use Rattle.cp_language.specs.Problems.{name_in_front, Problem}
 use Rattle.cp_language.specs.Input.{stated_problem, protocols_behind, faults_of, Entry, input_of}
 use Rattle.cp_report.specs.Misfits.{misfit, unless_misfit, entries_misfits, number_misfits, symbol_misfits, IsFirstMisfit}
-use Rattle.cp_report.specs.Heads.{entries_of, is_of_tree, is_label}
+use Rattle.cp_report.specs.Heads.{forms_after_head, is_of_tree, is_label}
 use Rattle.cp_report.specs.Labels.{label_misfits, label_of}
 
 -- ---- status forms
@@ -41,7 +41,7 @@ status_entries_misfits labels at (f ∷ fs) =
     unless_misfit (symbol_misfits (λ t. is_one_of t (codes "complete" ∷ codes "limit" ∷ [])) f) (entries_misfits (behind_outcome (text_of_symbol f) (counts labels)) at fs)
 
 abbrev pub status_misfits : List Label → Form → List Place
-status_misfits labels f = status_entries_misfits labels (place_of f) (entries_of f)
+status_misfits labels f = status_entries_misfits labels (place_of f) (forms_after_head f)
 
 abbrev pub outcome_of : List Form → Outcome
 outcome_of [] = complete
@@ -141,7 +141,7 @@ tree_of p behind = record { labels = map (label_of p) (labels_in_front behind); 
   where
     outcome_in : List Form → Outcome
     outcome_in [] = complete
-    outcome_in (f ∷ fs) = outcome_of (entries_of f)
+    outcome_in (f ∷ fs) = outcome_of (forms_after_head f)
 
 abbrev pub tree_onto : Option Problem → List Form → List Tree → List Tree
 tree_onto None behind trees = trees

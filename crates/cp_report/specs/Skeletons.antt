@@ -18,10 +18,10 @@ use Rattle.cp_language.specs.Words.{is_one_of}
 use Rattle.cp_language.specs.Faults.{place_of}
 use Rattle.cp_language.specs.Terms.{variable_named, as_atom}
 use Rattle.cp_language.specs.Roles.{text_of_symbol, sort_named, sort_or_text, list_items}
-use Rattle.cp_language.specs.Problems.{role_named, is_known, first_form, second_form, number_of, name_in_front, node_of, option_node, on_one_strand, is_transmission, is_reception, pair_of_nodes, pair_of, pairs_in, Problem, reaches}
+use Rattle.cp_language.specs.Problems.{role_named, is_known, first_form, second_form, number_of, name_in_front, node_of, option_node, on_one_strand, is_some_transmission, is_some_reception, pair_of_nodes, pair_of, pairs_in, Problem, reaches_within}
 use Rattle.cp_language.specs.Names.{problem_names}
 use Rattle.cp_report.specs.Misfits.{misfit, misfit_unless, unless_misfit, lacking, each_misfits, entries_misfits, list_misfits, number_misfits, symbol_misfits, any_number_misfits}
-use Rattle.cp_report.specs.Heads.{has_head, entries_of, item_with, items_with, entries_under, optional_misfits, place_or, strand_heads}
+use Rattle.cp_report.specs.Heads.{has_head, forms_after_head, item_with, items_with, entries_under, optional_misfits, place_or, strand_heads}
 use Rattle.cp_report.specs.Spelled.{Scope, plain_scope, names_sort, term_misfits, value_misfits, atom_misfits, term_in, atom_in}
 
 -- ---- variables
@@ -104,12 +104,12 @@ instance_misfits roles s at (name ∷ height ∷ maplets) =
     (prefix_misfits s (role_named roles (text_of_symbol name)) (number_of height) at maplets)
 instance_misfits roles s at _ = misfit at
 
-abbrev pub is_instance : Form → Bool
-is_instance f = has_head (codes "defstrand" ∷ []) f
+abbrev pub states_instance : Form → Bool
+states_instance f = has_head (codes "defstrand" ∷ []) f
 
 -- An instance, or a listener to one term.
 abbrev pub strand_misfits : List Role → Scope → Form → List Place
-strand_misfits roles s f = if is_instance f then instance_misfits roles s (place_of f) (entries_of f) else entries_misfits (term_misfits s ∷ []) (place_of f) (entries_of f)
+strand_misfits roles s f = if states_instance f then instance_misfits roles s (place_of f) (forms_after_head f) else entries_misfits (term_misfits s ∷ []) (place_of f) (forms_after_head f)
 
 abbrev pub instance_with : Scope → Option Role → ℕ → List Form → SkeletonStrand
 instance_with s None height maplets = listener (tag_term [])
@@ -120,7 +120,7 @@ instance_of_entries roles s (name ∷ height ∷ maplets) = instance_with s (rol
 instance_of_entries roles s _ = listener (tag_term [])
 
 abbrev pub strand_of : List Role → Scope → Form → SkeletonStrand
-strand_of roles s f = if is_instance f then instance_of_entries roles s (entries_of f) else listener (term_or_tag s (first_form (entries_of f)))
+strand_of roles s f = if states_instance f then instance_of_entries roles s (forms_after_head f) else listener (term_or_tag s (first_form (forms_after_head f)))
 
 -- The strands of a label form in order.
 abbrev pub strands_of_label : Problem → List Form → List SkeletonStrand
@@ -145,8 +145,8 @@ has_pair (q ∷ qs) p = (same_node q.earlier p.earlier && same_node q.later p.la
 abbrev pub is_further_pair : List SkeletonStrand → List OrderPair → Option OrderPair → Bool
 is_further_pair strands before None = true
 is_further_pair strands before (Some p) =
-    is_transmission (term_event_at strands p.earlier) && is_reception (term_event_at strands p.later) && not (on_one_strand p)
-    && not (has_pair before p) && not (reaches (length before) before p.later p.earlier)
+    is_some_transmission (term_event_at strands p.earlier) && is_some_reception (term_event_at strands p.later) && not (on_one_strand p)
+    && not (has_pair before p) && not (reaches_within (length before) before p.later p.earlier)
 
 abbrev pub pair_stated : Form → Option OrderPair
 pair_stated f = pair_of_nodes (option_node (first_form (list_items f))) (option_node (second_form (list_items f)))
@@ -274,7 +274,7 @@ images_among listed f own = record {
 
 -- The pair is between two strands, and the order that these pairs generate has it.
 abbrev pub is_in_order : List SkeletonStrand → List OrderPair → OrderPair → Bool
-is_in_order strands pairs p = not (on_one_strand p) && is_known (term_event_at strands p.later) && reaches (length pairs) pairs p.earlier p.later
+is_in_order strands pairs p = not (on_one_strand p) && is_known (term_event_at strands p.later) && reaches_within (length pairs) pairs p.earlier p.later
 
 -- The way from the problem: strands and terms as the map states them; and of what the problem states itself the images
 -- that the label has, in its assumptions and between different strands in its order.
@@ -290,8 +290,8 @@ from_problem_by p strands pairs listed to_strands values =
 abbrev pub pairs_under : List Form → List OrderPair
 pairs_under items = pairs_in (entries_under (codes "precedes") items)
 
-abbrev pub assumptions_under : List Form → Assumptions
-assumptions_under items = record {
+abbrev pub assumptions_stated : List Form → Assumptions
+assumptions_stated items = record {
   non_originating = atoms_under (codes "non-orig") items;
   penetrator_non_originating = atoms_under (codes "pen-non-orig") items;
   uniquely_originating = uniques_under items;
@@ -300,7 +300,7 @@ assumptions_under items = record {
 abbrev pub from_problem_of : Problem → List Form → FromProblem
 from_problem_of p items =
     let way = entries_under (codes "map") items in
-    from_problem_by p (strands_of_label p items) (pairs_under items) (assumptions_under items) (strands_mapped way) (values_of_map p (scope_of items) way)
+    from_problem_by p (strands_of_label p items) (pairs_under items) (assumptions_stated items) (strands_mapped way) (values_of_map p (scope_of items) way)
 
 -- ---- all of them
 
@@ -327,6 +327,6 @@ abbrev pub skeleton_stated : Problem → List Form → Skeleton
 skeleton_stated p items = record {
   strands = strands_of_label p items;
   pairs = pairs_under items;
-  assumptions = assumptions_under items;
+  assumptions = assumptions_stated items;
   from_problem = from_problem_of p items;
 }

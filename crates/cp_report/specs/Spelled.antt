@@ -8,11 +8,11 @@ use Rattle.cp_model.specs.Same.{same_text, same_sort}
 use Rattle.cp_sexpr.specs.Syntax.{Form, symbol, string, number, list, Forms, none, more}
 use Rattle.cp_language.specs.Words.{SortWord, of_sort, sort_word, TermHead, cat, encrypt, long_term_key, public_key, private_key, inverse_key, operation_out_of_profile, no_operation, term_head}
 use Rattle.cp_language.specs.Faults.{place_of, items_of}
-use Rattle.cp_language.specs.Terms.{variable_named, TermSort, of_atoms, of_all, sort_of_variable, is_sort, is_atom, term_of_variable, as_atom, applied}
+use Rattle.cp_language.specs.Terms.{variable_named, TermSort, of_atoms, of_all, sort_of_variable, is_sort, admits_atom, term_of_variable, as_atom, applied}
 use Rattle.cp_language.specs.Roles.{front_of, last_form}
 use Rattle.cp_language.specs.Problems.{is_known}
 use Rattle.cp_report.specs.Misfits.{misfit, misfit_unless, unless_misfit, lacking, all_misfits, entries_misfits, symbol_misfits, any_number_misfits}
-use Rattle.cp_report.specs.Heads.{has_head, entries_of}
+use Rattle.cp_report.specs.Heads.{has_head, forms_after_head}
 
 -- ---- variables and locals
 
@@ -52,7 +52,7 @@ is_any f = has_head (codes "any" ∷ []) f
 
 -- The local that a form states, if it states one.
 abbrev pub local_of : Form → Option Local
-local_of f = if is_any f then local_by (entries_of f) else None
+local_of f = if is_any f then local_by (forms_after_head f) else None
 
 -- At which place of the list this number stands first.
 abbrev pub place_of_local : List Local → ℕ → ℕ
@@ -71,7 +71,7 @@ is_local s f = is_any f && s.in_pattern
 -- The variable that a form stands for: an identifier that is declared, or in a pattern a local.
 abbrev pub variable_in : Scope → Form → Option Variable
 variable_in s (symbol at t) = variable_named s.variables t
-variable_in s f = if is_local s f then variable_of_local s (local_by (entries_of f)) else None
+variable_in s f = if is_local s f then variable_of_local s (local_by (forms_after_head f)) else None
 
 -- ---- sorts
 
@@ -110,14 +110,14 @@ key_misfits s f = misfit_unless (is_sort skey_sort (sort_in s f) || is_sort akey
 abbrev pub local_misfits : Place → List Form → List Place
 local_misfits at fs = entries_misfits (symbol_misfits names_sort ∷ any_number_misfits ∷ []) at fs
 
-abbrev pub is_of_sort : Sort → Option Variable → Bool
-is_of_sort r None = false
-is_of_sort r (Some x) = same_sort r x.sort
+abbrev pub is_found_of_sort : Sort → Option Variable → Bool
+is_found_of_sort r None = false
+is_found_of_sort r (Some x) = same_sort r x.sort
 
 -- A variable of this sort has to stand here.
 abbrev pub variable_misfits : Scope → Sort → Form → List Place
 variable_misfits s r f =
-    unless_misfit (if is_local s f then local_misfits (place_of f) (entries_of f) else []) (misfit_unless (is_of_sort r (variable_in s f)) (place_of f))
+    unless_misfit (if is_local s f then local_misfits (place_of f) (forms_after_head f) else []) (misfit_unless (is_found_of_sort r (variable_in s f)) (place_of f))
 
 -- Variables of these sorts have to stand behind the head.
 abbrev pub variables_misfits : Scope → List Sort → Place → List Form → List Place
@@ -174,7 +174,7 @@ value_misfits s (Some x) f = sort_misfits s x.sort f ++ term_misfits s f
 
 -- A term of the sort of an atom.
 abbrev pub atom_misfits : Scope → Form → List Place
-atom_misfits s f = misfit_unless (is_atom (sort_in s f)) (place_of f) ++ term_misfits s f
+atom_misfits s f = misfit_unless (admits_atom (sort_in s f)) (place_of f) ++ term_misfits s f
 
 -- ---- what terms stand for, where they fit
 

@@ -16,21 +16,21 @@ use Rattle.cp_report.specs.ReadBack.{misfits, Report, report_of}
 
 -- ---- renamings
 
-abbrev pub numbered : Sort → ℕ → Variable
-numbered s n = record { sort = s; number = n }
+abbrev pub variable_numbered : Sort → ℕ → Variable
+variable_numbered s n = record { sort = s; number = n }
 
 -- A renaming gives each variable the number of one of its sort.
 abbrev pub renamed : (Variable → ℕ) → Variable → Variable
-renamed number x = numbered x.sort (number x)
+renamed number x = variable_numbered x.sort (number x)
 
 -- The renaming as a substitution.
 abbrev pub renaming : (Variable → ℕ) → Substitution
 renaming number = record {
-  texts = λ n. number (numbered text_sort n);
-  datums = λ n. number (numbered datum_sort n);
-  names = λ n. number (numbered name_sort n);
-  skeys = λ n. skey_variable (number (numbered skey_sort n));
-  akeys = λ n. (false, akey_variable (number (numbered akey_sort n)));
+  texts = λ n. number (variable_numbered text_sort n);
+  datums = λ n. number (variable_numbered datum_sort n);
+  names = λ n. number (variable_numbered name_sort n);
+  skeys = λ n. skey_variable (number (variable_numbered skey_sort n));
+  akeys = λ n. (false, akey_variable (number (variable_numbered akey_sort n)));
 }
 
 -- Different ones of these variables stay different.
@@ -40,11 +40,11 @@ IsOneToOne number xs = (x y : Variable) → IsIn x xs → IsIn y xs → renamed 
 -- ---- skeletons
 
 -- Instances of one role at one height, with the same terms for the variables of the prefix; or listeners to one term.
-abbrev pub IsSameStrand : Substitution → SkeletonStrand → SkeletonStrand → Type 0
-IsSameStrand f (instance role height terms) (instance role' height' terms') = (role ≡ role') × (height ≡ height') × AgreeOnTerms (variables_of_prefix role height) (composed terms f) terms'
-IsSameStrand f (listener t) (listener t') = apply_to f t ≡ t'
-IsSameStrand f (instance role height terms) (listener t') = ⊥
-IsSameStrand f (listener t) (instance role' height' terms') = ⊥
+abbrev pub IsSameStrandUnder : Substitution → SkeletonStrand → SkeletonStrand → Type 0
+IsSameStrandUnder f (instance role height terms) (instance role' height' terms') = (role ≡ role') × (height ≡ height') × AgreeOnTerms (variables_of_prefix role height) (composed terms f) terms'
+IsSameStrandUnder f (listener t) (listener t') = apply_to f t ≡ t'
+IsSameStrandUnder f (instance role height terms) (listener t') = ⊥
+IsSameStrandUnder f (listener t) (instance role' height' terms') = ⊥
 
 abbrev pub unique_renamed : Substitution → UniqueAt → UniqueAt
 unique_renamed f u = record { value = apply_to_atom f u.value; origin = u.origin }
@@ -58,7 +58,7 @@ pub record AreSameAssumptions (f : Substitution) (a b : Assumptions) : Type 0 wh
 -- The same strands in the same places, the same order, whatever pairs generate it, the same assumptions, and the same way
 -- from the problem, with what the problem states itself.
 pub record IsSameSkeleton (f : Substitution) (k m : Skeleton) : Type 0 where
-  pub strands : ArePaired (IsSameStrand f) k.strands m.strands
+  pub strands : ArePaired (IsSameStrandUnder f) k.strands m.strands
   pub order : (x y : Node) → Before k x y ↔ Before m x y
   pub assumptions : AreSameAssumptions f k.assumptions m.assumptions
   pub mapped_strands : k.from_problem.strands ≡ m.from_problem.strands

@@ -12,7 +12,7 @@ ghost use Rattle.cp_report.specs.Laws.{ArePrinted, CanBeStated};
 ghost use Rattle.cp_report.specs.ReadBack.{Report, IsReadBack};
 ghost use Rattle.cp_report.specs.UpToNames.{IsReport, IsSameReport};
 ghost use Rattle.cp_sexpr.specs.Syntax.{Forms, forms_of};
-ghost use Rattle.cp_wellformed.specs.Example.{example_input};
+ghost use Rattle.cp_language.specs.Example.{example_input};
 
 /// Reading forms back has exactly one answer: the report that they are, or else the first place at which they fit none.
 #[tactic(auto, using(crate::proofs::OneAnswer::one_answer, crate::proofs::OneAnswer::some_answer))]

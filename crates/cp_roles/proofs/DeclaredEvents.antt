@@ -5,16 +5,16 @@ use Rattle.cp_model.specs.Term.{Variable, Term}
 use Rattle.cp_model.specs.Strand.{Event, Declaration, Role, variables_of_trace}
 use Rattle.cp_model.specs.Problem.{IsDeclared}
 use Rattle.cp_sexpr.specs.Syntax.{Form}
-use Rattle.cp_language.specs.Roles.{events_of, roles_in}
+use Rattle.cp_language.specs.Roles.{events_stated, roles_in}
 use Rattle.cp_strand.specs.Declares.{DeclaresItsVariables}
-use Rattle.cp_wellformed.proofs.Roles.{trace_declared, roles_declare}
+use Rattle.cp_language.proofs.Roles.{trace_declared, roles_declare}
 
 -- no events have no variables
 pub no_events : (ds : List Declaration) (es : List (Event Term)) → es ≡ [] → (x : Variable) → IsIn x (variables_of_trace es) → IsDeclared ds x
 no_events ds [] e x i = elim i [ ]
 no_events ds (f ∷ es) e x i = absurd (cc)
 
-pub events_read : (ds : List Declaration) (es : List (Event Term)) (f : Form) → es ≡ events_of ds f → (x : Variable) → IsIn x (variables_of_trace es) → IsDeclared ds x
+pub events_read : (ds : List Declaration) (es : List (Event Term)) (f : Form) → es ≡ events_stated ds f → (x : Variable) → IsIn x (variables_of_trace es) → IsDeclared ds x
 events_read ds es f e x i = trace_declared ds f x (subst (λ (gs : List (Event Term)). IsIn x (variables_of_trace gs)) e i)
 
 pub no_roles : (rs : List Role) → rs ≡ [] → (role : Role) → IsIn role rs → DeclaresItsVariables role

@@ -12,8 +12,8 @@ use Rattle.cp_sexpr.specs.declared.form.Form as program
 use Rattle.cp_language.specs.Faults.{fault, place_of}
 use Rattle.cp_language.specs.Terms.{term_faults}
 use Rattle.cp_language.specs.Roles.{message_faults, event_faults, events_faults, where_faultless, each_faults}
-use Rattle.cp_forms.specs.FirstFault.{first_onto}
-use Rattle.cp_forms.proofs.Firsts.{none_found}
+use Rattle.cp_scope.specs.FirstFault.{first_onto}
+use Rattle.cp_scope.proofs.Firsts.{none_found}
 
 pub three_messages : (ds : List Declaration) (at : Place) (fs : List program.Form) (a b c : program.Form) → 3 ≤ length fs → a ≡ get_or fs 0 a → b ≡ get_or fs 1 b → c ≡ get_or fs 2 c
     → term_faults ds (view a) ++ term_faults ds (view b) ++ fault (place_of (view c)) BadShape ≡ message_faults ds at (map view fs)

@@ -3,3 +3,7 @@ pub mod EventFaults
 pub mod RoleNames
 pub mod ProtocolNames
 pub mod DeclaredEvents
+pub mod Maplets
+pub mod MapletTerms
+pub mod Instantiation
+pub mod Strandwise

@@ -13,9 +13,9 @@ use Rattle.cp_model.specs.Same.{same_text}
 use Rattle.cp_language.specs.Faults.{fault}
 use Rattle.cp_language.specs.Roles.{name_faults_at, algebra_faults, roles_faults, protocol_faults}
 use Rattle.cp_language.specs.Problems.{protocol_named}
-use Rattle.cp_forms.specs.FirstFault.{first_onto}
+use Rattle.cp_scope.specs.FirstFault.{first_onto}
 use Rattle.cp_roles.specs.Above.{names_of_protocols, turned}
-use Rattle.cp_forms.proofs.Firsts.{first_then_three}
+use Rattle.cp_scope.proofs.Firsts.{first_then_three}
 
 -- the last of these protocols that has this name, or the one found before
 abbrev pub last_named : Option Protocol → List Protocol → List ℕ → Option Protocol

@@ -14,10 +14,10 @@ use Rattle.cp_sexpr.specs.declared.form.Form as program
 use Rattle.cp_model.specs.Same.{same_text}
 use Rattle.cp_language.specs.Words.{is_one_of, ItemHead, role_item, non_item, penetrator_non_item, unique_item, strand_item, listener_item, precedes_item, comment_item, item_out_of_profile, no_item, item_head}
 use Rattle.cp_language.specs.Faults.{fault, place_of}
-use Rattle.cp_language.specs.Roles.{Headed, headed, name_faults_at, vars_faults, declarations_of, trace_faults, events_of, each_faults, item_faults, headed_item_faults, role_item_faults, role_faults, role_of, is_role_item, protocol_item_faults, role_name_onto, roles_faults, roles_in, item_or_none, items_behind}
-use Rattle.cp_forms.specs.FirstFault.{first_onto}
+use Rattle.cp_language.specs.Roles.{Headed, headed, name_faults_at, vars_faults, declarations_of, trace_faults, events_stated, each_faults, item_faults, headed_item_faults, role_item_faults, role_faults, role_of, is_role_item, protocol_item_faults, role_name_onto, roles_faults, roles_in, item_or_none, items_behind}
+use Rattle.cp_scope.specs.FirstFault.{first_onto}
 use Rattle.cp_roles.specs.Named.{names_of_roles, role_behind, with_role}
-use Rattle.cp_forms.proofs.Firsts.{first_onto-append, first_then_four}
+use Rattle.cp_scope.proofs.Firsts.{first_onto-append, first_then_four}
 use Rattle.cp_scope.proofs.DeclaredIdentifiers.{AreSameNames, names-swap}
 
 -- ---- one role
@@ -33,12 +33,12 @@ name_vars_trace_items b n v t ds es fs =
     name_faults_at b (λ p. fault p DuplicateRole) n ++ vars_faults v ++ trace_faults ds t ++ each_faults (item_faults (role_item_faults ds es)) fs
 
 role_items : (b : List (List ℕ)) (at : Place) (fs : List program.Form) (n v t : program.Form) → 3 ≤ length fs → n ≡ get_or fs 0 n → v ≡ get_or fs 1 v → t ≡ get_or fs 2 t
-    → name_vars_trace_items b (view n) (view v) (view t) (declarations_of (view v)) (events_of (declarations_of (view v)) (view t)) (map view (take (length fs - 3) (drop 3 fs))) ≡ role_faults b at (map view fs)
+    → name_vars_trace_items b (view n) (view v) (view t) (declarations_of (view v)) (events_stated (declarations_of (view v)) (view t)) (map view (take (length fs - 3) (drop 3 fs))) ≡ role_faults b at (map view fs)
 role_items b at [] n v t l e f g = absurd (omega arith)
 role_items b at (x ∷ []) n v t l e f g = absurd (omega arith)
 role_items b at (x ∷ y ∷ []) n v t l e f g = absurd (omega arith)
 role_items b at (x ∷ y ∷ z ∷ fs) n v t l e f g =
-    let whole : Form → Form → Form → List program.Form → List Refusal = λ k w u gs. name_vars_trace_items b k w u (declarations_of w) (events_of (declarations_of w) u) (map view gs) in
+    let whole : Form → Form → Form → List program.Form → List Refusal = λ k w u gs. name_vars_trace_items b k w u (declarations_of w) (events_stated (declarations_of w) u) (map view gs) in
     ap (λ k. whole (view k) (view v) (view t) (take (length (x ∷ y ∷ z ∷ fs) - 3) fs)) e
     ∙ ap (λ w. whole (view x) (view w) (view t) (take (length (x ∷ y ∷ z ∷ fs) - 3) fs)) f
     ∙ ap (λ u. whole (view x) (view y) (view u) (take (length (x ∷ y ∷ z ∷ fs) - 3) fs)) g
@@ -46,15 +46,15 @@ role_items b at (x ∷ y ∷ z ∷ fs) n v t l e f g =
 
 module _ (b : List (List ℕ)) (at : Place) (fs : List program.Form) (n v t : program.Form) (l : 3 ≤ length fs) (en : n ≡ get_or fs 0 n) (ev : v ≡ get_or fs 1 v) (et : t ≡ get_or fs 2 t) where
   pub role-read : (ds ds' ds'' : List Declaration) (es : List (Event Term)) (o p q r s : Option Refusal)
-      → ds ≡ declarations_of (view v) → ds' ≡ declarations_of (view v) → es ≡ events_of ds' (view t) → ds'' ≡ declarations_of (view v)
+      → ds ≡ declarations_of (view v) → ds' ≡ declarations_of (view v) → es ≡ events_stated ds' (view t) → ds'' ≡ declarations_of (view v)
       → p ≡ first_onto o (name_faults_at b (λ x. fault x DuplicateRole) (view n)) → q ≡ first_onto p (vars_faults (view v)) → r ≡ first_onto q (trace_faults ds (view t))
       → s ≡ first_onto r (each_faults (item_faults (role_item_faults ds'' es)) (map view (take (length fs - 3) (drop 3 fs))))
       → s ≡ first_onto o (role_faults b at (map view fs))
   role-read ds ds' ds'' es o p q r s e e' f e'' hp hq hr hs =
       let rest = map view (take (length fs - 3) (drop 3 fs)) in
-      let events : es ≡ events_of (declarations_of (view v)) (view t) = f ∙ ap (λ d. events_of d (view t)) e' in
+      let events : es ≡ events_stated (declarations_of (view v)) (view t) = f ∙ ap (λ d. events_stated d (view t)) e' in
       first_then_four o p q r s (name_faults_at b (λ x. fault x DuplicateRole) (view n)) (vars_faults (view v)) (trace_faults (declarations_of (view v)) (view t))
-      (each_faults (item_faults (role_item_faults (declarations_of (view v)) (events_of (declarations_of (view v)) (view t)))) rest)
+      (each_faults (item_faults (role_item_faults (declarations_of (view v)) (events_stated (declarations_of (view v)) (view t)))) rest)
       hp hq (hr ∙ ap (λ d. first_onto q (trace_faults d (view t))) e)
       (hs ∙ ap (λ d. first_onto r (each_faults (item_faults (role_item_faults d es)) rest)) e'' ∙ ap (λ us. first_onto r (each_faults (item_faults (role_item_faults (declarations_of (view v)) us)) rest)) events)
       ∙ ap (first_onto o) (role_items b at fs n v t l en ev et)
@@ -72,7 +72,7 @@ role-names b c at [] h = refl
 role-names b c at (x ∷ []) h = refl
 role-names b c at (x ∷ y ∷ []) h = refl
 role-names b c at (x ∷ y ∷ z ∷ fs) h =
-    ap (λ rs. rs ++ vars_faults y ++ trace_faults (declarations_of y) z ++ each_faults (item_faults (role_item_faults (declarations_of y) (events_of (declarations_of y) z))) fs) (name-names b c (λ p. fault p DuplicateRole) x h)
+    ap (λ rs. rs ++ vars_faults y ++ trace_faults (declarations_of y) z ++ each_faults (item_faults (role_item_faults (declarations_of y) (events_stated (declarations_of y) z))) fs) (name-names b c (λ p. fault p DuplicateRole) x h)
 
 item-names : (b c : List (List ℕ)) (at : Place) (i : ItemHead) (fs : List Form) → AreSameNames b c → protocol_item_faults b at i fs ≡ protocol_item_faults c at i fs
 item-names b c at role_item fs h = role-names b c at fs h

@@ -3,14 +3,16 @@ ghost use Rattle.std.specs.Prelude.{◌≡◌, map, IfOk};
 ghost use Rattle.cp_sexpr.specs.View.{view};
 ghost use Rattle.cp_language.specs.Words.{event_head};
 ghost use Rattle.cp_language.specs.Terms.{term_faults, term_of};
-ghost use Rattle.cp_language.specs.Roles.{headed, message_faults, event_head_faults, event_faults, events_faults, trace_faults, where_faultless, message_of, event_of, events_in, events_of, items_behind};
+ghost use Rattle.cp_language.specs.Roles.{headed, message_faults, event_head_faults, event_faults, events_faults, trace_faults, where_faultless, message_of, event_of, events_in, events_stated, items_behind};
 ghost use Rattle.cp_strand.specs.View.{declaration_view, event_view};
-ghost use Rattle.cp_forms.specs.FirstFault.{first_onto};
-ghost use Rattle.cp_forms.specs.Heads.{event_head_view};
+ghost use Rattle.cp_scope.specs.FirstFault.{first_onto};
+ghost use Rattle.cp_scope.specs.Heads.{event_head_view};
 
 use cp_base::{Code, Place};
-use cp_forms::{EventHead, FirstFault, event_head, headed, items_behind, place_of};
-use cp_scope::{fixed, lacks, no_term, term_faults, term_of};
+use cp_scope::{
+    EventHead, FirstFault, event_head, fixed, headed, items_behind, lacks, no_term, place_of,
+    term_faults, term_of,
+};
 use cp_sexpr::Form;
 use cp_strand::{Declaration, Event};
 use cp_term::Term;
@@ -116,7 +118,7 @@ pub(crate) fn events_of(
     variables: &[Declaration],
     form: &Form,
 ) -> Result<Vec<Event>, AllocError>
-    ensures { IfOk result (λ v. map event_view v.items ≡ events_of (map declaration_view variables.now) (view form.now)) }
+    ensures { IfOk result (λ v. map event_view v.items ≡ events_stated (map declaration_view variables.now) (view form.now)) }
 {
     let items = items_behind(form);
     let mut events = Vec::new(alloc);

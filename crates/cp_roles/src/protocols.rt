@@ -5,13 +5,12 @@ ghost use Rattle.cp_sexpr.specs.View.{view};
 ghost use Rattle.cp_language.specs.Faults.{fault};
 ghost use Rattle.cp_language.specs.Roles.{name_faults_at, algebra_faults, protocol_faults, protocol_of};
 ghost use Rattle.cp_language.specs.Problems.{protocol_named};
-ghost use Rattle.cp_forms.specs.FirstFault.{first_onto};
+ghost use Rattle.cp_scope.specs.FirstFault.{first_onto};
 ghost use Rattle.cp_roles.specs.Above.{protocols_view, turned};
 
 use crate::roles::roles_of;
 use cp_base::{Code, Place, Text};
-use cp_forms::{FirstFault, is_word, place_of};
-use cp_scope::{Taken, name_of};
+use cp_scope::{FirstFault, NameSet, is_word, name_of, place_of};
 use cp_sexpr::Form;
 use cp_strand::Protocol;
 use std::alloc::{AllocError, Global};
@@ -31,7 +30,7 @@ pub fn protocol_named<'a>(protocols: &'a [Rc<Protocol>], name: &[u8]) -> Option<
 }
 
 /// Notes the faults of the name of a protocol. `names` are the names of the protocols above it.
-fn protocol_name_faults(names: &Taken, form: &Form, first: &mut FirstFault)
+fn protocol_name_faults(names: &NameSet, form: &Form, first: &mut FirstFault)
     ensures { first.new ≡ first_onto first.old (name_faults_at names.now (λ p. fault p DuplicateProtocol) (view form.now)) }
 {
     let Form::Symbol(place, name) = form else {
@@ -69,7 +68,7 @@ pub fn no_protocol(alloc: Global) -> Result<Protocol, AllocError>
 /// what stands for a protocol with faults has no meaning.
 pub fn protocol_of(
     alloc: Global,
-    names: &Taken,
+    names: &NameSet,
     place: Place,
     items: &[Form],
     first: &mut FirstFault,

@@ -7,14 +7,16 @@ ghost use Rattle.cp_language.specs.Faults.{fault};
 ghost use Rattle.cp_language.specs.Roles.{each_faults, item_faults, role_item_faults, name_faults_at, role_faults, role_of, protocol_item_faults, roles_faults, roles_in, algebra_faults, protocol_faults, protocol_of, role_name_onto, headed};
 ghost use Rattle.cp_language.specs.Problems.{role_named};
 ghost use Rattle.cp_strand.specs.View.{declaration_view, event_view};
-ghost use Rattle.cp_forms.specs.FirstFault.{first_onto};
+ghost use Rattle.cp_scope.specs.FirstFault.{first_onto};
 ghost use Rattle.cp_roles.specs.Named.{role_names, shared_roles_view, with_role};
 
 use crate::events::{events_of, trace_faults};
 use crate::uniques::{Scope, role_uniques_faults};
 use cp_base::{Code, Place, Text};
-use cp_forms::{FirstFault, ItemHead, headed, is_word, item_head, items_behind, place_of};
-use cp_scope::{Kind, atoms_faults, atoms_of, name_of, variables_of};
+use cp_scope::{
+    FirstFault, ItemHead, Kind, atoms_faults, atoms_of, headed, is_word, item_head, items_behind,
+    name_of, place_of, variables_of,
+};
 use cp_sexpr::Form;
 use cp_strand::{Declaration, Event, Protocol, Role};
 use std::alloc::{AllocError, Global};

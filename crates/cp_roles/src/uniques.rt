@@ -4,11 +4,10 @@ ghost use Rattle.cp_model.specs.Same.{origin_in};
 ghost use Rattle.cp_sexpr.specs.View.{view};
 ghost use Rattle.cp_language.specs.Roles.{each_faults, role_unique_faults};
 ghost use Rattle.cp_strand.specs.View.{declaration_view, event_view};
-ghost use Rattle.cp_forms.specs.FirstFault.{first_onto};
+ghost use Rattle.cp_scope.specs.FirstFault.{first_onto};
 
 use cp_base::Code;
-use cp_forms::{FirstFault, place_of};
-use cp_scope::{atom_faults, term_of};
+use cp_scope::{FirstFault, atom_faults, place_of, term_of};
 use cp_sexpr::Form;
 use cp_strand::{Declaration, Event};
 use cp_term::Term;

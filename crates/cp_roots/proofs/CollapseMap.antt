@@ -14,8 +14,8 @@ use Rattle.cp_model.specs.Homomorphism.{GoesToInstance, IsHomomorphism, substitu
 use Rattle.cp_lists.proofs.Items.{item_below, map_of_item, place_of}
 use Rattle.cp_model.proofs.LawStandings.{strand_of_event}
 use Rattle.cp_model.proofs.SingleMaps.{itself, own_carries}
-use Rattle.cp_completeness.specs.Normal.{skeleton_under}
-use Rattle.cp_completeness.proofs.Mapped.{changed, carried_under}
+use Rattle.cp_theory.specs.Normal.{skeleton_under}
+use Rattle.cp_theory.proofs.Mapped.{changed, carried_under}
 use Rattle.cp_model.proofs.DeclaredVariables.{declared_at}
 use Rattle.cp_collapse.specs.Partitions.{place_in}
 use Rattle.cp_collapse.specs.Collapses.{IsCollapsed}

@@ -14,7 +14,7 @@ use Rattle.cp_lists.proofs.SameLists.{same_items}
 use Rattle.cp_skel.specs.Events.{is_role_strand}
 use Rattle.cp_strand.specs.View.{strand_view}
 use Rattle.cp_model.specs.Data.{StrandData as Strand}
-use Rattle.cp_collapse.specs.Partitions.{IsPartition, finest}
+use Rattle.cp_collapse.specs.Partitions.{IsPartitionByRole, finest}
 use Rattle.cp_collapse.specs.Collapses.{no_collapses, AreCollapses}
 use Rattle.cp_collapse.proofs.Lowest.{at_numbers}
 
@@ -45,14 +45,14 @@ two_there (s ∷ ss) (suc i) (suc j) role height terms height' terms' l e f = on
 
 module _ (k : Skeleton) (few : instances k.strands < 2) where
   -- Each strand is the lowest of its block.
-  alone : (p : List ℕ) (part : IsPartition k p) (s l : ℕ) → item_at p s ≡ Some l → (l ≡ s) ⊎ (l < s) → l ≡ s
+  alone : (p : List ℕ) (part : IsPartitionByRole k p) (s l : ℕ) → item_at p s ≡ Some l → (l ≡ s) ⊎ (l < s) → l ≡ s
   alone p part s l e (inl same) = same
   alone p part s l e (inr less) =
       let a = part.alike s l e (λ same. omega (arith, same, less)) in
       let two = two_there k.strands l s a.role a.height' a.terms' a.height a.terms less a.second a.first in
       absurd (omega (arith, two, few))
 
-  entry : (p : List ℕ) → IsPartition k p → (s n : ℕ) → item_at (numbers_from 0 k.strands) s ≡ Some n → item_at p s ≡ Some n
+  entry : (p : List ℕ) → IsPartitionByRole k p → (s n : ℕ) → item_at (numbers_from 0 k.strands) s ≡ Some n → item_at p s ≡ Some n
   entry p part s n e =
       let at = at_numbers 0 k.strands s n e in
       let below = at.0 in
@@ -63,7 +63,7 @@ module _ (k : Skeleton) (few : instances k.strands < 2) where
       let same : r.0 ≡ s = alone p part s r.0 r.1 (eq-or-lt_of_le lowest) in
       r.1 ∙ ap Some (omega (arith, same, own))
 
-  only_finest : (p : List ℕ) → IsPartition k p → p ≡ finest k
+  only_finest : (p : List ℕ) → IsPartitionByRole k p → p ≡ finest k
   only_finest p part = same_items p (finest k) (part.each ∙ sym (numbers_length 0 k.strands)) (entry p part)
 
   none_to_identify : AreCollapses k []

@@ -16,8 +16,8 @@ use Rattle.cp_model.specs.Given.{listed}
 use Rattle.cp_model.specs.Stated.{KeepsStated}
 use Rattle.cp_lists.proofs.Members.{in_append_left}
 use Rattle.cp_model.proofs.StatedStays.{stated_stays}
-use Rattle.cp_completeness.specs.Normal.{SaysNoMore}
-use Rattle.cp_completeness.proofs.Weaker.{stands_too}
+use Rattle.cp_theory.specs.Normal.{SaysNoMore}
+use Rattle.cp_theory.proofs.Weaker.{stands_too}
 use Rattle.cp_skel.proofs.EachOnce.{listed-non, listed-penetrator-non, listed-unique}
 use Rattle.cp_roots.specs.Roots.{in_report_order}
 use Rattle.cp_model.proofs.OccurringVariables.{atom_with, unique_with}

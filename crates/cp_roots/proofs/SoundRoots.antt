@@ -14,7 +14,7 @@ use Rattle.cp_model.specs.Tree.{Operation, by_problem, by_collapse}
 use Rattle.cp_lists.proofs.Members.{in_append, in_append_left, in_append_right, in_cases, into_map, from_map}
 use Rattle.cp_model.proofs.SingleMaps.{itself, states_itself, own_carries}
 use Rattle.cp_model.proofs.StatedItself.{keeps_its_own}
-use Rattle.cp_completeness.proofs.Under.{factors_then}
+use Rattle.cp_theory.proofs.Under.{factors_then}
 use Rattle.cp_normal.specs.NormalForms.{IsNormalFormOf}
 use Rattle.cp_collapse.specs.Collapses.{IsCollapse, AreCollapsesBy, no_collapses, collapse_by, AreCollapses}
 use Rattle.cp_normal.proofs.Homomorphic.{form_carries}

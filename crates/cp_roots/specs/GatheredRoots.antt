@@ -4,7 +4,7 @@ use Rattle.cp_lists.specs.Lists.{IsIn}
 use Rattle.cp_model.specs.Strand.{Protocol}
 use Rattle.cp_model.specs.Skeleton.{Skeleton, IsSkeleton}
 use Rattle.cp_model.specs.Tree.{Operation, by_collapse}
-use Rattle.cp_completeness.specs.Normal.{LosesNoStanding}
+use Rattle.cp_theory.specs.Normal.{LosesNoStanding}
 use Rattle.cp_model.specs.Data.{Declared, SkeletonData as Program}
 use Rattle.cp_skel.specs.View.{skeleton_view}
 use Rattle.cp_normal.specs.Exact.{HasForms}

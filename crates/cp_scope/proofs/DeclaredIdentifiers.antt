@@ -18,9 +18,9 @@ use Rattle.cp_language.specs.Faults.{fault, items_of}
 use Rattle.cp_language.specs.Terms.{lacks}
 use Rattle.cp_language.specs.Names.{identifiers_in}
 use Rattle.cp_language.specs.Roles.{text_of_symbol, list_items, front_of, last_form, sort_named, is_of_messages, sort_or_text, last_sort_faults, identifier_faults, identifiers_faults, declared_identifiers, declaration_faults, declarations_faults, declared_of, declarations_in}
-use Rattle.cp_forms.specs.FirstFault.{first_onto}
-use Rattle.cp_forms.proofs.Firsts.{first_onto-append, first_then_three}
-use Rattle.cp_forms.proofs.Views.{view-List, items_of-forms_of}
+use Rattle.cp_scope.specs.FirstFault.{first_onto}
+use Rattle.cp_scope.proofs.Firsts.{first_onto-append, first_then_three}
+use Rattle.cp_scope.proofs.Views.{view-List, items_of-forms_of}
 
 or_comm : (a b : Bool) → (a || b) ≡ (b || a)
 or_comm true true = refl

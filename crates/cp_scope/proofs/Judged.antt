@@ -11,11 +11,11 @@ use Rattle.cp_sexpr.specs.Syntax.{Form, symbol, string, number, list, forms_of}
 use Rattle.cp_language.specs.Words.{TermHead, cat, encrypt, long_term_key, public_key, private_key, inverse_key, operation_out_of_profile, no_operation, term_head}
 use Rattle.cp_language.specs.Roles.{Headed, headed, each_faults}
 use Rattle.cp_language.specs.Terms.{lacks, exceeds, sort_faults, sorts_faults, last_key_faults, all_faults, first_faults, operation_faults, name_faults, applied_faults, term_faults, each_term_faults}
-use Rattle.cp_forms.specs.FirstFault.{first_onto}
+use Rattle.cp_scope.specs.FirstFault.{first_onto}
 use Rattle.cp_scope.specs.OwnFaults.{sort_faults_if, argument_faults, two_name_faults, key_name_faults, own_faults, judged_name, judged}
-use Rattle.cp_forms.proofs.Firsts.{first_onto-append, moved_behind, moved_behind_two}
+use Rattle.cp_scope.proofs.Firsts.{first_onto-append, moved_behind, moved_behind_two}
 use Rattle.cp_scope.proofs.Sizes.{forms_size}
-use Rattle.cp_forms.proofs.Views.{headed_is, items_of-forms_of}
+use Rattle.cp_scope.proofs.Views.{headed_is, items_of-forms_of}
 
 module _ (ds : List Declaration) where
   each_term : List Form → List (List Refusal)

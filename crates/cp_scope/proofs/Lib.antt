@@ -1,3 +1,8 @@
+pub mod FirstOf
+pub mod Firsts
+pub mod EachForm
+pub mod Items
+pub mod Views
 pub mod Sizes
 pub mod TermSorts
 mod MissingItems

@@ -11,7 +11,7 @@ use Rattle.cp_language.specs.Words.{term_head}
 use Rattle.cp_language.specs.Roles.{Headed, headed}
 use Rattle.cp_language.specs.Terms.{applied, term_of, terms_of, key_of_name}
 use Rattle.cp_scope.specs.Applied.{purpose_in, key_of_purpose}
-use Rattle.cp_forms.proofs.Views.{headed_is, items_of-forms_of}
+use Rattle.cp_scope.proofs.Views.{headed_is, items_of-forms_of}
 
 pub term-applied : (ds : List Declaration) (f : Form) (h : Headed) → Some h ≡ headed f → applied (term_head h.head) h.items (terms_of ds (forms_of h.items)) ≡ term_of ds f
 term-applied ds f h e =

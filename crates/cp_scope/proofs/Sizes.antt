@@ -4,7 +4,7 @@ use Rattle.cp_sexpr.specs.Syntax.{Form, symbol, string, number, list, Forms, non
 use Rattle.cp_sexpr.specs.View.{view}
 use Rattle.cp_sexpr.specs.declared.form.Form as program
 use Rattle.cp_language.specs.Roles.{Headed, headed}
-use Rattle.cp_forms.proofs.Views.{headed_is}
+use Rattle.cp_scope.proofs.Views.{headed_is}
 
 abbrev mutual
   pub form_size : Form → ℕ

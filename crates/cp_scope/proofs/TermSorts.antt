@@ -8,7 +8,7 @@ use Rattle.cp_sexpr.specs.declared.form.Form as program
 use Rattle.cp_language.specs.Words.{cat, term_head}
 use Rattle.cp_language.specs.Roles.{Headed, headed}
 use Rattle.cp_language.specs.Terms.{of_all, sort_of, sorts_of, sort_of_cat, sort_by_head}
-use Rattle.cp_forms.proofs.Views.{headed_is}
+use Rattle.cp_scope.proofs.Views.{headed_is}
 
 pub the_only : {A : Type 0} (xs : List A) (x : A) → 1 ≤ length xs → length xs < 2 → x ≡ get_or xs 0 x → xs ≡ x ∷ []
 the_only [] x l u e = absurd (omega arith)

@@ -1,3 +1,7 @@
+pub mod FirstOf
+pub mod FirstFault
+pub mod Heads
+pub mod Forms
 pub mod Terms
 pub mod OwnFaults
 pub mod Applied

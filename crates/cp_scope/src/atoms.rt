@@ -5,13 +5,13 @@ ghost use Rattle.cp_sexpr.specs.View.{view};
 ghost use Rattle.cp_language.specs.Terms.{term_of, as_atom, atom_faults};
 ghost use Rattle.cp_language.specs.Roles.{headed, each_faults, atoms_in, forms_under, item_or_none};
 ghost use Rattle.cp_strand.specs.View.{declaration_view};
-ghost use Rattle.cp_forms.specs.FirstFault.{first_onto};
-ghost use Rattle.cp_forms.specs.Heads.{item_head_view};
+ghost use Rattle.cp_scope.specs.FirstFault.{first_onto};
+ghost use Rattle.cp_scope.specs.Heads.{item_head_view};
 ghost use Rattle.cp_scope.specs.Kinds.{is_of_kind};
 
 use crate::faults::atom_faults;
 use crate::terms::term_of;
-use cp_forms::{FirstFault, ItemHead, headed, item_head, items_behind};
+use crate::{FirstFault, ItemHead, headed, item_head, items_behind};
 use cp_sexpr::Form;
 use cp_strand::{Atom, Declaration};
 use cp_term::{Sort, VarId, var};

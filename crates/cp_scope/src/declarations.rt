@@ -8,17 +8,17 @@ ghost use Rattle.cp_language.specs.Words.{is_one_of};
 ghost use Rattle.cp_language.specs.Names.{identifiers_in};
 ghost use Rattle.cp_language.specs.Roles.{headed, text_of_symbol, list_items, front_of, last_form, sort_named, is_of_messages, sort_or_text, sort_word_faults, last_sort_faults, identifier_faults, identifiers_faults, declaration_faults, declarations_faults, vars_faults, declared_of, declarations_in, declarations_of, fixed_faults};
 ghost use Rattle.cp_strand.specs.View.{sort_view, declaration_view};
-ghost use Rattle.cp_forms.specs.FirstFault.{first_onto};
-ghost use Rattle.cp_forms.specs.Heads.{sort_word_view};
-ghost use Rattle.cp_forms.specs.Forms.{headed_view};
+ghost use Rattle.cp_scope.specs.FirstFault.{first_onto};
+ghost use Rattle.cp_scope.specs.Heads.{sort_word_view};
+ghost use Rattle.cp_scope.specs.Forms.{headed_view};
 ghost use Rattle.cp_scope.specs.Fixed.{faults_inside};
 
 use crate::faults::lacks;
-use cp_base::{Code, Place, Text};
-use cp_forms::{
+use crate::{
     FirstFault, HeadedList, SortWord, front_items, headed, is_out_of_profile, is_word,
     items_behind, last_item, place_of, sort_word,
 };
+use cp_base::{Code, Place, Text};
 use cp_sexpr::Form;
 use cp_strand::Declaration;
 use cp_term::Sort;

@@ -6,15 +6,15 @@ ghost use Rattle.cp_language.specs.Roles.{headed};
 ghost use Rattle.cp_language.specs.Terms.{lacks, exceeds, last_key_faults, term_faults, atom_faults, sort_faults};
 ghost use Rattle.cp_lists.specs.Lists.{item_at};
 ghost use Rattle.cp_strand.specs.View.{sort_view, declaration_view};
-ghost use Rattle.cp_forms.specs.FirstFault.{first_onto};
+ghost use Rattle.cp_scope.specs.FirstFault.{first_onto};
 ghost use Rattle.cp_scope.specs.OwnFaults.{sort_faults_if, argument_faults, key_name_faults, two_name_faults, own_faults, judged_name, judged, is_purpose};
 
 use crate::sorts::{has_atom_sort, has_key_sort, has_sort, variable_named};
-use cp_base::{Code, Place};
-use cp_forms::{
+use crate::{
     FirstFault, HeadedList, TermHead, first_items, headed, item_at, last_item, later_items,
     place_of, term_head,
 };
+use cp_base::{Code, Place};
 use cp_sexpr::Form;
 use cp_strand::Declaration;
 use cp_term::Sort;

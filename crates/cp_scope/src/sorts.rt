@@ -4,11 +4,11 @@ ghost use Rattle.cp_model.specs.Term.{skey_sort, akey_sort};
 ghost use Rattle.cp_sexpr.specs.View.{view};
 ghost use Rattle.cp_model.specs.Same.{same_sort};
 ghost use Rattle.cp_language.specs.Roles.{headed};
-ghost use Rattle.cp_language.specs.Terms.{variable_named, sort_of, is_sort, is_atom};
+ghost use Rattle.cp_language.specs.Terms.{variable_named, sort_of, is_sort, admits_atom};
 ghost use Rattle.cp_strand.specs.View.{sort_view, declaration_view};
 ghost use Rattle.cp_scope.specs.Terms.{variable_view, term_sort_view};
 
-use cp_forms::{TermHead, headed, is_word, term_head};
+use crate::{TermHead, headed, is_word, term_head};
 use cp_sexpr::Form;
 use cp_strand::Declaration;
 use cp_term::Sort;
@@ -105,7 +105,7 @@ pub(crate) fn has_key_sort(variables: &[Declaration], form: &Form) -> bool
 
 /// Whether a term has an atom sort; also `true` if its sort cannot be known.
 pub(crate) fn has_atom_sort(variables: &[Declaration], form: &Form) -> bool
-    ensures { result ≡ is_atom (sort_of (map declaration_view variables.now) (view form.now)) }
+    ensures { result ≡ admits_atom (sort_of (map declaration_view variables.now) (view form.now)) }
 {
     match sort_of(variables, form) {
         None => true,

@@ -6,13 +6,13 @@ ghost use Rattle.cp_language.specs.Roles.{headed};
 ghost use Rattle.cp_language.specs.Terms.{variable_named, term_of_variable, paired, all_but_last, last_of, as_key, as_name, long_term, inverted, applied, term_of};
 ghost use Rattle.cp_strand.specs.View.{declaration_view};
 ghost use Rattle.cp_term.specs.Keys.{name_of, key_as_term};
-ghost use Rattle.cp_forms.specs.Heads.{term_head_view};
+ghost use Rattle.cp_scope.specs.Heads.{term_head_view};
 ghost use Rattle.cp_scope.specs.Terms.{variable_view};
 ghost use Rattle.cp_scope.specs.Applied.{is_name, is_key, purpose_in, key_of_purpose};
 
 use crate::sorts::{Variable, variable_named};
+use crate::{TermHead, headed, term_head};
 use cp_base::Text;
-use cp_forms::{TermHead, headed, term_head};
 use cp_sexpr::Form;
 use cp_strand::Declaration;
 use cp_term::{Shape, Sort, Term, VarId, enc, invert, ltk, pair, pubk, tag, var};

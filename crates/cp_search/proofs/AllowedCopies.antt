@@ -7,25 +7,25 @@ use Rattle.cp_lists.proofs.Members.{drop_read, in_rest, next_or_rest, none_left}
 use Rattle.cp_model.specs.Skeleton.{Skeleton}
 use Rattle.cp_skel.specs.View.{skeleton_view}
 use Rattle.cp_fingerprint.specs.Isomorphic.{IsIsomorphic}
-use Rattle.cp_fingerprint.specs.Fingerprints.{Traits, traits_of, MayEmbed}
-use Rattle.cp_fingerprint.proofs.Traits.{embedded_may_embed}
+use Rattle.cp_fingerprint.specs.Signatures.{SignatureData, signature_of, MayEmbed}
+use Rattle.cp_fingerprint.proofs.SignatureData.{embedded_may_embed}
 use Rattle.cp_model.proofs.CarriedParts.{not_both}
 use Rattle.cp_search.specs.declared.made.Made.{Made}
 use Rattle.cp_search.specs.LeastNumber.{FindsLeast, IsFlagged}
-use Rattle.cp_search.specs.LabelsByNumber.{with_sharing}
+use Rattle.cp_search.specs.LabelsByNumber.{with_key}
 use Rattle.cp_search.proofs.LabelsByNumber.{there_listed, listed_there, AreAscending, are_ascending, ascending_from}
-use Rattle.cp_search.specs.MadeLabels.{made_way, AreFound, AreReaching, MayBeSeenIn, MayBeSeen}
-use Rattle.cp_search.proofs.Ways.{finds_alike}
+use Rattle.cp_search.specs.MadeLabels.{made_link, AreFound, AreReaching, MayBeSeenIn, MayBeSeen}
+use Rattle.cp_search.proofs.Links.{finds_alike}
 use Rattle.cp_tree.specs.Made.{IsEdge, Reaches}
 
 -- Isomorphic skeletons have the same number.
-same_number : (a b : Skeleton) → IsIsomorphic a b → (traits_of a).sharing ≡ (traits_of b).sharing
-same_number a b h = by (traits_of a) (traits_of b) (embedded_may_embed a b h.0) (embedded_may_embed b a h.1)
+same_number : (a b : Skeleton) → IsIsomorphic a b → (signature_of a).bucket_key ≡ (signature_of b).bucket_key
+same_number a b h = by (signature_of a) (signature_of b) (embedded_may_embed a b h.0) (embedded_may_embed b a h.1)
   where
-    by : (x y : Traits) → MayEmbed x y → MayEmbed y x → x.sharing ≡ y.sharing
+    by : (x y : SignatureData) → MayEmbed x y → MayEmbed y x → x.bucket_key ≡ y.bucket_key
     by x y forth back =
-        let l : x.sharing ≤ y.sharing = forth.sharing in
-        let m : y.sharing ≤ x.sharing = back.sharing in
+        let l : x.bucket_key ≤ y.bucket_key = forth.bucket_key in
+        let m : y.bucket_key ≤ x.bucket_key = back.bucket_key in
         omega (arith, l, m)
 
 -- ---- labels that are listed with the number
@@ -35,12 +35,12 @@ IsAmongLater ms flags k ns i = (n : ℕ) → MayBeSeenIn ms flags k n → IsIn n
 
 module _ (ms : List Made) (flags : List Bool) (k : Skeleton) where
   -- Each copy is listed.
-  pub copies_listed : (traits : Traits) → traits ≡ traits_of k → ((m : Made) → IsIn m ms → m.fingerprint ≡ traits_of (skeleton_view m.skeleton)) → (ns : List ℕ) → ns ≡ with_sharing traits.sharing 0 ms → IsAmongLater ms flags k ns 0
-  copies_listed traits their fingerprints ns are n h =
-      let own : h.other.fingerprint ≡ traits_of (skeleton_view h.other.skeleton) = fingerprints h.other (at_place ms n h.other h.at) in
-      let number : h.other.fingerprint.sharing ≡ traits.sharing =
-      ap (λ (t : Traits). t.sharing) own ∙ same_number (skeleton_view h.other.skeleton) k h.isomorphic ∙ sym (ap (λ (t : Traits). t.sharing) their) in
-      subst (λ (xs : List ℕ). IsIn n xs) (sym are) (there_listed traits.sharing ms n h.other h.at number)
+  pub copies_listed : (signature_data : SignatureData) → signature_data ≡ signature_of k → ((m : Made) → IsIn m ms → m.signature ≡ signature_of (skeleton_view m.skeleton)) → (ns : List ℕ) → ns ≡ with_key signature_data.bucket_key 0 ms → IsAmongLater ms flags k ns 0
+  copies_listed signature_data their signatures ns are n h =
+      let own : h.other.signature ≡ signature_of (skeleton_view h.other.skeleton) = signatures h.other (at_place ms n h.other h.at) in
+      let number : h.other.signature.bucket_key ≡ signature_data.bucket_key =
+      ap (λ (t : SignatureData). t.bucket_key) own ∙ same_number (skeleton_view h.other.skeleton) k h.isomorphic ∙ sym (ap (λ (t : SignatureData). t.bucket_key) their) in
+      subst (λ (xs : List ℕ). IsIn n xs) (sym are) (there_listed signature_data.bucket_key ms n h.other h.at number)
 
   module _ (ns : List ℕ) (i : ℕ) where
     module _ (l : i < length ns) where
@@ -58,15 +58,15 @@ module _ (ms : List Made) (flags : List Bool) (k : Skeleton) where
       copies_behind other later n h = ⊎_elim (λ (same : number ≡ n). absurd (other (subst (MayBeSeenIn ms flags k) (sym same) h))) (λ m. m) (next_or_rest ns i n number l is (later n h))
 
       -- The label is there, and no copy is below it.
-      pub label_there : (sharing : ℕ) → ns ≡ with_sharing sharing 0 ms → number < length ms
-      label_there sharing are =
-          let m = listed_there sharing ms number (subst (λ (xs : List ℕ). IsIn number xs) are (in_rest ns i (subst (λ (xs : List ℕ). IsIn number xs) (sym opened) here))) in
+      pub label_there : (bucket_key : ℕ) → ns ≡ with_key bucket_key 0 ms → number < length ms
+      label_there bucket_key are =
+          let m = listed_there bucket_key ms number (subst (λ (xs : List ℕ). IsIn number xs) are (in_rest ns i (subst (λ (xs : List ℕ). IsIn number xs) (sym opened) here))) in
           item_below ms number m.0 m.1
 
-      pub none_below : (sharing : ℕ) → ns ≡ with_sharing sharing 0 ms → IsAmongLater ms flags k ns i → (n : ℕ) → n < number → MayBeSeenIn ms flags k n → ⊥
-      none_below sharing are later n less h =
+      pub none_below : (bucket_key : ℕ) → ns ≡ with_key bucket_key 0 ms → IsAmongLater ms flags k ns i → (n : ℕ) → n < number → MayBeSeenIn ms flags k n → ⊥
+      none_below bucket_key are later n less h =
           let m = subst (λ (xs : List ℕ). IsIn n xs) opened (later n h) in
-          let least : number ≤ n = ascending_from ns i number (drop (i + 1) ns) (subst AreAscending (sym are) (are_ascending sharing 0 ms)) opened n m in
+          let least : number ≤ n = ascending_from ns i number (drop (i + 1) ns) (subst AreAscending (sym are) (are_ascending bucket_key 0 ms)) opened n m in
           omega (arith, less, least)
 
     pub none_left_over : length ns ≤ i → IsAmongLater ms flags k ns i → (n : ℕ) → MayBeSeenIn ms flags k n → ⊥
@@ -84,19 +84,19 @@ module _ (ms : List Made) (i : ℕ) (other : Made) (at : item_at ms i ≡ Some o
       let same : h.other ≡ other = cc in
       other_one (subst (λ (m : Made). IsIsomorphic (skeleton_view m.skeleton) k) same h.isomorphic)
 
-  -- One with another fingerprint is no copy.
-  pub kept_apart : (fingerprints : (m : Made) → IsIn m ms → m.fingerprint ≡ traits_of (skeleton_view m.skeleton)) (traits : Traits) (flag : Bool) → traits ≡ traits_of k → flag ≡ false →
-      ((a b : Skeleton) → traits_of a ≡ other.fingerprint → traits_of b ≡ traits → IsIsomorphic a b → flag ≡ true) → MayBeSeenIn ms flags k i → ⊥
-  kept_apart fingerprints traits flag e q kept h =
-      no_copy_here (λ same. not_both q (kept (skeleton_view other.skeleton) k (sym (fingerprints other (at_place ms i other at))) (sym e) same)) h
+  -- One with another signature is no copy.
+  pub kept_apart : (signatures : (m : Made) → IsIn m ms → m.signature ≡ signature_of (skeleton_view m.skeleton)) (signature_data : SignatureData) (flag : Bool) → signature_data ≡ signature_of k → flag ≡ false →
+      ((a b : Skeleton) → signature_of a ≡ other.signature → signature_of b ≡ signature_data → IsIsomorphic a b → flag ≡ true) → MayBeSeenIn ms flags k i → ⊥
+  kept_apart signatures signature_data flag e q kept h =
+      no_copy_here (λ same. not_both q (kept (skeleton_view other.skeleton) k (sym (signatures other (at_place ms i other at))) (sym e) same)) h
 
 pub flagged_no_copy : (ms : List Made) (flags : List Bool) (k : Skeleton) (i : ℕ) → IsFlagged flags i → MayBeSeenIn ms flags k i → ⊥
 flagged_no_copy ms flags k i flagged h = h.allowed flagged
 
 -- ---- in which label one is seen
 
-pub fingerprints_of : (ms : List Made) → AreFound ms → (m : Made) → IsIn m ms → m.fingerprint ≡ traits_of (skeleton_view m.skeleton)
-fingerprints_of ms found m listed = let at = place_of listed in (found.each at.0 m at.1).fingerprint
+pub signatures_of : (ms : List Made) → AreFound ms → (m : Made) → IsIn m ms → m.signature ≡ signature_of (skeleton_view m.skeleton)
+signatures_of ms found m listed = let at = place_of listed in (found.each at.0 m at.1).signature
 
 pub nothing_flagged : (n : ℕ) → IsFlagged [] n → ⊥
 nothing_flagged n flagged = cc
@@ -120,7 +120,7 @@ module _ (ms : List Made) (k : Skeleton) (parent : Option ℕ) where
       there n h = record {
         other = h.other;
         at = h.at;
-        allowed = λ q e reaches. let same : q ≡ p = cc in h.allowed ((right n).1 (item_below ms n h.other h.at, subst (λ (m : ℕ). Reaches (map made_way ms) n m) same reaches));
+        allowed = λ q e reaches. let same : q ≡ p = cc in h.allowed ((right n).1 (item_below ms n h.other h.at, subst (λ (m : ℕ). Reaches (map made_link ms) n m) same reaches));
         isomorphic = h.isomorphic;
       }
 
@@ -135,7 +135,7 @@ module _ (ms : List Made) (k : Skeleton) (parent : Option ℕ) where
   })
 
   -- So it is where no edge goes from it, and it is not the label from which the other is made.
-  pub seen_at_end : (p : ℕ) → parent ≡ Some p → (n : ℕ) → n ≢ p → ((j : ℕ) → IsEdge (map made_way ms) n j → ⊥) → FindsLeast (MayBeSeenIn ms [] k) (Some n) → FindsLeast (MayBeSeen ms parent k) (Some n)
+  pub seen_at_end : (p : ℕ) → parent ≡ Some p → (n : ℕ) → n ≢ p → ((j : ℕ) → IsEdge (map made_link ms) n j → ⊥) → FindsLeast (MayBeSeenIn ms [] k) (Some n) → FindsLeast (MayBeSeen ms parent k) (Some n)
   seen_at_end p from n other none first = record {
     holds = record {
       other = first.holds.other;
@@ -146,7 +146,7 @@ module _ (ms : List Made) (k : Skeleton) (parent : Option ℕ) where
     least = λ m l h. first.least m l (record { other = h.other; at = h.at; allowed = nothing_flagged m; isomorphic = h.isomorphic });
   }
     where
-      never : (q : ℕ) → (n ≡ q → ⊥) → Reaches (map made_way ms) n q → ⊥
+      never : (q : ℕ) → (n ≡ q → ⊥) → Reaches (map made_link ms) n q → ⊥
       never q apart (inl same) = apart same
       never q apart (inr (one_step e)) = none q e
       never q apart (inr (more_steps {y = y} e steps)) = none y e

@@ -8,55 +8,55 @@ use Rattle.cp_model.specs.Skeleton.{Skeleton}
 use Rattle.cp_model.specs.Homomorphism.{Embeds}
 use Rattle.cp_skel.specs.View.{skeleton_view}
 use Rattle.cp_derive.specs.Unrealised.{ListsUnrealised}
-use Rattle.cp_fingerprint.specs.Fingerprints.{traits_of}
+use Rattle.cp_fingerprint.specs.Signatures.{signature_of}
 use Rattle.cp_shapes.specs.Shapes.{EmbedsAt}
-use Rattle.cp_general.specs.Generalisation.{IsMostGeneral}
-use Rattle.cp_tree.specs.Made.{Way, Reaches, MayPointTo}
+use Rattle.cp_general.specs.Generalisation.{IsMaximallyGeneral}
+use Rattle.cp_tree.specs.Made.{LabelLink, Reaches, MayPointTo}
 use Rattle.cp_tree.specs.Made as plain
 use Rattle.cp_search.specs.declared.made.Made.{Made}
 use Rattle.cp_search.specs.LeastNumber.{FindsLeast}
-use Rattle.cp_search.specs.MadeLabels.{made_way, made_view, IsFound, AreFound, MayBeSeen, AddsMade}
-use Rattle.cp_search.proofs.Ways.{finds_alike, skeleton_of, still_found}
+use Rattle.cp_search.specs.MadeLabels.{made_link, made_view, IsFound, AreFound, MayBeSeen, AddsMade}
+use Rattle.cp_search.proofs.Links.{finds_alike, skeleton_of, still_found}
 
 module _ (ms : List Made) (x : Made) where
-  abbrev ways : List Way
-  ways = map made_way ms
+  abbrev links : List LabelLink
+  links = map made_link ms
 
-  abbrev after : List Way
-  after = map made_way (ms ++ x ∷ [])
+  abbrev after : List LabelLink
+  after = map made_link (ms ++ x ∷ [])
 
-  pub ways_after : map made_way (ms ++ x ∷ []) ≡ map made_way ms ++ made_way x ∷ []
-  ways_after = map-append made_way ms (x ∷ [])
+  pub links_after : map made_link (ms ++ x ∷ []) ≡ map made_link ms ++ made_link x ∷ []
+  links_after = map-append made_link ms (x ∷ [])
 
-  pub ways_before : take (length ms) (map made_way (ms ++ x ∷ [])) ≡ map made_way ms
-  ways_before =
-      ap (λ (n : ℕ). take n after) (sym (length-map ms made_way))
-      ∙ (ap (take (length ways)) ways_after ∙ take-append_seam ways (made_way x ∷ []))
+  pub links_before : take (length ms) (map made_link (ms ++ x ∷ [])) ≡ map made_link ms
+  links_before =
+      ap (λ (n : ℕ). take n after) (sym (length-map ms made_link))
+      ∙ (ap (take (length links)) links_after ∙ take-append_seam links (made_link x ∷ []))
 
-  way_at : (n : ℕ) (m : Made) → item_at ms n ≡ Some m → item_at (map skeleton_of after) n ≡ Some (skeleton_view m.skeleton)
-  way_at n m at = map_of_item skeleton_of after n (made_way m) (map_of_item made_way (ms ++ x ∷ []) n m (item_still ms (x ∷ []) n m at))
+  link_at : (n : ℕ) (m : Made) → item_at ms n ≡ Some m → item_at (map skeleton_of after) n ≡ Some (skeleton_view m.skeleton)
+  link_at n m at = map_of_item skeleton_of after n (made_link m) (map_of_item made_link (ms ++ x ∷ []) n m (item_still ms (x ∷ []) n m at))
 
-  pub own_way : item_at (map made_way (ms ++ x ∷ [])) (length ms) ≡ Some (made_way x)
-  own_way = map_of_item made_way (ms ++ x ∷ []) (length ms) x (item_last ms x)
+  pub own_way : item_at (map made_link (ms ++ x ∷ [])) (length ms) ≡ Some (made_link x)
+  own_way = map_of_item made_link (ms ++ x ∷ []) (length ms) x (item_last ms x)
 
   own_skeleton : item_at (map skeleton_of after) (length ms) ≡ Some (skeleton_view x.skeleton)
-  own_skeleton = map_of_item skeleton_of after (length ms) (made_way x) own_way
+  own_skeleton = map_of_item skeleton_of after (length ms) (made_link x) own_way
 
   as_pointing : (n : ℕ) → MayBeSeen ms x.parent (skeleton_view x.skeleton) n → MayPointTo after (length ms) n
   as_pointing n h = record {
     earlier = item_below ms n h.other h.at;
-    embeds = record { first = skeleton_view h.other.skeleton; second = skeleton_view x.skeleton; at_first = way_at n h.other h.at; at_second = own_skeleton; embeds = h.isomorphic.0 };
-    embeds_back = record { first = skeleton_view x.skeleton; second = skeleton_view h.other.skeleton; at_first = own_skeleton; at_second = way_at n h.other h.at; embeds = h.isomorphic.1 };
+    embeds = record { first = skeleton_view h.other.skeleton; second = skeleton_view x.skeleton; at_first = link_at n h.other h.at; at_second = own_skeleton; embeds = h.isomorphic.0 };
+    embeds_back = record { first = skeleton_view x.skeleton; second = skeleton_view h.other.skeleton; at_first = own_skeleton; at_second = link_at n h.other h.at; embeds = h.isomorphic.1 };
     no_return = λ w p at parent reaches.
         let own = own_way in
-        let same : made_way x ≡ w = cc in
-        let from : x.parent ≡ Some p = ap (λ (v : Way). v.parent) same ∙ parent in
-        h.allowed p from (subst (λ (vs : List Way). Reaches vs n p) ways_before reaches);
+        let same : made_link x ≡ w = cc in
+        let from : x.parent ≡ Some p = ap (λ (v : LabelLink). v.parent) same ∙ parent in
+        h.allowed p from (subst (λ (vs : List LabelLink). Reaches vs n p) links_before reaches);
   }
 
   isomorphic_of : (n : ℕ) (other : Made) → item_at ms n ≡ Some other → (h : EmbedsAt (map skeleton_of after) n (length ms)) → Embeds (skeleton_view other.skeleton) (skeleton_view x.skeleton)
   isomorphic_of n other at h =
-      let first_is = way_at n other at in
+      let first_is = link_at n other at in
       let second_is = own_skeleton in
       let given_first : item_at (map skeleton_of after) n ≡ Some h.first = h.at_first in
       let given_second : item_at (map skeleton_of after) (length ms) ≡ Some h.second = h.at_second in
@@ -66,7 +66,7 @@ module _ (ms : List Made) (x : Made) where
 
   back_of : (n : ℕ) (other : Made) → item_at ms n ≡ Some other → (h : EmbedsAt (map skeleton_of after) (length ms) n) → Embeds (skeleton_view x.skeleton) (skeleton_view other.skeleton)
   back_of n other at h =
-      let second_is = way_at n other at in
+      let second_is = link_at n other at in
       let first_is = own_skeleton in
       let given_first : item_at (map skeleton_of after) (length ms) ≡ Some h.first = h.at_first in
       let given_second : item_at (map skeleton_of after) n ≡ Some h.second = h.at_second in
@@ -80,12 +80,12 @@ module _ (ms : List Made) (x : Made) where
       record {
         other = other.0;
         at = other.1;
-        allowed = λ p from reaches. h.no_return (made_way x) p own_way from (subst (λ (vs : List Way). Reaches vs n p) (sym ways_before) reaches);
+        allowed = λ p from reaches. h.no_return (made_link x) p own_way from (subst (λ (vs : List LabelLink). Reaches vs n p) (sym links_before) reaches);
         isomorphic = (isomorphic_of n other.0 other.1 h.embeds, back_of n other.0 other.1 h.embeds_back);
       }
 
   -- The first allowed copy is the first label to which one may point.
-  pub points_to_first : (found : Option ℕ) → FindsLeast (MayBeSeen ms x.parent (skeleton_view x.skeleton)) found → FindsLeast (MayPointTo (map made_way (ms ++ x ∷ [])) (length ms)) found
+  pub points_to_first : (found : Option ℕ) → FindsLeast (MayBeSeen ms x.parent (skeleton_view x.skeleton)) found → FindsLeast (MayPointTo (map made_link (ms ++ x ∷ [])) (length ms)) found
   points_to_first = finds_alike (MayBeSeen ms x.parent (skeleton_view x.skeleton)) (MayPointTo after (length ms)) as_pointing as_seen
 
   module _ (found : AreFound ms) where
@@ -93,14 +93,14 @@ module _ (ms : List Made) (x : Made) where
     earlier_found i m at =
         let one = found.each i m at in
         let l : i < length ms = item_below ms i m at in
-        let n : length ways ≡ length ms = length-map ms made_way in
-        let within : i < length ways = omega arith in
+        let n : length links ≡ length ms = length-map ms made_link in
+        let within : i < length links = omega arith in
         record {
-          fingerprint = one.fingerprint;
+          signature = one.signature;
           dead_none = one.dead_none;
           dead_unseen = one.dead_unseen;
           listed = one.listed;
-          seen = λ lives. subst (λ (vs : List Way). FindsLeast (MayPointTo vs i) m.seen_in) (sym ways_after) (still_found ways (made_way x) i within m.seen_in (one.seen lives));
+          seen = λ lives. subst (λ (vs : List LabelLink). FindsLeast (MayPointTo vs i) m.seen_in) (sym links_after) (still_found links (made_link x) i within m.seen_in (one.seen lives));
           general = one.general;
         }
 
@@ -128,15 +128,15 @@ module _ (ms : List Made) (x : Made) where
         later = λ i p m at e. each_later i p m (item_of_push ms x i m at) e;
       }
 
-module _ (old : List Made) (x : Made) (new : List Made) (behind : new ≡ old ++ x ∷ []) (found : AreFound old) (m : plain.Made) (same : made_view x ≡ m) (fingerprint : x.fingerprint ≡ traits_of (skeleton_view x.skeleton)) where
-  adds_one : IsFound (map made_way (old ++ x ∷ [])) (length old) x → IfSome x.parent (λ p. p < length old) → AddsMade m old new
+module _ (old : List Made) (x : Made) (new : List Made) (behind : new ≡ old ++ x ∷ []) (found : AreFound old) (m : plain.Made) (same : made_view x ≡ m) (signature : x.signature ≡ signature_of (skeleton_view x.skeleton)) where
+  adds_one : IsFound (map made_link (old ++ x ∷ [])) (length old) x → IfSome x.parent (λ p. p < length old) → AddsMade m old new
   adds_one own later = record { added = x; behind = behind; same = same; found = subst AreFound (sym behind) (all_found old x found own later) }
 
   -- A label that may live is made.
   pub makes_one : IfSome x.parent (λ p. p < length old) → x.dead ≡ false → FindsLeast (MayBeSeen old x.parent (skeleton_view x.skeleton)) x.seen_in →
-      ListsUnrealised (skeleton_view x.skeleton) x.unrealised.items → (x.general ≡ true → IsMostGeneral (skeleton_view x.skeleton)) → AddsMade m old new
+      ListsUnrealised (skeleton_view x.skeleton) x.unrealised.items → (x.general ≡ true → IsMaximallyGeneral (skeleton_view x.skeleton)) → AddsMade m old new
   makes_one later lives least listed general = adds_one (record {
-    fingerprint = fingerprint;
+    signature = signature;
     dead_none = λ dead. absurd (cc);
     dead_unseen = λ dead. absurd (cc);
     listed = λ _. listed;
@@ -147,7 +147,7 @@ module _ (old : List Made) (x : Made) (new : List Made) (behind : new ≡ old ++
   -- One that is dead from the start is made.
   pub makes_dead : x.parent ≡ None → x.dead ≡ true → x.seen_in ≡ None → x.unrealised.items ≡ [] → x.general ≡ false → AddsMade m old new
   makes_dead root dead unseen none unknown = adds_one (record {
-    fingerprint = fingerprint;
+    signature = signature;
     dead_none = λ _. none;
     dead_unseen = λ _. unseen;
     listed = λ lives. absurd (cc);

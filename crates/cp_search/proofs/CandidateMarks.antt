@@ -8,7 +8,7 @@ use Rattle.cp_model.specs.Skeleton.{Skeleton}
 use Rattle.cp_model.specs.Tree.{Mark}
 use Rattle.cp_skel.specs.Trees.{mark_view}
 use Rattle.cp_skel.specs.declared.tree.Mark.{Mark as ProgramMark}
-use Rattle.cp_shapes.specs.Shapes.{IsMarkOf, AreMarksOf}
+use Rattle.cp_shapes.specs.Shapes.{IsMarkOf, AreShapeMarksOf}
 use Rattle.cp_shapes.proofs.Gathered.{AreTo, next_row}
 use Rattle.cp_tree.specs.Candidates.{Candidate, skeletons_of, IsLabelAt}
 use Rattle.cp_tree.specs.Searched.{IsMarkedAmong, as_shape, as_instance}
@@ -51,7 +51,7 @@ module _ (cs : List Candidate) where
         let k : length numbers ≡ length (map (λ (c : Candidate). c.number) cs) = ap length numbers_are in
         omega (arith, l, m, n, k)
 
-    module _ (given : List Skeleton) (g : given ≡ skeletons_of cs) (shapes : List (Option ℕ)) (are : AreMarksOf given shapes) where
+    module _ (given : List Skeleton) (g : given ≡ skeletons_of cs) (shapes : List (Option ℕ)) (are : AreShapeMarksOf given shapes) where
       same_count : length shapes ≡ length cs
       same_count = are.count ∙ (ap length g ∙ length-map cs (λ (c : Candidate). c.skeleton))
 

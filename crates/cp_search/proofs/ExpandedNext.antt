@@ -1,4 +1,4 @@
--- The next label is settled by its expansion.
+-- The next label is resolved by its expansion.
 use Rattle.std.proofs.Common.{◌≡◌, ◌≢◌, ℕ, ◌+◌, ◌<◌, ◌≤◌, List, [], ◌∷◌, ◌++◌, length, map, false, Option, Some, None, sym, ap, subst, ◌∙◌, refl, arith}
 use Rattle.std.proofs.lemmas.List.{length-map}
 use Rattle.cp_lists.specs.Lists.{item_at, IsIn}
@@ -13,25 +13,25 @@ use Rattle.cp_model.proofs.Numbers.{numbers_length}
 use Rattle.cp_strand.specs.View.{strand_view}
 use Rattle.cp_skel.specs.View.{skeleton_view}
 use Rattle.cp_skel.specs.Trees.{variables_view, test_view}
-use Rattle.cp_covering.specs.Children.{Child}
+use Rattle.cp_cohort.specs.CoveringChildren.{Child}
 use Rattle.cp_expansion.specs.Expansion.{Expansion, IsExpansionOf}
 use Rattle.cp_tree.specs.Made as plain
-use Rattle.cp_tree.specs.Made.{Way, way_of, seen_in_of, MayPointTo, IsNew}
+use Rattle.cp_tree.specs.Made.{LabelLink, link_of, seen_in_of, MayPointTo, IsNew}
 use Rattle.cp_tree.specs.Sound.{IsSoundMade, ExpandsSoundly}
-use Rattle.cp_tree.specs.Searched.{mark_by, Becomes, is_tested}
+use Rattle.cp_tree.specs.Searched.{mark_by_children, Becomes, is_tested}
 use Rattle.cp_search.specs.declared.made.Made.{Made}
-use Rattle.cp_search.specs.declared.settled.Settled.{Settled}
-use Rattle.cp_search.specs.declared.settled.Settled.TheVariants as settled
-use Rattle.cp_search.specs.declared.settled.Expanded.{Expanded}
+use Rattle.cp_search.specs.declared.resolved.Resolved.{Resolved}
+use Rattle.cp_search.specs.declared.resolved.Resolved.TheVariants as settled
+use Rattle.cp_search.specs.declared.resolved.Expanded.{Expanded}
 use Rattle.cp_search.specs.LeastNumber.{FindsLeast}
-use Rattle.cp_search.specs.MadeLabels.{made_view, made_way, IsFound, AreFound, AddMade}
-use Rattle.cp_search.specs.SettledLabels.{expanded_label, IsToExpand, IsOpenMark, AreSoundMade, ExpandsLabel, IsSearched}
-use Rattle.cp_search.proofs.OneMoreSettled.{numbers_of_map}
-use Rattle.cp_search.proofs.SettledNext.{settled_next}
-use Rattle.cp_search.proofs.SettledLeaves.{some_unrealised}
+use Rattle.cp_search.specs.MadeLabels.{made_view, made_link, IsFound, AreFound, AddMade}
+use Rattle.cp_search.specs.ResolvedLabels.{expanded_label, IsToExpand, IsOpenMark, AreSoundMade, ExpandsLabel, IsSearched}
+use Rattle.cp_search.proofs.OneMoreResolved.{numbers_of_map}
+use Rattle.cp_search.proofs.ResolvedNext.{resolved_next}
+use Rattle.cp_search.proofs.ResolvedLeaves.{some_unrealised}
 use Rattle.cp_search.proofs.SoundBehind.{sound_behind}
 
-marked_unseen : (children : List ℕ) → seen_in_of (mark_by children) ≡ None
+marked_unseen : (children : List ℕ) → seen_in_of (mark_by_children children) ≡ None
 marked_unseen [] = refl
 marked_unseen (n ∷ ns) = refl
 
@@ -42,14 +42,14 @@ module _ (protocol : Protocol) (limits : Limits) (i n : ℕ) (old new : List Mad
   abbrev m : Made
   m = x.label
 
-  abbrev ways : List Way
-  ways = map made_way old
+  abbrev links : List LabelLink
+  links = map made_link old
 
-  found_here : IsFound ways i m
+  found_here : IsFound links i m
   found_here = found.each i m x.at
 
-  is_new : IsNew ways i
-  is_new = subst (FindsLeast (MayPointTo ways i)) expands.new (found_here.seen expands.lives)
+  is_new : IsNew links i
+  is_new = subst (FindsLeast (MayPointTo links i)) expands.new (found_here.seen expands.lives)
 
   few_strands : length (skeleton_view m.skeleton).strands ≤ limits.strands
   few_strands = let l : length m.skeleton.strands ≤ limits.strands = expands.strands in let k = length-map m.skeleton.strands strand_view in omega (arith, l, k)
@@ -57,12 +57,12 @@ module _ (protocol : Protocol) (limits : Limits) (i n : ℕ) (old new : List Mad
   as_many : length e.children.items ≡ length x.children
   as_many = ap length x.numbers ∙ numbers_length (length old) x.children
 
-  becomes : Becomes protocol limits ways IsOpenMark i n (made_view m) (expanded_label m e) (map made_view x.made.added)
-  becomes = subst (Becomes protocol limits ways IsOpenMark i n (made_view m) (expanded_label m e)) (sym x.made.same)
+  becomes : Becomes protocol limits links IsOpenMark i n (made_view m) (expanded_label m e) (map made_view x.made.added)
+  becomes = subst (Becomes protocol limits links IsOpenMark i n (made_view m) (expanded_label m e)) (sym x.made.same)
       (is_tested {e = record { test = test_view e.test; variables = variables_view e.skeleton.variables; patterns = e.patterns.items; children = x.children }} expands.lives is_new (found_here.listed expands.lives)
       (some_unrealised (skeleton_view m.skeleton) m.unrealised.items expands.unrealised (found_here.listed expands.lives)) few_strands expands.steps x.expansion as_many)
 
-  way : way_of (expanded_label m e) ≡ made_way m
+  way : link_of (expanded_label m e) ≡ made_link m
   way = ap (λ (o : Option ℕ). record { parent = m.parent; seen_in = o; skeleton = skeleton_view m.skeleton }) (marked_unseen e.children.items ∙ sym expands.new)
 
   own_numbers : e.children.items ≡ numbers_from (length old) x.made.added
@@ -71,7 +71,7 @@ module _ (protocol : Protocol) (limits : Limits) (i n : ℕ) (old new : List Mad
       x.numbers ∙ (sym (numbers_of_map f (length old) x.children) ∙ (ap (numbers_from (length old)) (sym x.made.same) ∙ numbers_of_map made_view (length old) x.made.added))
 
 -- A search in which one label more is expanded.
-pub expanded_next : (protocol : Protocol) (limits : Limits) (roots : List plain.Made) (old new : List Made) (ss : List Settled) (n : ℕ) (e : Expanded) (label : Made) → IsSearched protocol limits roots old ss n → item_at old (length ss) ≡ Some label → IsToExpand limits label n
+pub expanded_next : (protocol : Protocol) (limits : Limits) (roots : List plain.Made) (old new : List Made) (ss : List Resolved) (n : ℕ) (e : Expanded) (label : Made) → IsSearched protocol limits roots old ss n → item_at old (length ss) ≡ Some label → IsToExpand limits label n
     → (x : ExpandsLabel protocol (length ss) old new e) → IsSearched protocol limits roots new (ss ++ settled.Expanded e ∷ []) (n + 1)
 expanded_next protocol limits roots old new ss n e label r at to x =
     let one : Some label ≡ Some x.label = sym at ∙ x.at in
@@ -79,16 +79,16 @@ expanded_next protocol limits roots old new ss n e label r at to x =
     let expands = subst (λ (m : Made). IsToExpand limits m n) same to in
     let fewer : n < limits.steps = to.steps in
     let behind = x.made.behind in
-    let next = settled_next protocol limits roots old ss n r x.label x.at x.made.added (settled.Expanded e) (subst AreFound behind x.made.found) (subst (AreSoundMade protocol) behind x.sound)
+    let next = resolved_next protocol limits roots old ss n r x.label x.at x.made.added (settled.Expanded e) (subst AreFound behind x.made.found) (subst (AreSoundMade protocol) behind x.sound)
     (λ f q. let is : e ≡ f = same_expanded e f q in ap (λ (y : Expanded). skeleton_view y.skeleton) (sym is) ∙ x.same)
     (way protocol limits (length ss) n old new e x r.found expands) (becomes protocol limits (length ss) n old new e x r.found expands) (own_numbers protocol limits (length ss) n old new e x r.found expands) (omega (arith, fewer)) in
     subst (λ (ms : List Made). IsSearched protocol limits roots ms (ss ++ settled.Expanded e ∷ []) (n + 1)) (sym behind) next
 
-pub expanded_pushed : (protocol : Protocol) (limits : Limits) (roots : List plain.Made) (old new : List Made) (ss : List Settled) (i n : ℕ) (e : Expanded) (label : Made) → IsSearched protocol limits roots old ss n → item_at old (length ss) ≡ Some label → IsToExpand limits label n
-    → i ≡ length ss → ExpandsLabel protocol i old new e → (then : List Settled) → then ≡ ss ++ settled.Expanded e ∷ [] → (count : ℕ) → count ≡ n + 1 → IsSearched protocol limits roots new then count
+pub expanded_pushed : (protocol : Protocol) (limits : Limits) (roots : List plain.Made) (old new : List Made) (ss : List Resolved) (i n : ℕ) (e : Expanded) (label : Made) → IsSearched protocol limits roots old ss n → item_at old (length ss) ≡ Some label → IsToExpand limits label n
+    → i ≡ length ss → ExpandsLabel protocol i old new e → (then : List Resolved) → then ≡ ss ++ settled.Expanded e ∷ [] → (count : ℕ) → count ≡ n + 1 → IsSearched protocol limits roots new then count
 expanded_pushed protocol limits roots old new ss i n e label r at to same x then pushed count counted =
     let next = expanded_next protocol limits roots old new ss n e label r at to (subst (λ (k : ℕ). ExpandsLabel protocol k old new e) same x) in
-    subst (λ (k : ℕ). IsSearched protocol limits roots new then k) (sym counted) (subst (λ (xs : List Settled). IsSearched protocol limits roots new xs (n + 1)) (sym pushed) next)
+    subst (λ (k : ℕ). IsSearched protocol limits roots new then k) (sym counted) (subst (λ (xs : List Resolved). IsSearched protocol limits roots new xs (n + 1)) (sym pushed) next)
 
 -- What is there when a label is expanded.
 pub found_to_expand : (limits : Limits) (i n : ℕ) (ms : List Made) → AreFound ms → (label m : Made) → item_at ms i ≡ Some label → IsToExpand limits label n → item_at ms i ≡ Some m → (m.dead ≡ false) × (m.unrealised.items ≢ [])

@@ -7,15 +7,15 @@ use Rattle.cp_model.specs.Realisation.{AllDerivable}
 use Rattle.cp_model.specs.Tree.{Mark, dead, seen, Test, Label, Limits, is_expanded}
 use Rattle.cp_skel.specs.View.{skeleton_view}
 use Rattle.cp_tree.specs.Candidates.{Candidate, IsCandidate, CandidatesFrom}
-use Rattle.cp_tree.specs.Made.{Made, Way, way_of, seen_in_of}
-use Rattle.cp_tree.specs.Searched.{Becomes, is_dead, is_seen, is_realised, is_generalised, above_bound, at_limit, is_tested, AreSettled, all_settled, then_settled, children_of}
+use Rattle.cp_tree.specs.Made.{Made, LabelLink, link_of, seen_in_of}
+use Rattle.cp_tree.specs.Searched.{Becomes, is_dead, is_seen, is_realised, is_generalised, above_bound, at_limit, is_tested, AreResolved, all_settled, then_settled, children_of}
 use Rattle.cp_tree.proofs.MarksSay.{not_both}
 use Rattle.cp_search.specs.declared.made.Made as program
-use Rattle.cp_search.specs.declared.settled.Settled.{Settled}
-use Rattle.cp_search.specs.declared.settled.Settled.TheVariants as settled
+use Rattle.cp_search.specs.declared.resolved.Resolved.{Resolved}
+use Rattle.cp_search.specs.declared.resolved.Resolved.TheVariants as settled
 use Rattle.cp_search.specs.Candidates.{open_from}
 use Rattle.cp_search.specs.TreeLabels.{labels_with}
-use Rattle.cp_search.specs.SettledLabels.{settled_labels, IsOpenMark}
+use Rattle.cp_search.specs.ResolvedLabels.{resolved_labels, IsOpenMark}
 
 -- The mark of the label is open.
 pub record IsOpenLabel (l : Label) : Type 0 where
@@ -47,7 +47,7 @@ abbrev pub open_labels : ℕ → List Label → List Candidate
 open_labels i [] = []
 open_labels i (l ∷ ls) = candidate_or_none i l (open_labels (suc i) ls)
 
-pub open_ones : (n : ℕ) (ms : List program.Made) (ss : List Settled) → open_labels n (settled_labels ms ss) ≡ open_from n ms ss
+pub open_ones : (n : ℕ) (ms : List program.Made) (ss : List Resolved) → open_labels n (resolved_labels ms ss) ≡ open_from n ms ss
 open_ones n [] ss = refl
 open_ones n (m ∷ ms) [] = refl
 open_ones n (m ∷ ms) (settled.Leaf None ∷ ss) = ap (λ (cs : List Candidate). record { number = n; skeleton = skeleton_view m.skeleton } ∷ cs) (open_ones (suc n) ms ss)
@@ -56,8 +56,8 @@ open_ones n (m ∷ ms) (settled.Generalised child ∷ ss) = open_ones (suc n) ms
 open_ones n (m ∷ ms) (settled.Expanded e ∷ ss) = open_ones (suc n) ms ss
 
 module _ (marks : ℕ → Option Mark → Type 0) where
-  pub marks_taken : (n : ℕ) (ms : List program.Made) (ss : List Settled) (given : List Mark) → length given ≡ length (open_from n ms ss)
-      → ((p : ℕ) (c : Candidate) (mark : Mark) → item_at (open_from n ms ss) p ≡ Some c → item_at given p ≡ Some mark → marks c.number (Some mark)) → TakeMarks marks n (settled_labels ms ss) (labels_with ms ss given)
+  pub marks_taken : (n : ℕ) (ms : List program.Made) (ss : List Resolved) (given : List Mark) → length given ≡ length (open_from n ms ss)
+      → ((p : ℕ) (c : Candidate) (mark : Mark) → item_at (open_from n ms ss) p ≡ Some c → item_at given p ≡ Some mark → marks c.number (Some mark)) → TakeMarks marks n (resolved_labels ms ss) (labels_with ms ss given)
   marks_taken n [] ss given count each = tt
   marks_taken n (m ∷ ms) [] given count each = tt
   marks_taken n (m ∷ ms) (settled.Leaf None ∷ ss) [] count each = absurd (omega (arith, count))
@@ -82,24 +82,24 @@ module _ (marks : ℕ → Option Mark → Type 0) where
   children_still i (l ∷ ls) (n ∷ ns) t = ap (λ (xs : List ℕ). xs ++ children_of ns) (same_children i l n t.0) ∙ ap (λ (xs : List ℕ). l.children ++ xs) (children_still (suc i) ls ns t.1)
 
   module _ (unseen : (i : ℕ) (mark : Mark) → marks i (Some mark) → seen_in_of (Some mark) ≡ None) where
-    same_way : (i : ℕ) (l n : Label) → TakesMark marks i l n → way_of n ≡ way_of l
-    same_way i l n (inl t) = ap way_of (sym t.1)
-    same_way i l n (inr t) =
-        ap way_of (sym t.1.2)
+    same_link : (i : ℕ) (l n : Label) → TakesMark marks i l n → link_of n ≡ link_of l
+    same_link i l n (inl t) = ap link_of (sym t.1)
+    same_link i l n (inr t) =
+        ap link_of (sym t.1.2)
         ∙ ap (λ (o : Option ℕ). record { parent = l.parent; seen_in = o; skeleton = l.skeleton }) (unseen i t.1.0 t.1.1 ∙ sym (ap seen_in_of t.0.unmarked))
 
-    pub ways_still : (i : ℕ) (ls ns : List Label) → TakeMarks marks i ls ns → map way_of ns ≡ map way_of ls
-    ways_still i [] [] t = refl
-    ways_still i [] (n ∷ ns) t = absurd t
-    ways_still i (l ∷ ls) [] t = absurd t
-    ways_still i (l ∷ ls) (n ∷ ns) t = ap (λ (w : Way). w ∷ map way_of ns) (same_way i l n t.0) ∙ ap (λ (ws : List Way). way_of l ∷ ws) (ways_still (suc i) ls ns t.1)
+    pub links_still : (i : ℕ) (ls ns : List Label) → TakeMarks marks i ls ns → map link_of ns ≡ map link_of ls
+    links_still i [] [] t = refl
+    links_still i [] (n ∷ ns) t = absurd t
+    links_still i (l ∷ ls) [] t = absurd t
+    links_still i (l ∷ ls) (n ∷ ns) t = ap (λ (w : LabelLink). w ∷ map link_of ns) (same_link i l n t.0) ∙ ap (λ (ws : List LabelLink). link_of l ∷ ws) (links_still (suc i) ls ns t.1)
 
-  module _ (protocol : Protocol) (limits : Limits) (ways : List Way) where
+  module _ (protocol : Protocol) (limits : Limits) (links : List LabelLink) where
     abbrev Before : ℕ → ℕ → Made → Label → List Made → Type 0
-    Before = Becomes protocol limits ways IsOpenMark
+    Before = Becomes protocol limits links IsOpenMark
 
     abbrev After : ℕ → ℕ → Made → Label → List Made → Type 0
-    After = Becomes protocol limits ways marks
+    After = Becomes protocol limits links marks
 
     -- ---- what becomes of labels
 
@@ -123,13 +123,13 @@ module _ (marks : ℕ → Option Mark → Type 0) where
     same_count i l n (inl t) = ap (λ (x : Label). is_expanded x.test) t.1
     same_count i l n (inr t) = ap (λ (x : Label). is_expanded x.test) t.1.2
 
-    pub settled_marked : (i before : ℕ) (made : List Made) (labels news : List Label) (given : List Made) → AreSettled protocol limits ways IsOpenMark i before made labels given → TakeMarks marks i labels news → AreSettled protocol limits ways marks i before made news given
-    settled_marked i before made labels [] given all_settled t = all_settled
-    settled_marked i before made labels (n ∷ ns) given all_settled t = absurd t
-    settled_marked i before made labels [] given (then_settled b s) t = absurd t
-    settled_marked i before made labels (n ∷ ns) given (then_settled {m = m} {l = l} {made = ms} {labels = ls} {from_this = fs} {from_others = gs} b s) t =
+    pub resolved_marked : (i before : ℕ) (made : List Made) (labels news : List Label) (given : List Made) → AreResolved protocol limits links IsOpenMark i before made labels given → TakeMarks marks i labels news → AreResolved protocol limits links marks i before made news given
+    resolved_marked i before made labels [] given all_settled t = all_settled
+    resolved_marked i before made labels (n ∷ ns) given all_settled t = absurd t
+    resolved_marked i before made labels [] given (then_settled b s) t = absurd t
+    resolved_marked i before made labels (n ∷ ns) given (then_settled {m = m} {l = l} {made = ms} {labels = ls} {from_this = fs} {from_others = gs} b s) t =
         let counted : before + is_expanded l.test ≡ before + is_expanded n.test = ap (λ (k : ℕ). before + k) (same_count i l n t.0) in
-        then_settled (becomes_marked i before m l n fs b t.0) (subst (λ (k : ℕ). AreSettled protocol limits ways marks (suc i) k ms ns gs) counted (settled_marked (suc i) (before + is_expanded l.test) ms ls ns gs s t.1))
+        then_settled (becomes_marked i before m l n fs b t.0) (subst (λ (k : ℕ). AreResolved protocol limits links marks (suc i) k ms ns gs) counted (resolved_marked (suc i) (before + is_expanded l.test) ms ls ns gs s t.1))
 
     -- ---- candidates
 
@@ -174,7 +174,7 @@ module _ (marks : ℕ → Option Mark → Type 0) where
       put_pick i l n ls ns (inl p) rest = inl (p.0, (open_labels (suc i) ls, p.1, rest))
       put_pick i l n ls ns (inr p) rest = inr (p.0, subst (Are (suc i) ns) (sym p.1) rest)
 
-      pub candidates_are : (i before : ℕ) (made : List Made) (labels news : List Label) (given : List Made) → AreSettled protocol limits ways IsOpenMark i before made labels given → TakeMarks marks i labels news → Are i news (open_labels i labels)
+      pub candidates_are : (i before : ℕ) (made : List Made) (labels news : List Label) (given : List Made) → AreResolved protocol limits links IsOpenMark i before made labels given → TakeMarks marks i labels news → Are i news (open_labels i labels)
       candidates_are i before made labels [] given all_settled t = refl
       candidates_are i before made labels (n ∷ ns) given all_settled t = absurd t
       candidates_are i before made labels [] given (then_settled b s) t = absurd t

@@ -1,4 +1,4 @@
--- The tree of a search that has settled all labels.
+-- The tree of a search that has resolved all labels.
 use Rattle.std.proofs.Common.{◌≡◌, ◌≢◌, ℕ, ◌<◌, List, ◌++◌, length, map, take, Option, Some, None, sym, ap, subst, ◌∙◌, refl, arith}
 use Rattle.std.proofs.lemmas.List.{length-map, take_all}
 use Rattle.cp_lists.specs.Lists.{item_at, IsIn}
@@ -17,16 +17,16 @@ use Rattle.cp_roots.specs.RootView.{root_view}
 use Rattle.cp_roots.specs.declared.root.Root.{Root}
 use Rattle.cp_tree.specs.Candidates.{Candidate, IsCandidate, CandidatesFrom, AreCandidates}
 use Rattle.cp_tree.specs.Made as plain
-use Rattle.cp_tree.specs.Made.{made_of_root, Way, way_of, seen_in_of}
-use Rattle.cp_tree.specs.Searched.{AreSettled, IsMarkedAmong, as_shape, as_instance, HasOutcome, IsTreeFrom}
+use Rattle.cp_tree.specs.Made.{made_of_root, LabelLink, link_of, seen_in_of}
+use Rattle.cp_tree.specs.Searched.{AreResolved, IsMarkedAmong, as_shape, as_instance, HasOutcome, IsTreeFrom}
 use Rattle.cp_search.specs.declared.made.Made.{Made}
-use Rattle.cp_search.specs.declared.settled.Settled.{Settled}
+use Rattle.cp_search.specs.declared.resolved.Resolved.{Resolved}
 use Rattle.cp_search.specs.Candidates.{open_from}
 use Rattle.cp_search.specs.TreeLabels.{labels_with, AreCandidateMarks}
-use Rattle.cp_search.specs.MadeLabels.{made_view, made_way}
+use Rattle.cp_search.specs.MadeLabels.{made_view, made_link}
 use Rattle.cp_search.specs.Roots.{root_made}
-use Rattle.cp_search.specs.SettledLabels.{settled_labels, AreSoundRoots, IsSearched}
-use Rattle.cp_search.proofs.FinalLabels.{TakeMarks, marks_taken, children_still, ways_still, settled_marked, candidates_are, open_ones}
+use Rattle.cp_search.specs.ResolvedLabels.{resolved_labels, AreSoundRoots, IsSearched}
+use Rattle.cp_search.proofs.FinalLabels.{TakeMarks, marks_taken, children_still, links_still, resolved_marked, candidates_are, open_ones}
 
 -- ---- marks of candidates
 
@@ -53,7 +53,7 @@ as_made variables roots named =
 
 -- ---- the tree
 
-module _ (protocol : Protocol) (limits : Limits) (roots : List Root) (ms : List Made) (ss : List Settled) (n : ℕ) (r : IsSearched protocol limits (map root_made roots) ms ss n) (all : length ss ≡ length ms)
+module _ (protocol : Protocol) (limits : Limits) (roots : List Root) (ms : List Made) (ss : List Resolved) (n : ℕ) (r : IsSearched protocol limits (map root_made roots) ms ss n) (all : length ss ≡ length ms)
     (marks : List Mark) (are : AreCandidateMarks (open_from 0 ms ss) marks) where
   abbrev cs : List Candidate
   cs = open_from 0 ms ss
@@ -62,7 +62,7 @@ module _ (protocol : Protocol) (limits : Limits) (roots : List Root) (ms : List 
   labels = labels_with ms ss marks
 
   abbrev olds : List Label
-  olds = settled_labels ms ss
+  olds = resolved_labels ms ss
 
   given : TakeMarks (IsMarkedAmong cs) 0 olds labels
   given = marks_taken (IsMarkedAmong cs) 0 ms ss marks are.count are.each
@@ -70,32 +70,32 @@ module _ (protocol : Protocol) (limits : Limits) (roots : List Root) (ms : List 
   whole : {B : Type 0} (f : Made → B) → take (length ss) (map f ms) ≡ map f ms
   whole f = take_all (length ss) (map f ms) (let e = length-map ms f in omega (arith, e, all))
 
-  same_ways : map way_of labels ≡ map made_way ms
-  same_ways = ways_still (IsMarkedAmong cs) (λ i mark is. never_seen_in cs i (Some mark) is) 0 olds labels given ∙ (r.ways ∙ whole made_way)
+  same_links : map link_of labels ≡ map made_link ms
+  same_links = links_still (IsMarkedAmong cs) (λ i mark is. never_seen_in cs i (Some mark) is) 0 olds labels given ∙ (r.links ∙ whole made_link)
 
   candidates_so : AreCandidates labels cs
   candidates_so = subst (CandidatesFrom IsCandidate (λ (l : Label). l.skeleton) 0 labels) (open_ones 0 ms ss)
-      (candidates_are (IsMarkedAmong cs) protocol limits (map made_way ms) (λ i mark is e. never_dead cs i (Some mark) is (ap Some e)) (λ i k mark is e. never_seen cs i k (Some mark) is (ap Some e))
+      (candidates_are (IsMarkedAmong cs) protocol limits (map made_link ms) (λ i mark is e. never_dead cs i (Some mark) is (ap Some e)) (λ i k mark is e. never_seen cs i k (Some mark) is (ap Some e))
       0 0 (take (length ss) (map made_view ms)) olds labels r.children r.become given)
 
   module _ (variables : List Declaration) (named : (root : Root) → IsIn root roots → variables_view root.skeleton.variables ≡ variables) where
     all_made : take (length ss) (map made_view ms) ≡ map (made_of_root variables) (map root_view roots) ++ r.children
     all_made = whole made_view ∙ (r.all_made ∙ ap (λ (xs : List plain.Made). xs ++ r.children) (as_made variables roots named))
 
-    settled : AreSettled protocol limits (map way_of labels) (IsMarkedAmong cs) 0 0 (map (made_of_root variables) (map root_view roots) ++ r.children) labels r.children
+    settled : AreResolved protocol limits (map link_of labels) (IsMarkedAmong cs) 0 0 (map (made_of_root variables) (map root_view roots) ++ r.children) labels r.children
     settled =
-        let marked = settled_marked (IsMarkedAmong cs) protocol limits (map made_way ms) 0 0 (take (length ss) (map made_view ms)) olds labels r.children r.become given in
-        subst (λ (ws : List Way). AreSettled protocol limits ws (IsMarkedAmong cs) 0 0 (map (made_of_root variables) (map root_view roots) ++ r.children) labels r.children) (sym same_ways)
-        (subst (λ (xs : List plain.Made). AreSettled protocol limits (map made_way ms) (IsMarkedAmong cs) 0 0 xs labels r.children) all_made marked)
+        let marked = resolved_marked (IsMarkedAmong cs) protocol limits (map made_link ms) 0 0 (take (length ss) (map made_view ms)) olds labels r.children r.become given in
+        subst (λ (ws : List LabelLink). AreResolved protocol limits ws (IsMarkedAmong cs) 0 0 (map (made_of_root variables) (map root_view roots) ++ r.children) labels r.children) (sym same_links)
+        (subst (λ (xs : List plain.Made). AreResolved protocol limits (map made_link ms) (IsMarkedAmong cs) 0 0 xs labels r.children) all_made marked)
 
     as_many : length (map root_made roots) ≡ length (map root_view roots)
     as_many = length-map roots root_made ∙ sym (length-map roots root_view)
 
     parents_before : (i j : ℕ) (l : Label) → item_at labels j ≡ Some l → l.parent ≡ Some i → i < j
     parents_before i j l at parent =
-        let m = item_of_map made_way ms j (way_of l) (ap (λ (ws : List Way). item_at ws j) (sym same_ways) ∙ map_of_item way_of labels j l at) in
-        let same : made_way m.0 ≡ way_of l = m.2 in
-        r.found.later j i m.0 m.1 (ap (λ (w : Way). w.parent) same ∙ parent)
+        let m = item_of_map made_link ms j (link_of l) (ap (λ (ws : List LabelLink). item_at ws j) (sym same_links) ∙ map_of_item link_of labels j l at) in
+        let same : made_link m.0 ≡ link_of l = m.2 in
+        r.found.later j i m.0 m.1 (ap (λ (w : LabelLink). w.parent) same ∙ parent)
 
     found_tree : (outcome : Outcome) → HasOutcome labels outcome → IsTreeFrom protocol variables limits (map root_view roots) (record { labels = labels; outcome = outcome })
     found_tree outcome ends = record {

@@ -18,11 +18,11 @@ use Rattle.cp_expansion.specs.declared.expansion.Expansion as expansions
 use Rattle.cp_tree.specs.Made as plain
 use Rattle.cp_tree.specs.Sound.{ExpandsSoundly}
 use Rattle.cp_search.specs.declared.made.Made.{Made}
-use Rattle.cp_search.specs.declared.settled.Expanded.{Expanded}
+use Rattle.cp_search.specs.declared.resolved.Expanded.{Expanded}
 use Rattle.cp_search.specs.MadeLabels.{AddMade}
-use Rattle.cp_search.specs.SettledLabels.{ExpandsLabel, AreSoundMade}
+use Rattle.cp_search.specs.ResolvedLabels.{ExpandsLabel, AreSoundMade}
 use Rattle.cp_search.proofs.ExpandedNext.{children_sound}
-use Rattle.cp_search.proofs.OneMoreSettled.{numbers_of_map}
+use Rattle.cp_search.proofs.OneMoreResolved.{numbers_of_map}
 
 pub some_unrealised : (k : Skeleton) (ns : List Node) → ListsUnrealised k ns → ns ≢ [] → IsUnrealised k
 some_unrealised k [] lists some = absurd (some refl)

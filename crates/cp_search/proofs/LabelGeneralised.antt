@@ -9,17 +9,17 @@ use Rattle.cp_model.specs.Tree.{by_generalising}
 use Rattle.cp_model.specs.Data.{Declared, SkeletonData}
 use Rattle.cp_skel.specs.View.{skeleton_view}
 use Rattle.cp_skel.specs.Trees.{variables_view}
-use Rattle.cp_general.specs.Generalisation.{IsMostGeneral, GeneralisesTo, last_step, next_step}
+use Rattle.cp_general.specs.Generalisation.{IsMaximallyGeneral, GeneralisesTo, last_step, next_step}
 use Rattle.cp_tree.specs.Made.{made_of_generalisation}
 use Rattle.cp_tree.specs.Sound.{IsSoundMade, GeneralisesSoundly}
 use Rattle.cp_search.specs.declared.made.Made.{Made}
 use Rattle.cp_search.specs.MadeLabels.{made_view, AddsMade, AddsGeneral, AreFound}
-use Rattle.cp_search.specs.SettledLabels.{AreSoundMade}
+use Rattle.cp_search.specs.ResolvedLabels.{AreSoundMade}
 use Rattle.cp_search.specs.GeneralLabels.{GeneralisesLabel}
 use Rattle.cp_search.proofs.SoundBehind.{sound_behind}
 
 -- No step applies to what a skeleton generalises to.
-pub ends_most_general : {k g : Skeleton} → GeneralisesTo k g → IsMostGeneral g
+pub ends_most_general : {k g : Skeleton} → GeneralisesTo k g → IsMaximallyGeneral g
 ends_most_general (last_step s most) = most
 ends_most_general (next_step s rest) = ends_most_general rest
 
@@ -32,8 +32,8 @@ pub known_own : (i : ℕ) (ms : List Made) (label : Made) → item_at ms i ≡ S
 known_own i ms label at found known = (record { label = label; at = at; most_general = (found.each i label at).general known }, refl)
 
 -- So is one of which nothing more general is found.
-pub found_own : (i : ℕ) (ms : List Made) (label : Made) → item_at ms i ≡ Some label → (o : Option SkeletonData) → IfNone o (IsMostGeneral (skeleton_view label.skeleton)) → o ≡ None → GeneralisesLabel i ms ms None
-found_own i ms label at o none e = (record { label = label; at = at; most_general = subst (λ (x : Option SkeletonData). IfNone x (IsMostGeneral (skeleton_view label.skeleton))) e none }, refl)
+pub found_own : (i : ℕ) (ms : List Made) (label : Made) → item_at ms i ≡ Some label → (o : Option SkeletonData) → IfNone o (IsMaximallyGeneral (skeleton_view label.skeleton)) → o ≡ None → GeneralisesLabel i ms ms None
+found_own i ms label at o none e = (record { label = label; at = at; most_general = subst (λ (x : Option SkeletonData). IfNone x (IsMaximallyGeneral (skeleton_view label.skeleton))) e none }, refl)
 
 -- What is made of the generalisation of a label is sound where all labels before are.
 generalisation_sound : (protocol : Protocol) (i : ℕ) (old new : List Made) (label : Made) (g : Skeleton) → item_at old i ≡ Some label → GeneralisesTo (skeleton_view label.skeleton) g → AddsMade (made_of_generalisation i (variables_view label.skeleton.variables) g) old new

@@ -5,7 +5,7 @@ use Rattle.std.proofs.lemmas.Bool.Decides.{nat_tests}
 use Rattle.cp_lists.specs.Lists.{item_at, IsIn, here, there}
 use Rattle.cp_lists.proofs.Members.{head_or_behind}
 use Rattle.cp_search.specs.declared.made.Made.{Made}
-use Rattle.cp_search.specs.LabelsByNumber.{with_sharing, shown}
+use Rattle.cp_search.specs.LabelsByNumber.{with_key, shown}
 
 -- ---- one more label
 
@@ -25,17 +25,17 @@ module _ {V : Type 0} (show : V → List ℕ) (s n : ℕ) (old between new : ℕ
           ap (λ o. shown o show) now
 
 pub with_one_more : (q i : ℕ) (ms : List Made) (m : Made) (n : ℕ) → n ≡ i + length ms
-    → (if nat_eq m.fingerprint.sharing q then with_sharing q i ms ++ n ∷ [] else with_sharing q i ms) ≡ with_sharing q i (ms ++ m ∷ [])
-with_one_more q i [] m n e = by (nat_eq m.fingerprint.sharing q)
+    → (if nat_eq m.signature.bucket_key q then with_key q i ms ++ n ∷ [] else with_key q i ms) ≡ with_key q i (ms ++ m ∷ [])
+with_one_more q i [] m n e = by (nat_eq m.signature.bucket_key q)
   where
     by : (b : Bool) → (if b then n ∷ [] else []) ≡ (if b then i ∷ [] else [])
     by true = let same : n ≡ i = omega (arith, e) in ap (λ k. k ∷ []) same
     by false = refl
-with_one_more q i (l ∷ ms) m n e = by (nat_eq l.fingerprint.sharing q) (nat_eq m.fingerprint.sharing q) (with_one_more q (suc i) ms m n (omega (arith, e)))
+with_one_more q i (l ∷ ms) m n e = by (nat_eq l.signature.bucket_key q) (nat_eq m.signature.bucket_key q) (with_one_more q (suc i) ms m n (omega (arith, e)))
   where
-    by : (b c : Bool) → (if c then with_sharing q (suc i) ms ++ n ∷ [] else with_sharing q (suc i) ms) ≡ with_sharing q (suc i) (ms ++ m ∷ [])
-        → (if c then (if b then i ∷ with_sharing q (suc i) ms else with_sharing q (suc i) ms) ++ n ∷ [] else (if b then i ∷ with_sharing q (suc i) ms else with_sharing q (suc i) ms))
-        ≡ (if b then i ∷ with_sharing q (suc i) (ms ++ m ∷ []) else with_sharing q (suc i) (ms ++ m ∷ []))
+    by : (b c : Bool) → (if c then with_key q (suc i) ms ++ n ∷ [] else with_key q (suc i) ms) ≡ with_key q (suc i) (ms ++ m ∷ [])
+        → (if c then (if b then i ∷ with_key q (suc i) ms else with_key q (suc i) ms) ++ n ∷ [] else (if b then i ∷ with_key q (suc i) ms else with_key q (suc i) ms))
+        ≡ (if b then i ∷ with_key q (suc i) (ms ++ m ∷ []) else with_key q (suc i) (ms ++ m ∷ []))
     by true true h = ap (λ ns. i ∷ ns) h
     by true false h = ap (λ ns. i ∷ ns) h
     by false true h = h
@@ -49,43 +49,43 @@ pub record IsListed (q i : ℕ) (ms : List Made) (n : ℕ) : Type 0 where
   pub stands : n ≡ i + place
   pub label : Made
   pub at : item_at ms place ≡ Some label
-  pub number : label.fingerprint.sharing ≡ q
+  pub number : label.signature.bucket_key ≡ q
 
 listed_later : (q i : ℕ) (l : Made) (ms : List Made) (n : ℕ) → IsListed q (suc i) ms n → IsListed q i (l ∷ ms) n
 listed_later q i l ms n h = let p : ℕ = h.place in let e : n ≡ suc i + p = h.stands in record { place = suc p; stands = omega (arith, e); label = h.label; at = h.at; number = h.number }
 
-is_listed : (q i : ℕ) (ms : List Made) (n : ℕ) → IsIn n (with_sharing q i ms) → IsListed q i ms n
+is_listed : (q i : ℕ) (ms : List Made) (n : ℕ) → IsIn n (with_key q i ms) → IsListed q i ms n
 is_listed q i [] n m = elim m [ ]
-is_listed q i (l ∷ ms) n m = by (nat_eq l.fingerprint.sharing q) refl (λ h. listed_later q i l ms n (is_listed q (suc i) ms n h)) m
+is_listed q i (l ∷ ms) n m = by (nat_eq l.signature.bucket_key q) refl (λ h. listed_later q i l ms n (is_listed q (suc i) ms n h)) m
   where
-    by : (b : Bool) → nat_eq l.fingerprint.sharing q ≡ b → (IsIn n (with_sharing q (suc i) ms) → IsListed q i (l ∷ ms) n) → IsIn n (if b then i ∷ with_sharing q (suc i) ms else with_sharing q (suc i) ms) → IsListed q i (l ∷ ms) n
+    by : (b : Bool) → nat_eq l.signature.bucket_key q ≡ b → (IsIn n (with_key q (suc i) ms) → IsListed q i (l ∷ ms) n) → IsIn n (if b then i ∷ with_key q (suc i) ms else with_key q (suc i) ms) → IsListed q i (l ∷ ms) n
     by true e later h = ⊎_elim first later (head_or_behind h)
       where
         first : n ≡ i → IsListed q i (l ∷ ms) n
-        first same = let number : l.fingerprint.sharing ≡ q = grind (arith, nat_tests) in record { place = 0; stands = omega (arith, same); label = l; at = refl; number = number }
+        first same = let number : l.signature.bucket_key ≡ q = grind (arith, nat_tests) in record { place = 0; stands = omega (arith, same); label = l; at = refl; number = number }
     by false e later h = later h
 
 -- Each label with the number is listed.
-listed : (q i : ℕ) (ms : List Made) (j : ℕ) (m : Made) → item_at ms j ≡ Some m → m.fingerprint.sharing ≡ q → IsIn (i + j) (with_sharing q i ms)
+listed : (q i : ℕ) (ms : List Made) (j : ℕ) (m : Made) → item_at ms j ≡ Some m → m.signature.bucket_key ≡ q → IsIn (i + j) (with_key q i ms)
 listed q i [] j m at e = absurd (cc)
 listed q i (l ∷ ms) zero m at e =
     let same : l ≡ m = cc in
-    let number : l.fingerprint.sharing ≡ q = ap (λ (x : Made). x.fingerprint.sharing) same ∙ e in
-    let test : nat_eq l.fingerprint.sharing q ≡ true = grind (arith, nat_tests) in
+    let number : l.signature.bucket_key ≡ q = ap (λ (x : Made). x.signature.bucket_key) same ∙ e in
+    let test : nat_eq l.signature.bucket_key q ≡ true = grind (arith, nat_tests) in
     let first : i ≡ i + 0 = omega arith in
-    subst (λ (b : Bool). IsIn (i + 0) (if b then i ∷ with_sharing q (suc i) ms else with_sharing q (suc i) ms)) (sym test) (subst (λ (k : ℕ). IsIn k (i ∷ with_sharing q (suc i) ms)) first here)
+    subst (λ (b : Bool). IsIn (i + 0) (if b then i ∷ with_key q (suc i) ms else with_key q (suc i) ms)) (sym test) (subst (λ (k : ℕ). IsIn k (i ∷ with_key q (suc i) ms)) first here)
 listed q i (l ∷ ms) (suc j) m at e =
     let next : suc i + j ≡ i + suc j = omega arith in
-    behind (nat_eq l.fingerprint.sharing q) (subst (λ (k : ℕ). IsIn k (with_sharing q (suc i) ms)) next (listed q (suc i) ms j m at e))
+    behind (nat_eq l.signature.bucket_key q) (subst (λ (k : ℕ). IsIn k (with_key q (suc i) ms)) next (listed q (suc i) ms j m at e))
   where
-    behind : (b : Bool) → IsIn (i + suc j) (with_sharing q (suc i) ms) → IsIn (i + suc j) (if b then i ∷ with_sharing q (suc i) ms else with_sharing q (suc i) ms)
+    behind : (b : Bool) → IsIn (i + suc j) (with_key q (suc i) ms) → IsIn (i + suc j) (if b then i ∷ with_key q (suc i) ms else with_key q (suc i) ms)
     behind true h = there h
     behind false h = h
 
-pub there_listed : (q : ℕ) (ms : List Made) (j : ℕ) (m : Made) → item_at ms j ≡ Some m → m.fingerprint.sharing ≡ q → IsIn j (with_sharing q 0 ms)
-there_listed q ms j m at e = let same : 0 + j ≡ j = omega arith in subst (λ (k : ℕ). IsIn k (with_sharing q 0 ms)) same (listed q 0 ms j m at e)
+pub there_listed : (q : ℕ) (ms : List Made) (j : ℕ) (m : Made) → item_at ms j ≡ Some m → m.signature.bucket_key ≡ q → IsIn j (with_key q 0 ms)
+there_listed q ms j m at e = let same : 0 + j ≡ j = omega arith in subst (λ (k : ℕ). IsIn k (with_key q 0 ms)) same (listed q 0 ms j m at e)
 
-pub listed_there : (q : ℕ) (ms : List Made) (n : ℕ) → IsIn n (with_sharing q 0 ms) → (m : Made) × (item_at ms n ≡ Some m)
+pub listed_there : (q : ℕ) (ms : List Made) (n : ℕ) → IsIn n (with_key q 0 ms) → (m : Made) × (item_at ms n ≡ Some m)
 listed_there q ms n m =
     let h = is_listed q 0 ms n m in
     let p : ℕ = h.place in
@@ -100,11 +100,11 @@ abbrev pub AreAscending : List ℕ → Type 0
 AreAscending [] = Unit {0}
 AreAscending (n ∷ ns) = ((m : ℕ) → IsIn m ns → n < m) × AreAscending ns
 
-pub are_ascending : (q i : ℕ) (ms : List Made) → AreAscending (with_sharing q i ms)
+pub are_ascending : (q i : ℕ) (ms : List Made) → AreAscending (with_key q i ms)
 are_ascending q i [] = tt
-are_ascending q i (l ∷ ms) = by (nat_eq l.fingerprint.sharing q) (are_ascending q (suc i) ms)
+are_ascending q i (l ∷ ms) = by (nat_eq l.signature.bucket_key q) (are_ascending q (suc i) ms)
   where
-    by : (b : Bool) → AreAscending (with_sharing q (suc i) ms) → AreAscending (if b then i ∷ with_sharing q (suc i) ms else with_sharing q (suc i) ms)
+    by : (b : Bool) → AreAscending (with_key q (suc i) ms) → AreAscending (if b then i ∷ with_key q (suc i) ms else with_key q (suc i) ms)
     by true h = (λ m j. let p = is_listed q (suc i) ms m j in let k : ℕ = p.place in let e : m ≡ suc i + k = p.stands in omega (arith, e), h)
     by false h = h
 

@@ -13,32 +13,32 @@ use Rattle.cp_skel.specs.declared.tree.Mark.TheVariants.{Shape, Dead, Seen, Inst
 use Rattle.cp_skel.specs.declared.tree.TreeNode.{TreeNode}
 use Rattle.cp_tree.specs.Searched.{IsMarked}
 use Rattle.cp_search.specs.declared.made.Made.{Made}
-use Rattle.cp_search.specs.declared.settled.Settled.{Settled}
-use Rattle.cp_search.specs.declared.settled.Settled.TheVariants as settled
-use Rattle.cp_search.specs.declared.settled.Expanded.{Expanded}
+use Rattle.cp_search.specs.declared.resolved.Resolved.{Resolved}
+use Rattle.cp_search.specs.declared.resolved.Resolved.TheVariants as settled
+use Rattle.cp_search.specs.declared.resolved.Expanded.{Expanded}
 use Rattle.cp_search.specs.TreeLabels.{label_with, labels_with}
-use Rattle.cp_search.specs.SettledLabels.{AreExpandedOf}
+use Rattle.cp_search.specs.ResolvedLabels.{AreExpandedOf}
 
 -- The labels so far with those of the rest are all; of the rests, the marks alone are kept last first.
-pub record AreLabelledSoFar (all : List Label) (labels : List TreeNode) (ms : List Made) (ss : List Settled) (marks : List Mark) : Type 0 where
+pub record AreLabelledSoFar (all : List Label) (labels : List TreeNode) (ms : List Made) (ss : List Resolved) (marks : List Mark) : Type 0 where
   pub told : map label_view labels ++ labels_with ms ss (map mark_view (reverse marks)) ≡ all
   pub same : AreExpandedOf ms ss
 
-module _ (all : List Label) (labels : List TreeNode) (ms ms' : List Made) (ss ss' : List Settled) (marks : List Mark) (m : Made) (s : Settled) (so_far : AreLabelledSoFar all labels ms ss marks) (m_first : ms ≡ m ∷ ms') (s_first : ss ≡ s ∷ ss') where
+module _ (all : List Label) (labels : List TreeNode) (ms ms' : List Made) (ss ss' : List Resolved) (marks : List Mark) (m : Made) (s : Resolved) (so_far : AreLabelledSoFar all labels ms ss marks) (m_first : ms ≡ m ∷ ms') (s_first : ss ≡ s ∷ ss') where
   both : AreExpandedOf (m ∷ ms') (s ∷ ss')
-  both = subst (λ (xs : List Settled). AreExpandedOf (m ∷ ms') xs) s_first (subst (λ (xs : List Made). AreExpandedOf xs ss) m_first so_far.same)
+  both = subst (λ (xs : List Resolved). AreExpandedOf (m ∷ ms') xs) s_first (subst (λ (xs : List Made). AreExpandedOf xs ss) m_first so_far.same)
 
   pub same_here : (e : Expanded) → s ≡ settled.Expanded e → skeleton_view e.skeleton ≡ skeleton_view m.skeleton
   same_here e is = both 0 m e refl (ap (λ x. Some x) is)
 
   pub next_labelled : (mark : Option Mark) (marks' : List Mark)
-      → ((x : Made) (xs : List Made) (ys : List Settled) → labels_with (x ∷ xs) (s ∷ ys) (map mark_view (reverse marks)) ≡ label_with x s (option_map mark_view mark) ∷ labels_with xs ys (map mark_view (reverse marks')))
+      → ((x : Made) (xs : List Made) (ys : List Resolved) → labels_with (x ∷ xs) (s ∷ ys) (map mark_view (reverse marks)) ≡ label_with x s (option_map mark_view mark) ∷ labels_with xs ys (map mark_view (reverse marks')))
       → (t : TreeNode) → label_view t ≡ label_with m s (option_map mark_view mark) → (new : List TreeNode) → new ≡ labels ++ t ∷ [] → AreLabelledSoFar all new ms' ss' marks'
   next_labelled mark marks' marked t is new pushed =
       let rest = labels_with ms' ss' (map mark_view (reverse marks')) in
       let taken : labels_with ms ss (map mark_view (reverse marks)) ≡ label_view t ∷ rest =
       ap (λ (xs : List Made). labels_with xs ss (map mark_view (reverse marks))) m_first
-      ∙ (ap (λ (xs : List Settled). labels_with (m ∷ ms') xs (map mark_view (reverse marks))) s_first
+      ∙ (ap (λ (xs : List Resolved). labels_with (m ∷ ms') xs (map mark_view (reverse marks))) s_first
       ∙ (marked m ms' ss' ∙ ap (λ (l : Label). l ∷ rest) (sym is))) in
       record {
         told =

@@ -12,7 +12,7 @@ use Rattle.cp_search.specs.declared.label_search.Search.{Search}
 use Rattle.cp_search.specs.Candidates.{open_from}
 use Rattle.cp_search.specs.TreeLabels.{labels_with, AreCandidateMarks}
 use Rattle.cp_search.specs.Roots.{root_made}
-use Rattle.cp_search.specs.SettledLabels.{HasSearched}
+use Rattle.cp_search.specs.ResolvedLabels.{HasSearched}
 use Rattle.cp_search.proofs.FoundTrees.{is_tree}
 
 pub if_made : {E : Type 0} (protocol : Protocol) (variables : List Declaration) (limits : Limits) (roots : List Root) (s : Search) → HasSearched protocol limits (map root_made roots) s → length s.settled.items ≡ length s.made

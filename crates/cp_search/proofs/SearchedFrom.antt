@@ -1,4 +1,4 @@
--- A search before its first label is settled.
+-- A search before its first label is resolved.
 use Rattle.std.proofs.Common.{◌≡◌, List, [], map, sym, ap, subst, ◌∙◌, arith}
 use Rattle.std.proofs.lemmas.List.{append-nil}
 use Rattle.cp_lists.specs.Lists.{item_at}
@@ -7,15 +7,15 @@ use Rattle.cp_model.specs.Strand.{Protocol}
 use Rattle.cp_model.specs.Tree.{Label, Limits, expanded_count}
 use Rattle.cp_roots.specs.declared.root.Root.{Root}
 use Rattle.cp_tree.specs.Made as plain
-use Rattle.cp_tree.specs.Made.{way_of}
+use Rattle.cp_tree.specs.Made.{link_of}
 use Rattle.cp_tree.specs.Sound.{IsSoundMade}
-use Rattle.cp_tree.specs.Searched.{AreSettled, all_settled, children_of}
+use Rattle.cp_tree.specs.Searched.{AreResolved, all_settled, children_of}
 use Rattle.cp_search.specs.declared.made.Made.{Made}
-use Rattle.cp_search.specs.declared.settled.Settled.{Settled}
-use Rattle.cp_search.specs.MadeLabels.{made_view, made_way, AddMade}
+use Rattle.cp_search.specs.declared.resolved.Resolved.{Resolved}
+use Rattle.cp_search.specs.MadeLabels.{made_view, made_link, AddMade}
 use Rattle.cp_search.specs.Roots.{root_made}
-use Rattle.cp_search.specs.SettledLabels.{IsOpenMark, AreSoundMade, AreSoundRoots, IsSearched}
-use Rattle.cp_search.proofs.SettledNext.{no_labels}
+use Rattle.cp_search.specs.ResolvedLabels.{IsOpenMark, AreSoundMade, AreSoundRoots, IsSearched}
+use Rattle.cp_search.proofs.ResolvedNext.{no_labels}
 use Rattle.cp_search.proofs.SoundBehind.{for_the_same}
 
 module _ (protocol : Protocol) (limits : Limits) (roots : List Root) (ms : List Made) (a : AddMade (map root_made roots) [] ms) (sound : AreSoundRoots protocol roots) where
@@ -30,8 +30,8 @@ module _ (protocol : Protocol) (limits : Limits) (roots : List Root) (ms : List 
       let same : root_made r.0 ≡ made_view m = r.2 in
       subst (IsSoundMade protocol sound.problem) same (sound.each r.0 (at_place roots i r.0 r.1)))
 
-  none_settled : IsSearched protocol limits (map root_made roots) ms [] 0
-  none_settled =
+  none_resolved : IsSearched protocol limits (map root_made roots) ms [] 0
+  none_resolved =
       let none = sym (no_labels ms) in
       record {
         children = [];
@@ -40,12 +40,12 @@ module _ (protocol : Protocol) (limits : Limits) (roots : List Root) (ms : List 
         sound = are_sound;
         same = λ i m e at there. absurd (cc);
         within = omega arith;
-        ways = ap (map way_of) (no_labels ms);
-        become = subst (λ (ls : List Label). AreSettled protocol limits (map made_way ms) IsOpenMark 0 0 [] ls []) none all_settled;
+        links = ap (map link_of) (no_labels ms);
+        become = subst (λ (ls : List Label). AreResolved protocol limits (map made_link ms) IsOpenMark 0 0 [] ls []) none all_settled;
         numbers = ap children_of (no_labels ms);
         counted = ap expanded_count (no_labels ms);
         within_steps = omega arith;
       }
 
-  pub searched_first : (ss : List Settled) → ss ≡ [] → IsSearched protocol limits (map root_made roots) ms ss 0
-  searched_first ss e = subst (λ (xs : List Settled). IsSearched protocol limits (map root_made roots) ms xs 0) (sym e) none_settled
+  pub searched_first : (ss : List Resolved) → ss ≡ [] → IsSearched protocol limits (map root_made roots) ms ss 0
+  searched_first ss e = subst (λ (xs : List Resolved). IsSearched protocol limits (map root_made roots) ms xs 0) (sym e) none_resolved

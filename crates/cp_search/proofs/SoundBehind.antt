@@ -7,7 +7,7 @@ use Rattle.cp_model.specs.Skeleton.{Skeleton}
 use Rattle.cp_tree.specs.Sound.{IsSoundMade}
 use Rattle.cp_search.specs.declared.made.Made.{Made}
 use Rattle.cp_search.specs.MadeLabels.{made_view}
-use Rattle.cp_search.specs.SettledLabels.{ForOneProblem, AreSoundMade}
+use Rattle.cp_search.specs.ResolvedLabels.{ForOneProblem, AreSoundMade}
 
 -- Something else that is true for the same problem.
 pub for_the_same : {protocol : Protocol} {P Q : Skeleton → Type 0} (s : ForOneProblem protocol P) → Q s.problem → ForOneProblem protocol Q

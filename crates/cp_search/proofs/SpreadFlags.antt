@@ -8,7 +8,7 @@ use Rattle.cp_lists.proofs.Members.{in_cases, not_in_none}
 use Rattle.cp_lists.proofs.Fronts.{all_written}
 use Rattle.cp_search.specs.declared.graph.Edge.{Edge}
 use Rattle.cp_search.specs.LeastNumber.{IsFlagged}
-use Rattle.cp_search.specs.Graph.{HasEdge, Leads, AreWithin, IsClosed, unflagged}
+use Rattle.cp_search.specs.Graph.{HasEdge, Leads, AreWithin, IsClosedBackward, unflagged}
 
 -- What was spread along the edges in front of the rest: flags stay, what is flagged leads where all that was flagged led, and
 -- where nothing new was flagged the edges so far are closed.
@@ -128,12 +128,12 @@ module _ (edges : List Edge) (old new : List Bool) (is_new : Bool) (i n : ℕ) (
         falls = λ _. omega arith;
       }
 
-pub all_spread : (edges : List Edge) (old new : List Bool) (is_new : Bool) → IsSpread edges [] old new is_new → is_new ≡ false → IsClosed edges new
+pub all_spread : (edges : List Edge) (old new : List Bool) (is_new : Bool) → IsSpread edges [] old new is_new → is_new ≡ false → IsClosedBackward edges new
 all_spread edges old new is_new so_far e x listed = ⊎_elim (λ left. absurd (not_in_none left)) (λ (h : IsFlagged new x.to → IsFlagged new x.from). h) (so_far.closed e x listed)
 
 -- ---- until nothing is new
 
-module _ (edges : List Edge) (flags : List Bool) (target : ℕ) (at_target : IsFlagged flags target) (closed : IsClosed edges flags) where
+module _ (edges : List Edge) (flags : List Bool) (target : ℕ) (at_target : IsFlagged flags target) (closed : IsClosedBackward edges flags) where
   closed_at : (i j : ℕ) → HasEdge edges i j → IsFlagged flags j → IsFlagged flags i
   closed_at i j e h = subst (IsFlagged flags) e.from (closed e.edge e.listed (subst (IsFlagged flags) (sym e.to) h))
 
@@ -194,7 +194,7 @@ module _ (edges : List Edge) (count target : ℕ) (old given new : List Bool) (l
     })
 
     -- Where nothing is new they are all that lead to the target.
-    pub all_leading : IsClosed edges new → (n : ℕ) → IsFlagged (take len (new ++ drop (length new) old)) n ↔ Leads edges n target
+    pub all_leading : IsClosedBackward edges new → (n : ℕ) → IsFlagged (take len (new ++ drop (length new) old)) n ↔ Leads edges n target
     all_leading closed =
         subst (λ (fs : List Bool). (n : ℕ) → IsFlagged fs n ↔ Leads edges n target) (sym written)
         (all_flagged edges new target (kept target given_target) closed (reach target given_reach))

@@ -6,19 +6,19 @@ use Rattle.cp_model.specs.Skeleton.{Skeleton}
 use Rattle.cp_skel.specs.View.{skeleton_view}
 use Rattle.cp_skel.specs.Trees.{variables_view}
 use Rattle.cp_skel.specs.declared.tree.Mark.{Mark}
-use Rattle.cp_general.specs.Generalisation.{IsMostGeneral, GeneralisesTo}
+use Rattle.cp_general.specs.Generalisation.{IsMaximallyGeneral, GeneralisesTo}
 use Rattle.cp_tree.specs.Made.{made_of_generalisation}
 use Rattle.cp_search.specs.declared.made.Made.{Made}
-use Rattle.cp_search.specs.declared.settled.Settled.{Settled}
-use Rattle.cp_search.specs.declared.settled.Settled.TheVariants as settled
+use Rattle.cp_search.specs.declared.resolved.Resolved.{Resolved}
+use Rattle.cp_search.specs.declared.resolved.Resolved.TheVariants as settled
 use Rattle.cp_search.specs.MadeLabels.{AddsMade, AddsGeneral}
-use Rattle.cp_search.specs.SettledLabels.{AreSoundMade}
+use Rattle.cp_search.specs.ResolvedLabels.{AreSoundMade}
 
 -- No step of generalising applies to label i.
 pub record IsOwnGeneralisation (i : ℕ) (ms : List Made) : Type 0 where
   pub label : Made
   pub at : item_at ms i ≡ Some label
-  pub most_general : IsMostGeneral (skeleton_view label.skeleton)
+  pub most_general : IsMaximallyGeneral (skeleton_view label.skeleton)
 
 -- What label i generalises to is made behind the other labels, and known to generalise no further. It is sound where these are.
 pub record Generalises (i : ℕ) (old new : List Made) : Type 0 where
@@ -38,7 +38,7 @@ GeneralisesLabel i old new (Some child) = Generalises i old new × (child ≡ le
 
 -- What becomes of label i where it is not expanded: a leaf with this mark; where that is open no step of generalising applies to
 -- the label, and else it generalises to one that is made behind the others.
-abbrev pub SettlesAs : ℕ → List Made → List Made → Option Mark → Settled → Type 0
-SettlesAs i old new mark (settled.Leaf own) = (own ≡ mark) × (new ≡ old) × (mark ≡ None → IsOwnGeneralisation i old)
-SettlesAs i old new mark (settled.Generalised child) = (mark ≡ None) × (child ≡ length old) × Generalises i old new
-SettlesAs i old new mark (settled.Expanded e) = ⊥
+abbrev pub ResolvesAs : ℕ → List Made → List Made → Option Mark → Resolved → Type 0
+ResolvesAs i old new mark (settled.Leaf own) = (own ≡ mark) × (new ≡ old) × (mark ≡ None → IsOwnGeneralisation i old)
+ResolvesAs i old new mark (settled.Generalised child) = (mark ≡ None) × (child ≡ length old) × Generalises i old new
+ResolvesAs i old new mark (settled.Expanded e) = ⊥

@@ -24,8 +24,8 @@ abbrev pub AreWithin : ℕ → List Edge → Type 0
 AreWithin count edges = (e : Edge) → IsIn e edges → (e.from < count) × (e.to < count)
 
 -- What leads to a flagged number is flagged.
-abbrev pub IsClosed : List Edge → List Bool → Type 0
-IsClosed edges flags = (e : Edge) → IsIn e edges → IsFlagged flags e.to → IsFlagged flags e.from
+abbrev pub IsClosedBackward : List Edge → List Bool → Type 0
+IsClosedBackward edges flags = (e : Edge) → IsIn e edges → IsFlagged flags e.to → IsFlagged flags e.from
 
 -- How many are not flagged.
 abbrev pub unflagged : List Bool → ℕ

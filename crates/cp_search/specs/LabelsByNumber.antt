@@ -1,12 +1,12 @@
--- The labels by the numbers of their fingerprints.
+-- The labels by the bucket keys of their signatures.
 use Rattle.std.specs.Prelude.{◌==◌, nat_eq, ℕ, suc, List, [], ◌∷◌, if◌then◌else◌, Option, Some, None}
 use Rattle.std.specs.HashMap.{HashMap, get}
 use Rattle.cp_search.specs.declared.made.Made.{Made}
 
--- The labels whose fingerprints have this number, in ascending order; the first label is number i.
-abbrev pub with_sharing : ℕ → ℕ → List Made → List ℕ
-with_sharing s i [] = []
-with_sharing s i (m ∷ ms) = if m.fingerprint.sharing == s then i ∷ with_sharing s (suc i) ms else with_sharing s (suc i) ms
+-- The labels whose signatures have this bucket key, in ascending order; the first label is number i.
+abbrev pub with_key : ℕ → ℕ → List Made → List ℕ
+with_key s i [] = []
+with_key s i (m ∷ ms) = if m.signature.bucket_key == s then i ∷ with_key s (suc i) ms else with_key s (suc i) ms
 
 abbrev pub shown : {V : Type 0} → Option V → (V → List ℕ) → List ℕ
 shown None show = []

@@ -2,7 +2,7 @@ pub mod LeastNumber
 pub mod Graph
 pub mod MadeLabels
 pub mod Roots
-pub mod SettledLabels
+pub mod ResolvedLabels
 pub mod LabelsByNumber
 pub mod GeneralLabels
 pub mod Candidates

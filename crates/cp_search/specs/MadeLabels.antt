@@ -8,30 +8,30 @@ use Rattle.cp_skel.specs.View.{skeleton_view}
 use Rattle.cp_skel.specs.Trees.{variables_view, operation_view}
 use Rattle.cp_derive.specs.Unrealised.{ListsUnrealised}
 use Rattle.cp_fingerprint.specs.Isomorphic.{IsIsomorphic}
-use Rattle.cp_fingerprint.specs.Fingerprints.{traits_of}
+use Rattle.cp_fingerprint.specs.Signatures.{signature_of}
 use Rattle.cp_tree.specs.Made as plain
-use Rattle.cp_tree.specs.Made.{Way, Reaches, MayPointTo}
+use Rattle.cp_tree.specs.Made.{LabelLink, Reaches, MayPointTo}
 use Rattle.cp_search.specs.declared.made.Made.{Made}
 use Rattle.cp_search.specs.declared.graph.Edge.{Edge}
 use Rattle.cp_search.specs.LeastNumber.{FindsLeast, IsFlagged}
-use Rattle.cp_general.specs.Generalisation.{IsMostGeneral}
+use Rattle.cp_general.specs.Generalisation.{IsMaximallyGeneral}
 
 abbrev pub made_view : Made → plain.Made
 made_view m = record { parent = m.parent; operation = operation_view m.operation; variables = variables_view m.skeleton.variables; skeleton = skeleton_view m.skeleton; dead = m.dead }
 
-abbrev pub made_way : Made → Way
-made_way m = record { parent = m.parent; seen_in = m.seen_in; skeleton = skeleton_view m.skeleton }
+abbrev pub made_link : Made → LabelLink
+made_link m = record { parent = m.parent; seen_in = m.seen_in; skeleton = skeleton_view m.skeleton }
 
 -- The edge is one to this label from the one from which it was made, or from it to the one in which it is seen.
-abbrev pub IsEdgeOf : ℕ → Made → Edge → Type 0
-IsEdgeOf i m e = ((m.parent ≡ Some e.from) × (Some i ≡ Some e.to)) ⊎ ((Some i ≡ Some e.from) × (m.seen_in ≡ Some e.to))
+abbrev pub IsEdgeOfMade : ℕ → Made → Edge → Type 0
+IsEdgeOfMade i m e = ((m.parent ≡ Some e.from) × (Some i ≡ Some e.to)) ⊎ ((Some i ≡ Some e.from) × (m.seen_in ≡ Some e.to))
 
 -- The edge is one of some label.
 pub record IsEdgeOfSome (ms : List Made) (e : Edge) : Type 0 where
   pub number : ℕ
   pub label : Made
   pub at : item_at ms number ≡ Some label
-  pub own : IsEdgeOf number label e
+  pub own : IsEdgeOfMade number label e
 
 -- These are the edges of the labels, and no others.
 abbrev pub AreEdgesOf : List Made → List Edge → Type 0
@@ -41,16 +41,16 @@ AreEdgesOf ms edges = (e : Edge) → IsIn e edges ↔ IsEdgeOfSome ms e
 abbrev pub AreParentsWithin : List Made → ℕ → Type 0
 AreParentsWithin ms n = (i p : ℕ) (m : Made) → item_at ms i ≡ Some m → m.parent ≡ Some p → p ≤ n
 
--- What is found of label i is true, where labels have these ways: of one that is dead from the start no unrealised receptions are
--- listed, and it is seen nowhere; any other is seen in the least label to which it may point; and no step of generalising applies
--- to a general one.
-pub record IsFound (ways : List Way) (i : ℕ) (m : Made) : Type 0 where
-  pub fingerprint : m.fingerprint ≡ traits_of (skeleton_view m.skeleton)
+-- What is found of label i is true, where labels have these links: of one that is dead from the start no unrealised receptions
+-- are listed, and it is seen nowhere; any other is seen in the least label to which it may point; and no step of generalising
+-- applies to a general one.
+pub record IsFound (links : List LabelLink) (i : ℕ) (m : Made) : Type 0 where
+  pub signature : m.signature ≡ signature_of (skeleton_view m.skeleton)
   pub dead_none : m.dead ≡ true → m.unrealised.items ≡ []
   pub dead_unseen : m.dead ≡ true → m.seen_in ≡ None
   pub listed : m.dead ≡ false → ListsUnrealised (skeleton_view m.skeleton) m.unrealised.items
-  pub seen : m.dead ≡ false → FindsLeast (MayPointTo ways i) m.seen_in
-  pub general : m.general ≡ true → IsMostGeneral (skeleton_view m.skeleton)
+  pub seen : m.dead ≡ false → FindsLeast (MayPointTo links i) m.seen_in
+  pub general : m.general ≡ true → IsMaximallyGeneral (skeleton_view m.skeleton)
 
 -- A label is made from one before it, if from any.
 abbrev pub IsMadeLater : List Made → Type 0
@@ -58,12 +58,12 @@ IsMadeLater ms = (i p : ℕ) (m : Made) → item_at ms i ≡ Some m → m.parent
 
 -- What is found of each label is true.
 pub record AreFound (ms : List Made) : Type 0 where
-  pub each : (i : ℕ) (m : Made) → item_at ms i ≡ Some m → IsFound (map made_way ms) i m
+  pub each : (i : ℕ) (m : Made) → item_at ms i ≡ Some m → IsFound (map made_link ms) i m
   pub later : IsMadeLater ms
 
 -- The flags are of the labels from which label p can be reached.
 abbrev pub AreReaching : List Made → ℕ → List Bool → Type 0
-AreReaching ms p flags = (n : ℕ) → IsFlagged flags n ↔ ((n < length ms) × Reaches (map made_way ms) n p)
+AreReaching ms p flags = (n : ℕ) → IsFlagged flags n ↔ ((n < length ms) × Reaches (map made_link ms) n p)
 
 -- Label n is not flagged, and is isomorphic to the skeleton.
 pub record MayBeSeenIn (ms : List Made) (flags : List Bool) (k : Skeleton) (n : ℕ) : Type 0 where
@@ -77,7 +77,7 @@ pub record MayBeSeenIn (ms : List Made) (flags : List Bool) (k : Skeleton) (n : 
 pub record MayBeSeen (ms : List Made) (parent : Option ℕ) (k : Skeleton) (n : ℕ) : Type 0 where
   pub other : Made
   pub at : item_at ms n ≡ Some other
-  pub allowed : (p : ℕ) → parent ≡ Some p → Reaches (map made_way ms) n p → ⊥
+  pub allowed : (p : ℕ) → parent ≡ Some p → Reaches (map made_link ms) n p → ⊥
   pub isomorphic : IsIsomorphic (skeleton_view other.skeleton) k
 
 -- One label more was made, and what is found of it is true.

@@ -6,23 +6,23 @@ ghost use Rattle.cp_search.specs.Candidates.{is_open, open_from, candidate_mark}
 ghost use Rattle.cp_search.specs.TreeLabels.{AreCandidateMarks};
 
 use crate::made::Made;
-use crate::settled::Settled;
+use crate::resolved::Resolved;
 use cp_shapes::shapes;
 use cp_skel::{Mark, Skeleton};
 use std::alloc::{AllocError, Global};
 
 /// Whether the label is a candidate: a leaf without a mark of its own.
-fn is_open(settled: &Settled) -> bool
+fn is_open(settled: &Resolved) -> bool
     ensures { result ≡ is_open settled.now }
 {
     match settled {
-        Settled::Leaf(None) => true,
+        Resolved::Leaf(None) => true,
         _ => false,
     }
 }
 
 /// The numbers of the candidates.
-fn numbers(alloc: Global, made: &[Made], settled: &[Settled]) -> Result<Vec<usize>, AllocError>
+fn numbers(alloc: Global, made: &[Made], settled: &[Resolved]) -> Result<Vec<usize>, AllocError>
     requires { length settled.now ≡ length made.now }
     ensures { IfOk result (λ ns. ns.items ≡ map (λ c. c.number) (open_from 0 made.now settled.now)) }
 {
@@ -40,7 +40,7 @@ fn numbers(alloc: Global, made: &[Made], settled: &[Settled]) -> Result<Vec<usiz
 fn skeletons<'a>(
     alloc: Global,
     made: &'a [Made],
-    settled: &[Settled],
+    settled: &[Resolved],
 ) -> Result<Vec<&'a Skeleton>, AllocError>
     requires { length settled.now ≡ length made.now }
     ensures { IfOk result (λ ks. map (λ k. skeleton_view k.now) ks.items ≡ map (λ c. c.skeleton) (open_from 0 made.now settled.now)) }
@@ -70,7 +70,7 @@ fn candidate_mark(numbers: &[usize], shape: Option<usize>) -> Mark
 pub(crate) fn candidate_marks(
     alloc: Global,
     made: &[Made],
-    settled: &[Settled],
+    settled: &[Resolved],
 ) -> Result<Vec<Mark>, AllocError>
     requires { length settled.now ≡ length made.now }
     ensures { IfOk result (λ marks. AreCandidateMarks (open_from 0 made.now settled.now) (map mark_view marks.items)) }

@@ -2,14 +2,14 @@
 ghost use Rattle.std.specs.Prelude.{◌≡◌, ◌↔◌, ◌<◌, length, IsTrue, IfOk, IfSome};
 ghost use Rattle.cp_lists.specs.Lists.{IsIn};
 ghost use Rattle.cp_skel.specs.View.{skeleton_view};
-ghost use Rattle.cp_fingerprint.specs.Fingerprints.{traits_of};
+ghost use Rattle.cp_fingerprint.specs.Signatures.{signature_of};
 ghost use Rattle.cp_search.specs.LeastNumber.{FindsLeast, IsFlagged};
 ghost use Rattle.cp_search.specs.MadeLabels.{MayBeSeenIn, MayBeSeen, AreFound};
 ghost use Rattle.cp_search.specs.declared.made.Made as program;
 
 use crate::labels::Labels;
 use crate::reachability::reaching;
-use cp_fingerprint::Fingerprint;
+use cp_fingerprint::Signature;
 use cp_hom::isomorphic;
 use cp_skel::Skeleton;
 use std::alloc::{AllocError, Global};
@@ -24,26 +24,26 @@ fn is_flagged(flags: &[bool], number: usize) -> bool
     }
 }
 
-/// The first label that is not flagged and is isomorphic to the skeleton with this fingerprint. Only labels whose fingerprints
-/// have the same number are compared.
+/// The first label that is not flagged and is isomorphic to the skeleton with this signature. Only labels whose signatures
+/// have the same bucket key are compared.
 fn first_copy(
     alloc: Global,
     made: &Labels,
     forbidden: &[bool],
-    fingerprint: &Fingerprint,
+    signature: &Signature,
     skeleton: &Skeleton,
 ) -> Result<Option<usize>, AllocError>
-    requires fingerprint { fingerprint.now ≡ traits_of (skeleton_view skeleton.now) }
-    requires fingerprints { (m : program.Made) → IsIn m made.now → m.fingerprint ≡ traits_of (skeleton_view m.skeleton) }
+    requires signature { signature.now ≡ signature_of (skeleton_view skeleton.now) }
+    requires signatures { (m : program.Made) → IsIn m made.now → m.signature ≡ signature_of (skeleton_view m.skeleton) }
     ensures { IfOk result (FindsLeast (MayBeSeenIn made.now forbidden.now (skeleton_view skeleton.now))) }
 {
-    let alike = made.with_sharing(fingerprint.sharing());
-    for number in alike {
+    let buckets = made.with_key(signature.bucket_key());
+    for number in buckets {
         if is_flagged(forbidden, *number) {
             continue;
         }
         let other = made.label(*number);
-        if !other.fingerprint.may_be_isomorphic(fingerprint) {
+        if !other.signature.may_be_isomorphic(signature) {
             continue;
         }
         if isomorphic(alloc, &other.skeleton, skeleton)? {
@@ -60,15 +60,15 @@ pub(crate) fn copied_label(
     alloc: Global,
     made: &Labels,
     parent: Option<usize>,
-    fingerprint: &Fingerprint,
+    signature: &Signature,
     skeleton: &Skeleton,
 ) -> Result<Option<usize>, AllocError>
     requires found { AreFound made.now }
     requires parent { IfSome parent (λ p. p < length made.now) }
-    requires fingerprint { fingerprint.now ≡ traits_of (skeleton_view skeleton.now) }
+    requires signature { signature.now ≡ signature_of (skeleton_view skeleton.now) }
     ensures { IfOk result (FindsLeast (MayBeSeen made.now parent (skeleton_view skeleton.now))) }
 {
-    let Some(copy) = first_copy(alloc, made, &[], fingerprint, skeleton)? else {
+    let Some(copy) = first_copy(alloc, made, &[], signature, skeleton)? else {
         return Ok(None);
     };
     let Some(parent) = parent else {
@@ -81,5 +81,5 @@ pub(crate) fn copied_label(
     if !is_flagged(&leading, copy) {
         return Ok(Some(copy));
     }
-    first_copy(alloc, made, &leading, fingerprint, skeleton)
+    first_copy(alloc, made, &leading, signature, skeleton)
 }

@@ -2,7 +2,7 @@
 ghost use Rattle.std.specs.Prelude.{◌≡◌, ◌↔◌, ◌<◌, ℕ, List, length, true, false, IfOk};
 ghost use Rattle.cp_lists.specs.Lists.{IsIn};
 ghost use Rattle.cp_search.specs.LeastNumber.{IsFlagged};
-ghost use Rattle.cp_search.specs.Graph.{Leads, AreWithin, IsClosed, unflagged};
+ghost use Rattle.cp_search.specs.Graph.{Leads, AreWithin, IsClosedBackward, unflagged};
 ghost use Rattle.cp_search.specs.declared.graph.Edge as edges;
 
 use std::alloc::{AllocError, Global};
@@ -21,7 +21,7 @@ fn spread(edges: &[Edge], flags: &mut [bool]) -> bool
     ensures count { length flags.new ≡ length flags.old }
     ensures kept { (n : ℕ) → IsFlagged flags.old n → IsFlagged flags.new n }
     ensures reach { (target : ℕ) → ((n : ℕ) → IsFlagged flags.old n → Leads edges.now n target) → (n : ℕ) → IsFlagged flags.new n → Leads edges.now n target }
-    ensures closed { result ≡ false → IsClosed edges.now flags.new }
+    ensures closed { result ≡ false → IsClosedBackward edges.now flags.new }
     ensures falls { result ≡ true → unflagged flags.new < unflagged flags.old }
 {
     let mut is_new = false;

@@ -1,4 +1,4 @@
-// Settles labels one after another.
+// Resolves labels one after another.
 ghost use Rattle.std.specs.Prelude.{◌≡◌, ◌≢◌, ◌<◌, ◌≤◌, ◌+◌, ℕ, List, [], length, map, true, false, IfOk, OnOk, Option, Some, None};
 ghost use Rattle.cp_lists.specs.Lists.{item_at};
 ghost use Rattle.cp_model.specs.Problem.{numbers_from};
@@ -15,31 +15,31 @@ ghost use Rattle.cp_tree.specs.Made as plain;
 ghost use Rattle.cp_search.specs.declared.made.Made as program;
 ghost use Rattle.cp_search.specs.Roots.{root_made};
 ghost use Rattle.cp_search.specs.MadeLabels.{AreFound, AddMade};
-ghost use Rattle.cp_search.specs.GeneralLabels.{SettlesAs};
-ghost use Rattle.cp_search.specs.SettledLabels.{IsLeafOf, IsToExpand, IsNextToExpand, ExpandsLabel, HasSearched, AreSoundMade, AreSoundRoots};
+ghost use Rattle.cp_search.specs.GeneralLabels.{ResolvesAs};
+ghost use Rattle.cp_search.specs.ResolvedLabels.{IsLeafOf, IsToExpand, IsNextToExpand, ExpandsLabel, HasSearched, AreSoundMade, AreSoundRoots};
 
 use crate::children::make_children;
 use crate::general_labels::generalise_label;
 use crate::labels::Labels;
 use crate::made::Made;
+use crate::resolved::{Expanded, Resolved};
 use crate::roots::make_roots;
-use crate::settled::{Expanded, Settled};
 use cp_expansion::{Expansion, expand, test_of};
 use cp_roots::Root;
 use cp_skel::{Limits, Mark, Protocol, Test};
 use cp_tree::expansions_are_sound;
 use std::alloc::{AllocError, Global};
 
-/// The state of a search: the labels that were made, how the first of them were settled, and the number of labels expanded so
+/// The state of a search: the labels that were made, how the first of them were resolved, and the number of labels expanded so
 /// far.
 #[derive(Drop)]
 pub(crate) struct Search {
     pub made: Labels,
-    pub settled: Vec<Settled>,
+    pub settled: Vec<Resolved>,
     pub expanded: usize,
 }
 
-/// How this label is settled if it is not expanded, given that `expanded` labels were: a leaf with a mark, or a leaf whose mark
+/// How this label is resolved if it is not expanded, given that `expanded` labels were: a leaf with a mark, or a leaf whose mark
 /// is open because all its receptions are derivable. `None` if the label is to be expanded.
 fn leaf_of(label: &Made, limits: Limits, expanded: usize) -> Option<Option<Mark>>
     ensures { IsLeafOf (limits_view limits) label.now expanded result }
@@ -62,29 +62,29 @@ fn leaf_of(label: &Made, limits: Limits, expanded: usize) -> Option<Option<Mark>
     None
 }
 
-/// Settles a label that is not expanded: as a leaf with this mark. If the mark is open and a step of generalising applies, the
+/// Resolves a label that is not expanded: as a leaf with this mark. If the mark is open and a step of generalising applies, the
 /// label of the generalisation is appended instead, and the label generalises to it.
-fn settle_leaf(
+fn resolve_leaf(
     alloc: Global,
     made: &mut Labels,
     number: usize,
     mark: Option<Mark>,
-) -> Result<Settled, AllocError>
+) -> Result<Resolved, AllocError>
     requires found { AreFound made.old }
     requires there { number < length made.old }
-    ensures { IfOk result (SettlesAs number made.old made.new mark) }
+    ensures { IfOk result (ResolvesAs number made.old made.new mark) }
 {
     if mark.is_some() {
-        return Ok(Settled::Leaf(mark));
+        return Ok(Resolved::Leaf(mark));
     }
     let Some(child) = generalise_label(alloc, made, number)? else {
-        return Ok(Settled::Leaf(None));
+        return Ok(Resolved::Leaf(None));
     };
-    Ok(Settled::Generalised(child))
+    Ok(Resolved::Generalised(child))
 }
 
-/// Settles labels up to the next one that is to be expanded. Returns whether there is one.
-fn settle_leaves(alloc: Global, limits: Limits, search: &mut Search) -> Result<bool, AllocError>
+/// Resolves labels up to the next one that is to be expanded. Returns whether there is one.
+fn resolve_leaves(alloc: Global, limits: Limits, search: &mut Search) -> Result<bool, AllocError>
     requires found { AreFound search.old.made }
     ensures searched { OnOk result ((protocol : PlainProtocol) (made : List plain.Made) → HasSearched protocol (limits_view limits) made search.old → HasSearched protocol (limits_view limits) made search.new) }
     ensures next { IfOk result (λ some. some ≡ true → IsNextToExpand (limits_view limits) search.new) }
@@ -96,7 +96,7 @@ fn settle_leaves(alloc: Global, limits: Limits, search: &mut Search) -> Result<b
         let Some(mark) = leaf_of(search.made.label(next), limits, search.expanded) else {
             return Ok(true);
         };
-        let settled = settle_leaf(alloc, &mut search.made, next, mark)?;
+        let settled = resolve_leaf(alloc, &mut search.made, next, mark)?;
         search.settled.push(settled)?;
     }
     Ok(false)
@@ -183,12 +183,12 @@ fn expand_next(
 {
     let number = search.settled.len();
     let expanded = expand_label(alloc, protocol, &mut search.made, number)?;
-    search.settled.push(Settled::Expanded(expanded))?;
+    search.settled.push(Resolved::Expanded(expanded))?;
     search.expanded += 1;
     Ok(())
 }
 
-/// Makes the labels of the roots, then settles all labels in ascending order.
+/// Makes the labels of the roots, then resolves all labels in ascending order.
 pub(crate) fn search_from(
     alloc: Global,
     protocol: &Protocol,
@@ -205,7 +205,7 @@ pub(crate) fn search_from(
         settled: Vec::new(alloc),
         expanded: 0,
     };
-    while settle_leaves(alloc, limits, &mut search)? {
+    while resolve_leaves(alloc, limits, &mut search)? {
         expand_next(alloc, protocol, limits, &mut search)?;
     }
     Ok(search)

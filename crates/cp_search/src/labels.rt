@@ -2,8 +2,8 @@
 ghost use Rattle.std.specs.Prelude.{◌≡◌, ◌<◌, ◌≤◌, nat_eq, ℕ, [], ◌∷◌, ◌++◌, if◌then◌else◌, length, map, Some, IsTrue, IfSome, OnOk};
 ghost use Rattle.cp_lists.specs.Lists.{item_at};
 ghost use Rattle.cp_search.specs.Graph.{AddsEdge};
-ghost use Rattle.cp_search.specs.MadeLabels.{made_way, AreEdgesOf, AreParentsWithin};
-ghost use Rattle.cp_search.specs.LabelsByNumber.{with_sharing, numbers_by};
+ghost use Rattle.cp_search.specs.MadeLabels.{made_link, AreEdgesOf, AreParentsWithin};
+ghost use Rattle.cp_search.specs.LabelsByNumber.{with_key, numbers_by};
 ghost use Rattle.cp_tree.specs.Made.{IsEdge};
 
 use crate::graph::Edge;
@@ -12,13 +12,13 @@ use std::alloc::{AllocError, Global};
 use std::collections::HashMap;
 use std::marker::Model;
 
-/// The labels made so far, in order. For fast look-up they come with the labels by the number of their fingerprint; with the
+/// The labels made so far, in order. For fast look-up they come with the labels by bucket key; with the
 /// edges, which lead to each label from its parent and from each label to the one in which it is seen; and with an upper bound on
 /// the numbers of all parents.
 #[derive(Drop)]
 pub(crate) struct Labels {
     all: Vec<Made>,
-    alike: HashMap<usize, Vec<usize>>,
+    buckets: HashMap<usize, Vec<usize>>,
     edges: Vec<Edge>,
     latest_parent: usize,
 }
@@ -37,22 +37,22 @@ fn add_edge(edges: &mut Vec<Edge>, from: Option<usize>, to: Option<usize>) -> Re
     Ok(())
 }
 
-/// Appends a label to those whose fingerprint has this number.
+/// Appends a label to those with this bucket key.
 fn add_alike(
     alloc: Global,
-    alike: &mut HashMap<usize, Vec<usize>>,
-    sharing: usize,
+    buckets: &mut HashMap<usize, Vec<usize>>,
+    bucket_key: usize,
     label: usize,
 ) -> Result<(), AllocError>
-    ensures { OnOk result ((q : ℕ) → numbers_by alike.new (λ v. v.items) q
-        ≡ (if nat_eq sharing q then numbers_by alike.old (λ v. v.items) q ++ label ∷ [] else numbers_by alike.old (λ v. v.items) q)) }
+    ensures { OnOk result ((q : ℕ) → numbers_by buckets.new (λ v. v.items) q
+        ≡ (if nat_eq bucket_key q then numbers_by buckets.old (λ v. v.items) q ++ label ∷ [] else numbers_by buckets.old (λ v. v.items) q)) }
 {
-    let mut labels = match alike.remove(&sharing) {
+    let mut labels = match buckets.remove(&bucket_key) {
         Some(labels) => labels,
         None => Vec::new(alloc),
     };
     labels.push(label)?;
-    alike.insert(sharing, labels)?;
+    buckets.insert(bucket_key, labels)?;
     Ok(())
 }
 
@@ -67,26 +67,26 @@ fn latest(number: usize, parent: Option<usize>) -> usize
     }
 }
 
-/// Updates the indexes for a label that is to be appended: the labels by fingerprint, the edges and the bound on parents.
+/// Updates the indexes for a label that is to be appended: the labels by bucket key, the edges and the bound on parents.
 fn note(
     alloc: Global,
     all: &[Made],
-    alike: &mut HashMap<usize, Vec<usize>>,
+    buckets: &mut HashMap<usize, Vec<usize>>,
     edges: &mut Vec<Edge>,
     latest_parent: &mut usize,
     made: &Made,
 ) -> Result<(), AllocError>
-    requires alike { (q : ℕ) → numbers_by alike.old (λ v. v.items) q ≡ with_sharing q 0 all.now }
+    requires buckets { (q : ℕ) → numbers_by buckets.old (λ v. v.items) q ≡ with_key q 0 all.now }
     requires edges { AreEdgesOf all.now edges.old.items }
     requires parents { AreParentsWithin all.now latest_parent.old }
-    ensures alike { OnOk result ((q : ℕ) → numbers_by alike.new (λ v. v.items) q ≡ with_sharing q 0 (all.now ++ made.now ∷ [])) }
+    ensures buckets { OnOk result ((q : ℕ) → numbers_by buckets.new (λ v. v.items) q ≡ with_key q 0 (all.now ++ made.now ∷ [])) }
     ensures edges { OnOk result (AreEdgesOf (all.now ++ made.now ∷ []) edges.new.items) }
     ensures parents { OnOk result (AreParentsWithin (all.now ++ made.now ∷ []) latest_parent.new) }
 {
     let number = all.len();
     add_edge(edges, made.parent, Some(number))?;
     add_edge(edges, Some(number), made.seen_in)?;
-    add_alike(alloc, alike, made.fingerprint.sharing(), number)?;
+    add_alike(alloc, buckets, made.signature.bucket_key(), number)?;
     *latest_parent = latest(*latest_parent, made.parent);
     Ok(())
 }
@@ -103,20 +103,20 @@ fn append(all: &mut Vec<Made>, made: Made) -> Result<(), AllocError>
 fn put_behind(
     alloc: Global,
     all: &mut Vec<Made>,
-    alike: &mut HashMap<usize, Vec<usize>>,
+    buckets: &mut HashMap<usize, Vec<usize>>,
     edges: &mut Vec<Edge>,
     latest_parent: &mut usize,
     made: Made,
 ) -> Result<(), AllocError>
-    requires alike { (q : ℕ) → numbers_by alike.old (λ v. v.items) q ≡ with_sharing q 0 all.old.items }
+    requires buckets { (q : ℕ) → numbers_by buckets.old (λ v. v.items) q ≡ with_key q 0 all.old.items }
     requires edges { AreEdgesOf all.old.items edges.old.items }
     requires parents { AreParentsWithin all.old.items latest_parent.old }
     ensures all { OnOk result (all.new.items ≡ all.old.items ++ made ∷ []) }
-    ensures alike { OnOk result ((q : ℕ) → numbers_by alike.new (λ v. v.items) q ≡ with_sharing q 0 all.new.items) }
+    ensures buckets { OnOk result ((q : ℕ) → numbers_by buckets.new (λ v. v.items) q ≡ with_key q 0 all.new.items) }
     ensures edges { OnOk result (AreEdgesOf all.new.items edges.new.items) }
     ensures parents { OnOk result (AreParentsWithin all.new.items latest_parent.new) }
 {
-    note(alloc, all, alike, edges, latest_parent, &made)?;
+    note(alloc, all, buckets, edges, latest_parent, &made)?;
     append(all, made)
 }
 
@@ -133,9 +133,9 @@ impl Model for Labels {
     ghost view = { λ l. l.all.items };
 
     ghost use Rattle.cp_search.specs.MadeLabels.{AreEdgesOf, AreParentsWithin};
-    ghost use Rattle.cp_search.specs.LabelsByNumber.{with_sharing, numbers_by};
+    ghost use Rattle.cp_search.specs.LabelsByNumber.{with_key, numbers_by};
 
-    ghost invariant = { λ l. ((q : ℕ) → numbers_by l.alike (λ v. v.items) q ≡ with_sharing q 0 l.all.items) × AreEdgesOf l.all.items l.edges.items × AreParentsWithin l.all.items l.latest_parent };
+    ghost invariant = { λ l. ((q : ℕ) → numbers_by l.buckets (λ v. v.items) q ≡ with_key q 0 l.all.items) × AreEdgesOf l.all.items l.edges.items × AreParentsWithin l.all.items l.latest_parent };
 }
 
 impl Labels {
@@ -145,7 +145,7 @@ impl Labels {
     {
         Labels {
             all: Vec::new(alloc),
-            alike: HashMap::new(alloc),
+            buckets: HashMap::new(alloc),
             edges: Vec::new(alloc),
             latest_parent: 0,
         }
@@ -176,16 +176,16 @@ impl Labels {
     /// Fast test: true only if the label has no outgoing edge.
     pub(crate) fn leads_nowhere(&self, number: usize) -> bool
         requires { number < length self.now }
-        ensures { IsTrue result → (j : ℕ) → IsEdge (map made_way self.now) number j → ⊥ }
+        ensures { IsTrue result → (j : ℕ) → IsEdge (map made_link self.now) number j → ⊥ }
     {
         number > self.latest_parent && self.all[number].seen_in.is_none()
     }
 
-    /// The labels whose fingerprints have this number, in ascending order.
-    pub(crate) fn with_sharing(&self, sharing: usize) -> &[usize]
-        ensures { result.now ≡ with_sharing sharing 0 self.now }
+    /// The labels whose signatures have this bucket key, in ascending order.
+    pub(crate) fn with_key(&self, bucket_key: usize) -> &[usize]
+        ensures { result.now ≡ with_key bucket_key 0 self.now }
     {
-        match self.alike.get(&sharing) {
+        match self.buckets.get(&bucket_key) {
             Some(labels) => labels,
             None => &[],
         }
@@ -204,13 +204,13 @@ impl Labels {
     {
         let Labels {
             all,
-            alike,
+            buckets,
             edges,
             latest_parent,
         } = self;
-        if put_behind(alloc, all, alike, edges, latest_parent, made).is_err() {
+        if put_behind(alloc, all, buckets, edges, latest_parent, made).is_err() {
             all.clear();
-            alike.clear();
+            buckets.clear();
             edges.clear();
             return Err(AllocError);
         }

@@ -12,9 +12,9 @@ mod labels;
 mod made;
 mod new_labels;
 mod reachability;
+mod resolved;
+mod resolved_tree;
 mod roots;
-mod settled;
-mod settled_tree;
 mod trees;
 
 pub use trees::search;

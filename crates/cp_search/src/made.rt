@@ -1,10 +1,10 @@
 // Labels as they are made.
-use cp_fingerprint::Fingerprint;
+use cp_fingerprint::Signature;
 use cp_skel::{Node, Operation, Skeleton};
 
 /// A label as it is made: its parent, if it has one, the operation that made it, and its skeleton; whether it is `general`, which
 /// is set only if no step of generalising applies to it any more; and whether it is dead from the start. Then what was found when
-/// it was made: its fingerprint, the label in which it is seen, if any, and its unrealised receptions.
+/// it was made: its signature, the label in which it is seen, if any, and its unrealised receptions.
 #[derive(Drop)]
 pub(crate) struct Made {
     pub parent: Option<usize>,
@@ -12,7 +12,7 @@ pub(crate) struct Made {
     pub skeleton: Skeleton,
     pub general: bool,
     pub dead: bool,
-    pub fingerprint: Fingerprint,
+    pub signature: Signature,
     pub seen_in: Option<usize>,
     pub unrealised: Vec<Node>,
 }

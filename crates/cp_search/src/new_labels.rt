@@ -3,8 +3,8 @@ ghost use Rattle.std.specs.Prelude.{◌≡◌, ◌<◌, length, true, false, Non
 ghost use Rattle.cp_skel.specs.View.{skeleton_view};
 ghost use Rattle.cp_skel.specs.Trees.{variables_view, operation_view};
 ghost use Rattle.cp_derive.specs.Unrealised.{ListsUnrealised};
-ghost use Rattle.cp_fingerprint.specs.Fingerprints.{traits_of};
-ghost use Rattle.cp_general.specs.Generalisation.{IsMostGeneral};
+ghost use Rattle.cp_fingerprint.specs.Signatures.{signature_of};
+ghost use Rattle.cp_general.specs.Generalisation.{IsMaximallyGeneral};
 ghost use Rattle.cp_search.specs.LeastNumber.{FindsLeast};
 ghost use Rattle.cp_search.specs.MadeLabels.{MayBeSeen, AreFound, AddsMade, AddsGeneral};
 
@@ -12,14 +12,14 @@ use crate::copies::copied_label;
 use crate::labels::Labels;
 use crate::made::Made;
 use cp_derive::unrealised;
-use cp_fingerprint::Fingerprint;
+use cp_fingerprint::Signature;
 use cp_skel::{Node, Operation, Skeleton};
 use std::alloc::{AllocError, Global};
 
-/// What is found when a label is made: its fingerprint, the label in which it is seen, if any, and its unrealised receptions.
+/// What is found when a label is made: its signature, the label in which it is seen, if any, and its unrealised receptions.
 #[derive(Drop)]
 struct Findings {
-    fingerprint: Fingerprint,
+    signature: Signature,
     seen_in: Option<usize>,
     unrealised: Vec<Node>,
 }
@@ -33,15 +33,15 @@ fn find(
 ) -> Result<Findings, AllocError>
     requires found { AreFound made.now }
     requires parent { IfSome parent (λ p. p < length made.now) }
-    ensures fingerprint { IfOk result (λ f. f.fingerprint ≡ traits_of (skeleton_view skeleton.now)) }
+    ensures signature { IfOk result (λ f. f.signature ≡ signature_of (skeleton_view skeleton.now)) }
     ensures seen { IfOk result (λ f. FindsLeast (MayBeSeen made.now parent (skeleton_view skeleton.now)) f.seen_in) }
     ensures listed { IfOk result (λ f. ListsUnrealised (skeleton_view skeleton.now) f.unrealised.items) }
 {
-    let fingerprint = Fingerprint::of(alloc, skeleton)?;
-    let seen_in = copied_label(alloc, made, parent, &fingerprint, skeleton)?;
+    let signature = Signature::of(alloc, skeleton)?;
+    let seen_in = copied_label(alloc, made, parent, &signature, skeleton)?;
     let unrealised = unrealised(alloc, skeleton)?;
     Ok(Findings {
-        fingerprint,
+        signature,
         seen_in,
         unrealised,
     })
@@ -58,12 +58,12 @@ pub(crate) fn make(
 ) -> Result<(), AllocError>
     requires found { AreFound made.old }
     requires parent { IfSome parent (λ p. p < length made.old) }
-    requires general { general ≡ true → IsMostGeneral (skeleton_view skeleton) }
+    requires general { general ≡ true → IsMaximallyGeneral (skeleton_view skeleton) }
     ensures general { OnOk result (AddsGeneral general made.old made.new) }
     ensures made { OnOk result (AddsMade (record { parent = parent; operation = operation_view operation; variables = variables_view skeleton.variables; skeleton = skeleton_view skeleton; dead = false }) made.old made.new) }
 {
     let Findings {
-        fingerprint,
+        signature,
         seen_in,
         unrealised,
     } = find(alloc, made, parent, &skeleton)?;
@@ -75,7 +75,7 @@ pub(crate) fn make(
             skeleton,
             general,
             dead: false,
-            fingerprint,
+            signature,
             seen_in,
             unrealised,
         },
@@ -92,7 +92,7 @@ pub(crate) fn make_dead(
     requires found { AreFound made.old }
     ensures { OnOk result (AddsMade (record { parent = None; operation = operation_view operation; variables = variables_view skeleton.variables; skeleton = skeleton_view skeleton; dead = true }) made.old made.new) }
 {
-    let fingerprint = Fingerprint::of(alloc, &skeleton)?;
+    let signature = Signature::of(alloc, &skeleton)?;
     made.push(
         alloc,
         Made {
@@ -101,7 +101,7 @@ pub(crate) fn make_dead(
             skeleton,
             general: false,
             dead: true,
-            fingerprint,
+            signature,
             seen_in: None,
             unrealised: Vec::new(alloc),
         },

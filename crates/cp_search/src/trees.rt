@@ -7,14 +7,14 @@ ghost use Rattle.cp_model.specs.PointOfView.{IsPointOfView};
 ghost use Rattle.cp_model.specs.Tree.{dead, at_step_limit, at_strand_limit, Label, ReachedSteps, ReachedStrands, IsTrueOf};
 ghost use Rattle.cp_skel.specs.View.{skeleton_view};
 ghost use Rattle.cp_skel.specs.Trees.{variables_view, limits_view, tree_view};
-ghost use Rattle.cp_answers.specs.Lawful.{IsLawful};
+ghost use Rattle.cp_theory.specs.Lawful.{IsLawful};
 ghost use Rattle.cp_roots.specs.Over.{IsOver};
 ghost use Rattle.cp_tree.specs.Searched.{IsTreeOf};
 ghost use Rattle.cp_tree.specs.Edges.{edges};
 ghost use Rattle.cp_tree.specs.Declared.{DeclaresItsOwn};
 
 use crate::label_search::search_from;
-use crate::settled_tree::tree_of;
+use crate::resolved_tree::tree_of;
 use cp_roots::{roots, roots_have_declared_variables};
 use cp_skel::{Limits, Protocol, Skeleton, Tree};
 use cp_tree::{
@@ -23,8 +23,8 @@ use cp_tree::{
 };
 use std::alloc::{AllocError, Global};
 
-/// Searches a problem: returns its derivation tree. The first labels are the problem's roots, in order. Labels are settled in
-/// ascending order, and the children of each settled label are appended after all labels made so far. The rules for a label, by
+/// Searches a problem: returns its derivation tree. The first labels are the problem's roots, in order. Labels are resolved in
+/// ascending order, and the children of each resolved label are appended after all labels made so far. The rules for a label, by
 /// the first that applies:
 ///
 /// - the problem itself is dead if it has no normal form;

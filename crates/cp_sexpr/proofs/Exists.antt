@@ -9,8 +9,8 @@ use Rattle.cp_base.specs.declared.place.Refusal.{Refusal}
 use Rattle.cp_sexpr.specs.Syntax.{Forms}
 use Rattle.cp_sexpr.specs.Pieces.{Piece, blank, comment, opening, closing, quoted, token, BeginsWith, BeginsWithout, IsWhiteSpace, IsTokenByte, IsStringByte, IsCommentByte, quote, semicolon, open_parenthesis, close_parenthesis, line_feed, space, start, place_after, after_piece}
 use Rattle.cp_sexpr.specs.Reading.{IsRefused, by_piece, by_byte, by_open_string, by_string_byte, by_end, IsReading, refusal}
-use Rattle.cp_sexpr.specs.Written.{BeginsWithDigit, IsRefusedPiece, IsAccepted, max_depth}
-use Rattle.cp_sexpr.specs.UnfinishedForms.{Unfinished, Building, nothing_yet, with_piece, places_of}
+use Rattle.cp_sexpr.specs.Written.{BeginsWithDigit, IsRefusedPiece, IsAcceptedPiece, max_depth}
+use Rattle.cp_sexpr.specs.UnfinishedForms.{Unfinished, Building, nothing_yet, with_piece, places_of_unclosed}
 use Rattle.cp_sexpr.proofs.Fronts.{shorter}
 use Rattle.cp_sexpr.proofs.Grammar.{digit_or_not, number_or_not}
 use Rattle.cp_sexpr.proofs.Readings.{ReadUpTo, read_nothing, read_piece, read_all, read_refused}
@@ -96,7 +96,7 @@ digit_first_or_not : (t : List ℕ) → BeginsWithDigit t ⊎ (BeginsWithDigit t
 digit_first_or_not [] = inr (λ h. h)
 digit_first_or_not (b ∷ t) = digit_or_not b
 
-accepted_or_not : (opened : List Place) (p : Piece) → IsAccepted opened p ⊎ ((code : Code) × IsRefusedPiece opened p code)
+accepted_or_not : (opened : List Place) (p : Piece) → IsAcceptedPiece opened p ⊎ ((code : Code) × IsRefusedPiece opened p code)
 accepted_or_not opened (blank b) = inl (λ code r. r)
 accepted_or_not opened (comment t) = inl (λ code r. r)
 accepted_or_not opened opening = ⊎_elim (λ h. inl (λ code r. omega (arith, h, r.0))) (λ h. inr (TooDeep, (h, refl))) (cases_lt (length opened) max_depth)
@@ -111,17 +111,17 @@ accepted_or_not opened (token t) =
 end_reading : (text rest : List ℕ) (at : Place) (items : Forms) (ls : List Unfinished) → ReadUpTo text rest at (record { lists = ls; items = items }) → rest ≡ [] → (a : Result Forms Refusal) × IsReading text a
 end_reading text rest at items [] r e = (Ok items, read_all text rest at (record { lists = []; items = items }) r e refl)
 end_reading text rest at items (l ∷ ls) r e =
-    (Err (refusal l.place Unclosed), read_refused text rest at (record { lists = l ∷ ls; items = items }) (refusal l.place Unclosed) r (by_end l.place (places_of ls) e refl refl))
+    (Err (refusal l.place Unclosed), read_refused text rest at (record { lists = l ∷ ls; items = items }) (refusal l.place Unclosed) r (by_end l.place (places_of_unclosed ls) e refl refl))
 
 -- the measure is at least how much of the text is left
 read_on : (fuel : ℕ) (text rest : List ℕ) (at : Place) (s : Building) → length rest < fuel → ReadUpTo text rest at s → Next at rest → (a : Result Forms Refusal) × IsReading text a
 read_on zero text rest at s less r n = absurd (omega (arith, less))
 read_on (suc fuel) text rest at s less r (ends e) = end_reading text rest at s.items s.lists r e
-read_on (suc fuel) text rest at s less r (stops_here f refused) = (Err f, read_refused text rest at s f r (refused (places_of s.lists)))
+read_on (suc fuel) text rest at s less r (stops_here f refused) = (Err f, read_refused text rest at s f r (refused (places_of_unclosed s.lists)))
 read_on (suc fuel) text rest at s less r (goes_on p after b) =
     ⊎_elim (λ a. let less_left = shorter rest p after b in
     read_on fuel text after (after_piece at p) (with_piece at s p) (omega (arith, less, less_left)) (read_piece text rest at s p after (after_piece at p) (with_piece at s p) r b a refl refl) (next_of (after_piece at p) after))
-    (λ f. (Err (refusal at f.0), read_refused text rest at s (refusal at f.0) r (by_piece p after f.0 b f.1 refl))) (accepted_or_not (places_of s.lists) p)
+    (λ f. (Err (refusal at f.0), read_refused text rest at s (refusal at f.0) r (by_piece p after f.0 b f.1 refl))) (accepted_or_not (places_of_unclosed s.lists) p)
 
 pub reading_of : (text : List ℕ) → (a : Result Forms Refusal) × IsReading text a
 reading_of text = read_on (suc (length text)) text text start nothing_yet (omega arith) (read_nothing text) (next_of start text)

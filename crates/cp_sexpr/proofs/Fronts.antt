@@ -4,7 +4,7 @@ use Rattle.std.proofs.lemmas.Bool.{cases_lt}
 use Rattle.cp_base.specs.declared.place.Place.{Place}
 use Rattle.cp_base.specs.declared.place.Code.TheVariants.{TooDeep}
 use Rattle.cp_sexpr.specs.Pieces.{Piece, blank, comment, opening, closing, quoted, token, spelling, IsPiece, BeginsWith, IsCut, after_byte, place_after, after_piece, after_pieces}
-use Rattle.cp_sexpr.specs.Written.{opened_behind, opened_after, IsAccepted, AreAccepted, max_depth}
+use Rattle.cp_sexpr.specs.Written.{opened_behind, opened_after, IsAcceptedPiece, AreAccepted, max_depth}
 
 -- What is cut into pieces, and what is left into more, is cut into all of them.
 pub IsCut-append : (ps : List Piece) (text middle : List ℕ) (qs : List Piece) (rest : List ℕ) → IsCut text ps middle → IsCut middle qs rest → IsCut text (ps ++ qs) rest
@@ -27,7 +27,7 @@ pub AreAccepted-append : (at : Place) (opened : List Place) (ps qs : List Piece)
 AreAccepted-append at opened [] qs a b = b
 AreAccepted-append at opened (p ∷ ps) qs a b = (a.0, AreAccepted-append (after_piece at p) (opened_behind at opened p) ps qs a.1 b)
 
-pub AreAccepted-push : (at : Place) (opened : List Place) (ps : List Piece) (p : Piece) → AreAccepted at opened ps → IsAccepted (opened_after at opened ps) p → AreAccepted at opened (ps ++ p ∷ [])
+pub AreAccepted-push : (at : Place) (opened : List Place) (ps : List Piece) (p : Piece) → AreAccepted at opened ps → IsAcceptedPiece (opened_after at opened ps) p → AreAccepted at opened (ps ++ p ∷ [])
 AreAccepted-push at opened ps p a h = AreAccepted-append at opened ps (p ∷ []) a (h, tt)
 
 pub first_accepted : (at : Place) (opened : List Place) (ps qs : List Piece) → AreAccepted at opened (ps ++ qs) → AreAccepted at opened ps
@@ -39,7 +39,7 @@ last_accepted at opened [] qs h = h
 last_accepted at opened (p ∷ ps) qs h = last_accepted (after_piece at p) (opened_behind at opened p) ps qs h.1
 
 -- Where one more list may be opened, fewer are open than at the most.
-pub shallow : (opened : List Place) → IsAccepted opened opening → length opened < max_depth
+pub shallow : (opened : List Place) → IsAcceptedPiece opened opening → length opened < max_depth
 shallow opened a = ⊎_elim (λ h. h) (λ h. absurd (a TooDeep (h, refl))) (cases_lt (length opened) max_depth)
 
 -- ---- lengths and places

@@ -8,7 +8,7 @@ use Rattle.cp_base.specs.declared.place.Code.TheVariants.{BadNumber, Unbalanced}
 use Rattle.cp_sexpr.specs.Syntax.{symbol, string, number, list, Forms, none, more, append}
 use Rattle.cp_sexpr.specs.Pieces.{Piece, blank, comment, opening, closing, quoted, token, after_piece, after_pieces}
 use Rattle.cp_sexpr.specs.Written.{IsDigit, BeginsWithDigit, IsNumber, value, Writes, nothing, skip_blank, skip_comment, a_string, a_symbol, a_number, a_list, IsRefusedPiece, AreAccepted}
-use Rattle.cp_sexpr.specs.UnfinishedForms.{Unfinished, Building, begins_with_digit, word, with_piece, with_pieces, places_of}
+use Rattle.cp_sexpr.specs.UnfinishedForms.{Unfinished, Building, begins_with_digit, token_form, with_piece, with_pieces, places_of_unclosed}
 use Rattle.cp_sexpr.proofs.Stacks.{append-none, append-append, built}
 use Rattle.cp_sexpr.proofs.Fronts.{after_pieces-append}
 
@@ -95,7 +95,7 @@ first_word_by : (at : Place) (t : List ℕ) (d : Bool) → begins_with_digit t �
 first_word_by at t true e n ps fs w = a_number (n (digit_first t e)) w
 first_word_by at t false e n ps fs w = a_symbol (no_digit_first t e) w
 
-first_word : (at : Place) (opened : List Place) (t : List ℕ) → ((code : Code) → IsRefusedPiece opened (token t) code → ⊥) → WritesFirst at (token t ∷ []) (more (word at t) none)
+first_word : (at : Place) (opened : List Place) (t : List ℕ) → ((code : Code) → IsRefusedPiece opened (token t) code → ⊥) → WritesFirst at (token t ∷ []) (more (token_form at t) none)
 first_word at opened t a ps fs w = first_word_by at t (begins_with_digit t) refl (accepted_number opened t a) ps fs w
 
 -- a whole list
@@ -117,7 +117,7 @@ Completes-list ls at ps before all c =
     subst (λ qs. Completes at (opening ∷ qs) ls before all) (append_assoc inside (closing ∷ []) ys ∙ sym c.3) whole
 
 -- What is built from pieces that are not refused, with no list open at their end, is what they write.
-pub built_is_written : (ps : List Piece) (at : Place) (ls : List Unfinished) (before : Forms) → AreAccepted at (places_of ls) ps → (with_pieces at (built ls before) ps).lists ≡ []
+pub built_is_written : (ps : List Piece) (at : Place) (ls : List Unfinished) (before : Forms) → AreAccepted at (places_of_unclosed ls) ps → (with_pieces at (built ls before) ps).lists ≡ []
     → Completes at ps ls before (with_pieces at (built ls before) ps).items
 built_is_written [] at [] before a e = (none, nothing, sym (append-none before))
 built_is_written [] at (l ∷ ls) before a e = cc
@@ -138,8 +138,8 @@ built_is_written (quoted t ∷ ps) at ls before a e =
     Completes-first ls at (quoted t ∷ []) ps (more (string at t) none) before _ (first_string at t)
     (built_is_written ps (after_piece at (quoted t)) ls (append before (more (string at t) none)) a.1 e)
 built_is_written (token t ∷ ps) at ls before a e =
-    Completes-first ls at (token t ∷ []) ps (more (word at t) none) before _ (first_word at (places_of ls) t a.0)
-    (built_is_written ps (after_piece at (token t)) ls (append before (more (word at t) none)) a.1 e)
+    Completes-first ls at (token t ∷ []) ps (more (token_form at t) none) before _ (first_word at (places_of_unclosed ls) t a.0)
+    (built_is_written ps (after_piece at (token t)) ls (append before (more (token_form at t) none)) a.1 e)
 
 -- ---- from what is written to what is built
 
@@ -147,10 +147,10 @@ pub with_pieces-append : (at : Place) (s : Building) (ps qs : List Piece) → wi
 with_pieces-append at s [] qs = refl
 with_pieces-append at s (p ∷ ps) qs = with_pieces-append (after_piece at p) (with_piece at s p) ps qs
 
-word-number : (at : Place) (t : List ℕ) → IsNumber t → word at t ≡ number at (value t)
+word-number : (at : Place) (t : List ℕ) → IsNumber t → token_form at t ≡ number at (value t)
 word-number at t n = ap (λ d. cond d (number at (value t)) (symbol at t)) (is_digit_first t (IsNumber-first t n))
 
-word-symbol : (at : Place) (t : List ℕ) → (BeginsWithDigit t → ⊥) → word at t ≡ symbol at t
+word-symbol : (at : Place) (t : List ℕ) → (BeginsWithDigit t → ⊥) → token_form at t ≡ symbol at t
 word-symbol at t other = ap (λ d. cond d (number at (value t)) (symbol at t)) (is_no_digit_first t other)
 
 pub written_is_built : {at : Place} {ps : List Piece} {fs : Forms} → Writes at ps fs → (ls : List Unfinished) (before : Forms) → with_pieces at (built ls before) ps ≡ built ls (append before fs)

@@ -8,7 +8,7 @@ use Rattle.cp_sexpr.specs.Syntax.{Forms, none}
 use Rattle.cp_sexpr.specs.Pieces.{Piece, blank, comment, opening, closing, quoted, token, BeginsWith, IsCut, start, after_piece, after_pieces}
 use Rattle.cp_sexpr.specs.Reading.{IsRefused, by_piece, by_end, IsFaulty, IsErrorOf}
 use Rattle.cp_sexpr.specs.Written.{Writes, opened_after, IsRefusedPiece, AreAccepted, IsWritten}
-use Rattle.cp_sexpr.specs.UnfinishedForms.{Unfinished, Building, nothing_yet, with_piece, with_pieces, places_of, RefusesPiece, RefusesEnd}
+use Rattle.cp_sexpr.specs.UnfinishedForms.{Unfinished, Building, nothing_yet, with_piece, with_pieces, places_of_unclosed, RefusesPiece, RefusesEnd}
 use Rattle.cp_sexpr.specs.declared.error.ReadError.{ReadError}
 use Rattle.cp_sexpr.specs.declared.error.ReadError.TheVariants.{Refused, Memory}
 use Rattle.cp_sexpr.proofs.Stacks.{built}
@@ -16,7 +16,7 @@ use Rattle.cp_sexpr.proofs.Fronts.{IsCut-push, AreAccepted-push, after_pieces-ap
 use Rattle.cp_sexpr.proofs.Grammar.{with_pieces-append, built_is_written}
 
 -- the lists that are not closed yet are those that the pieces opened
-pub places_of-with_pieces : (ps : List Piece) (at : Place) (ls : List Unfinished) (items : Forms) → opened_after at (places_of ls) ps ≡ places_of (with_pieces at (built ls items) ps).lists
+pub places_of-with_pieces : (ps : List Piece) (at : Place) (ls : List Unfinished) (items : Forms) → opened_after at (places_of_unclosed ls) ps ≡ places_of_unclosed (with_pieces at (built ls items) ps).lists
 places_of-with_pieces [] at ls items = refl
 places_of-with_pieces (blank b ∷ ps) at ls items = places_of-with_pieces ps (after_piece at (blank b)) ls items
 places_of-with_pieces (comment t ∷ ps) at ls items = places_of-with_pieces ps (after_piece at (comment t)) ls items
@@ -37,11 +37,11 @@ pub record ReadUpTo (text rest : List ℕ) (at : Place) (s : Building) : Type 0 
 pub read_nothing : (text : List ℕ) → ReadUpTo text text start nothing_yet
 read_nothing text = record { pieces = []; cut = refl; accepted = tt; place = refl; made = refl }
 
-pub opened_so_far : (text rest : List ℕ) (at : Place) (s : Building) (r : ReadUpTo text rest at s) → opened_after start [] r.pieces ≡ places_of s.lists
-opened_so_far text rest at s r = places_of-with_pieces r.pieces start [] none ∙ ap (λ b. places_of b.lists) r.made
+pub opened_so_far : (text rest : List ℕ) (at : Place) (s : Building) (r : ReadUpTo text rest at s) → opened_after start [] r.pieces ≡ places_of_unclosed s.lists
+opened_so_far text rest at s r = places_of-with_pieces r.pieces start [] none ∙ ap (λ b. places_of_unclosed b.lists) r.made
 
 pub read_piece : (text rest : List ℕ) (at : Place) (s : Building) (p : Piece) (after : List ℕ) (behind : Place) (t : Building) → ReadUpTo text rest at s → BeginsWith rest p after
-    → ((code : Code) → IsRefusedPiece (places_of s.lists) p code → ⊥) → behind ≡ after_piece at p → t ≡ with_piece at s p → ReadUpTo text after behind t
+    → ((code : Code) → IsRefusedPiece (places_of_unclosed s.lists) p code → ⊥) → behind ≡ after_piece at p → t ≡ with_piece at s p → ReadUpTo text after behind t
 read_piece text rest at s p after behind t r b a e f = record {
   pieces = r.pieces ++ p ∷ [];
   cut = IsCut-push r.pieces text rest p after r.cut b;
@@ -57,11 +57,11 @@ read_all text rest at s r e closed =
       pieces = r.pieces;
       cut = subst (IsCut text r.pieces) e r.cut;
       accepted = r.accepted;
-      closed = opened_so_far text rest at s r ∙ ap places_of closed;
+      closed = opened_so_far text rest at s r ∙ ap places_of_unclosed closed;
       writes = subst (Writes start r.pieces) (sym whole.2 ∙ ap (λ b. b.items) r.made) whole.1;
     }
 
-pub read_refused : (text rest : List ℕ) (at : Place) (s : Building) (f : Refusal) → ReadUpTo text rest at s → IsRefused at (places_of s.lists) rest f → IsFaulty text f
+pub read_refused : (text rest : List ℕ) (at : Place) (s : Building) (f : Refusal) → ReadUpTo text rest at s → IsRefused at (places_of_unclosed s.lists) rest f → IsFaulty text f
 read_refused text rest at s f r refused = record {
   pieces = r.pieces;
   rest = rest;
@@ -71,12 +71,12 @@ read_refused text rest at s f r refused = record {
 }
 
 pub read_piece_refused : (text rest : List ℕ) (at : Place) (s : Building) (p : Piece) (after : List ℕ) (e : ReadError) → ReadUpTo text rest at s → BeginsWith rest p after
-    → RefusesPiece at (places_of s.lists) p e → IsErrorOf text e
+    → RefusesPiece at (places_of_unclosed s.lists) p e → IsErrorOf text e
 read_piece_refused text rest at s p after (Refused f) r b h = read_refused text rest at s f r (by_piece p after f.code b h.0 h.1)
 read_piece_refused text rest at s p after Memory r b h = tt
 
 pub read_end_refused : (text rest : List ℕ) (at : Place) (s : Building) (e : ReadError) → ReadUpTo text rest at s → rest ≡ [] → RefusesEnd s.lists e → IsErrorOf text e
-read_end_refused text rest at s (Refused f) r end h = read_refused text rest at s f r (by_end h.0.place (places_of h.1) end (ap places_of h.2) h.3)
+read_end_refused text rest at s (Refused f) r end h = read_refused text rest at s f r (by_end h.0.place (places_of_unclosed h.1) end (ap places_of_unclosed h.2) h.3)
 read_end_refused text rest at s Memory r end h = absurd h
 
 pub read_line : (text rest : List ℕ) (at : Place) (s : Building) → ReadUpTo text rest at s → at.line + length rest ≤ 1 + length text

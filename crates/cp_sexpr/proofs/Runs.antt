@@ -7,7 +7,7 @@ use Rattle.cp_base.specs.declared.place.Place.{Place}
 use Rattle.cp_base.specs.declared.place.Code.TheVariants.{BadByte, OpenString}
 use Rattle.cp_sexpr.specs.Pieces.{blank, comment, quoted, token, BeginsWith, BeginsWithout, EndsLine, IsWhiteSpace, IsVisible, IsTokenByte, IsStringByte, IsCommentByte, quote, semicolon, line_feed, place_after}
 use Rattle.cp_sexpr.specs.Reading.{IsRefused, by_byte, by_open_string, by_string_byte, refusal}
-use Rattle.cp_sexpr.specs.CutPieces.{IsRun}
+use Rattle.cp_sexpr.specs.CutPieces.{IsLongestPrefix}
 
 pub front_of_kind : (P : ℕ → Type 0) (t : List ℕ) (n : ℕ) → n ≤ length t → ((k : ℕ) → k < n → P (get_or t k 0)) → AllByRecursion P (take n t)
 front_of_kind P [] zero l h = tt
@@ -25,10 +25,10 @@ rest_without P [] (suc n) h = tt
 rest_without P (b ∷ t) zero h = h (omega arith)
 rest_without P (b ∷ t) (suc n) h = rest_without P t n (λ m. h (omega arith))
 
-pub run_front : (P : ℕ → Type 0) (t : List ℕ) (n : ℕ) → IsRun P t n → AllByRecursion P (take n t)
+pub run_front : (P : ℕ → Type 0) (t : List ℕ) (n : ℕ) → IsLongestPrefix P t n → AllByRecursion P (take n t)
 run_front P t n r = front_of_kind P t n r.within r.each
 
-pub run_rest : (P : ℕ → Type 0) (t : List ℕ) (n : ℕ) → IsRun P t n → BeginsWithout P (drop n t)
+pub run_rest : (P : ℕ → Type 0) (t : List ℕ) (n : ℕ) → IsLongestPrefix P t n → BeginsWithout P (drop n t)
 run_rest P t n r = rest_without P t n r.stops
 
 -- ---- what a text begins with
@@ -43,7 +43,7 @@ pub EndsLine-without : (t : List ℕ) → BeginsWithout IsCommentByte t → Ends
 EndsLine-without [] h = tt
 EndsLine-without (b ∷ t) h = is_it b line_feed h
 
-pub comment_begins : (t : List ℕ) (n : ℕ) → IsRun IsCommentByte t n → BeginsWith (semicolon ∷ t) (comment (take n t)) (drop n t)
+pub comment_begins : (t : List ℕ) (n : ℕ) → IsLongestPrefix IsCommentByte t n → BeginsWith (semicolon ∷ t) (comment (take n t)) (drop n t)
 comment_begins t n r = record {
   piece = run_front IsCommentByte t n r;
   spelled = ap (λ bs. semicolon ∷ bs) (sym (take-append-drop n t));
@@ -54,14 +54,14 @@ token_not_empty : (b : ℕ) (t : List ℕ) (n : ℕ) → IsTokenByte b → (n < 
 token_not_empty b t zero h stops = absurd (stops (omega arith) h)
 token_not_empty b t (suc n) h stops = omega arith
 
-pub token_begins : (b : ℕ) (t : List ℕ) (n : ℕ) → IsTokenByte b → IsRun IsTokenByte (b ∷ t) n → BeginsWith (b ∷ t) (token (take n (b ∷ t))) (drop n (b ∷ t))
+pub token_begins : (b : ℕ) (t : List ℕ) (n : ℕ) → IsTokenByte b → IsLongestPrefix IsTokenByte (b ∷ t) n → BeginsWith (b ∷ t) (token (take n (b ∷ t))) (drop n (b ∷ t))
 token_begins b t n h r = record {
   piece = (token_not_empty b t n h r.stops, run_front IsTokenByte (b ∷ t) n r);
   spelled = sym (take-append-drop n (b ∷ t));
   whole = run_rest IsTokenByte (b ∷ t) n r;
 }
 
-pub string_begins : (t : List ℕ) (n : ℕ) (rest : List ℕ) → IsRun IsStringByte t n → drop n t ≡ quote ∷ rest → BeginsWith (quote ∷ t) (quoted (take n t)) rest
+pub string_begins : (t : List ℕ) (n : ℕ) (rest : List ℕ) → IsLongestPrefix IsStringByte t n → drop n t ≡ quote ∷ rest → BeginsWith (quote ∷ t) (quoted (take n t)) rest
 string_begins t n rest r e = record {
   piece = run_front IsStringByte t n r;
   spelled = ap (λ bs. quote ∷ bs) (sym (take-append-drop n t) ∙ ap (λ bs. take n t ++ bs) e ∙ sym (append_assoc (take n t) (quote ∷ []) rest));
@@ -70,13 +70,13 @@ string_begins t n rest r e = record {
 
 -- ---- strings that are refused
 
-pub string_open : (at : Place) (opened : List Place) (t : List ℕ) (n : ℕ) → IsRun IsStringByte t n → EndsLine (drop n t) → IsRefused at opened (quote ∷ t) (refusal at OpenString)
+pub string_open : (at : Place) (opened : List Place) (t : List ℕ) (n : ℕ) → IsLongestPrefix IsStringByte t n → EndsLine (drop n t) → IsRefused at opened (quote ∷ t) (refusal at OpenString)
 string_open at opened t n r ends = by_open_string (take n t) (drop n t) (ap (λ bs. quote ∷ bs) (sym (take-append-drop n t))) (run_front IsStringByte t n r) ends refl
 
-stopped_at : (P : ℕ → Type 0) (t : List ℕ) (n : ℕ) (b : ℕ) (rest : List ℕ) → IsRun P t n → drop n t ≡ b ∷ rest → P b → ⊥
+stopped_at : (P : ℕ → Type 0) (t : List ℕ) (n : ℕ) (b : ℕ) (rest : List ℕ) → IsLongestPrefix P t n → drop n t ≡ b ∷ rest → P b → ⊥
 stopped_at P t n b rest r e = let h : BeginsWithout P (b ∷ rest) = subst (BeginsWithout P) e (run_rest P t n r) in h
 
-pub string_byte_refused : (at : Place) (opened : List Place) (t : List ℕ) (n : ℕ) (b : ℕ) (rest : List ℕ) → IsRun IsStringByte t n → drop n t ≡ b ∷ rest → b ≢ quote → b ≢ line_feed
+pub string_byte_refused : (at : Place) (opened : List Place) (t : List ℕ) (n : ℕ) (b : ℕ) (rest : List ℕ) → IsLongestPrefix IsStringByte t n → drop n t ≡ b ∷ rest → b ≢ quote → b ≢ line_feed
     → IsRefused at opened (quote ∷ t) (refusal (place_after at (quote ∷ take n t)) BadByte)
 string_byte_refused at opened t n b rest r e no_quote no_line_feed =
     by_string_byte (take n t) b rest (ap (λ bs. quote ∷ bs) (sym (take-append-drop n t) ∙ ap (λ bs. take n t ++ bs) e)) (run_front IsStringByte t n r)
@@ -97,11 +97,11 @@ no_white_space b s t l r w = ⊎_elim s (λ w. ⊎_elim t (λ w. ⊎_elim l r w)
 pub not_visible : (b : ℕ) → (IsTokenByte b → ⊥) → b ≢ 40 → b ≢ 41 → b ≢ 34 → b ≢ 59 → IsVisible b → ⊥
 not_visible b no_token o c q s v = no_token (v.0, v.1, o, c, q, s)
 
-pub token_text : (bytes : List ℕ) (b : ℕ) (t : List ℕ) (n : ℕ) (front rest : List ℕ) → bytes ≡ b ∷ t → IsTokenByte b → IsRun IsTokenByte bytes n → front ≡ take n bytes → rest ≡ drop n bytes
+pub token_text : (bytes : List ℕ) (b : ℕ) (t : List ℕ) (n : ℕ) (front rest : List ℕ) → bytes ≡ b ∷ t → IsTokenByte b → IsLongestPrefix IsTokenByte bytes n → front ≡ take n bytes → rest ≡ drop n bytes
     → BeginsWith bytes (token front) rest
 token_text bytes b t n front rest e h r f g =
     subst (λ s. BeginsWith bytes (token s) rest) (sym f) (subst (λ s. BeginsWith bytes (token (take n bytes)) s) (sym g)
-    (subst (λ s. BeginsWith s (token (take n s)) (drop n s)) (sym e) (token_begins b t n h (subst (λ s. IsRun IsTokenByte s n) e r))))
+    (subst (λ s. BeginsWith s (token (take n s)) (drop n s)) (sym e) (token_begins b t n h (subst (λ s. IsLongestPrefix IsTokenByte s n) e r))))
 
 -- ---- runs are texts
 
@@ -112,10 +112,10 @@ front_ascii (b ∷ t) zero i h = lit< tt
 front_ascii (b ∷ t) (suc n) zero h = h zero (omega arith)
 front_ascii (b ∷ t) (suc n) (suc i) h = front_ascii t n i (λ k m. h (suc k) (omega arith))
 
-pub token_ascii : (t : List ℕ) (n : ℕ) → IsRun IsTokenByte t n → IsAscii (take n t)
+pub token_ascii : (t : List ℕ) (n : ℕ) → IsLongestPrefix IsTokenByte t n → IsAscii (take n t)
 token_ascii t n r i = front_ascii t n i (λ k m. omega (arith, (r.each k m).1))
 
-pub string_ascii : (t : List ℕ) (n : ℕ) → IsRun IsStringByte t n → IsAscii (take n t)
+pub string_ascii : (t : List ℕ) (n : ℕ) → IsLongestPrefix IsStringByte t n → IsAscii (take n t)
 string_ascii t n r i = front_ascii t n i (λ k m. omega (arith, (r.each k m).1))
 
 pub ok_where_no_error : {A E : Type 0} (r : Result A E) (P : A → Type 0) (Q : E → Type 0) → MatchResult r P Q → ((e : E) → Q e → ⊥) → IsOk r

@@ -4,7 +4,7 @@ use Rattle.std.specs.declared.alloc.Global.{Global}
 use Rattle.cp_base.specs.declared.place.Place.{Place}
 use Rattle.cp_sexpr.specs.Syntax.{list, Forms, none, more, append}
 use Rattle.cp_sexpr.specs.View.{view, views}
-use Rattle.cp_sexpr.specs.UnfinishedForms.{Unfinished, Building, with_form, with_list_open, with_list_closed, unfinished_onto, places_of}
+use Rattle.cp_sexpr.specs.UnfinishedForms.{Unfinished, Building, with_item, with_list_open, with_list_closed, unfinished_onto, places_of_unclosed}
 use Rattle.cp_sexpr.specs.declared.form.Form as program
 use Rattle.cp_sexpr.specs.declared.form.Form.{the_lemmas}
 use Rattle.cp_sexpr.specs.declared.builder.OpenList.{OpenList}
@@ -32,14 +32,14 @@ pub length-unfinished_onto : (onto : List Unfinished) (ls : List OpenList) → l
 length-unfinished_onto onto [] = omega arith
 length-unfinished_onto onto (k ∷ ls) = let h = length-unfinished_onto (unfinished k ∷ onto) ls in omega arith
 
-pub length-places_of : (ls : List Unfinished) → length (places_of ls) ≡ length ls
+pub length-places_of : (ls : List Unfinished) → length (places_of_unclosed ls) ≡ length ls
 length-places_of [] = refl
 length-places_of (l ∷ ls) = ap suc (length-places_of ls)
 
 pub view-List : (at : Place) (v : Vec program.Form Global) → view (program.List at v) ≡ list at (views v.items)
 view-List at v = search (rules, the_lemmas)
 
-pub length-open : (ls : List OpenList) → length (places_of (unfinished_onto [] ls)) ≡ length ls
+pub length-open : (ls : List OpenList) → length (places_of_unclosed (unfinished_onto [] ls)) ≡ length ls
 length-open ls = length-places_of (unfinished_onto [] ls) ∙ length-unfinished_onto [] ls ∙ zero-add (length ls)
 
 abbrev pub built : List Unfinished → Forms → Building
@@ -53,13 +53,13 @@ opened_is lists now l items before e f g =
 
 -- a list is closed: it is the last, and is a form behind those before it
 pub closed_is : (lists left : List OpenList) (l : OpenList) (items inside before : Vec program.Form Global) → lists ≡ left ++ l ∷ [] → items ≡ l.before → inside ≡ before
-    → with_form (built (unfinished_onto [] left) (views items.items)) (view (program.List l.place inside)) ≡ with_list_closed (unfinished_onto [] lists) (views before.items)
+    → with_item (built (unfinished_onto [] left) (views items.items)) (view (program.List l.place inside)) ≡ with_list_closed (unfinished_onto [] lists) (views before.items)
 closed_is lists left l items inside before e f g =
-    ap₂ (λ fs form. with_form (built (unfinished_onto [] left) fs) form) (ap (λ v. views v.items) f) (view-List l.place inside ∙ ap (λ v. list l.place (views v.items)) g)
+    ap₂ (λ fs form. with_item (built (unfinished_onto [] left) fs) form) (ap (λ v. views v.items) f) (view-List l.place inside ∙ ap (λ v. list l.place (views v.items)) g)
     ∙ sym (ap (λ ls. with_list_closed ls (views before.items)) (ap (unfinished_onto []) e ∙ unfinished_onto-push [] left l))
 
-pub open_not_empty : (lists left : List OpenList) (l : OpenList) → lists ≡ left ++ l ∷ [] → places_of (unfinished_onto [] lists) ≡ [] → ⊥
+pub open_not_empty : (lists left : List OpenList) (l : OpenList) → lists ≡ left ++ l ∷ [] → places_of_unclosed (unfinished_onto [] lists) ≡ [] → ⊥
 open_not_empty lists left l e none_open =
-    let h = ap (λ ls. places_of (unfinished_onto [] ls)) e ∙ ap places_of (unfinished_onto-push [] left l) in
+    let h = ap (λ ls. places_of_unclosed (unfinished_onto [] ls)) e ∙ ap places_of_unclosed (unfinished_onto-push [] left l) in
     let k = sym h ∙ none_open in
     cc

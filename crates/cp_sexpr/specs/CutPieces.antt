@@ -13,7 +13,7 @@ IsOfKind kinds.String = pieces.IsStringByte
 IsOfKind kinds.Comment = pieces.IsCommentByte
 
 -- the first n bytes are of this kind, and the next is not
-pub record IsRun (P : ℕ → Type 0) (bytes : List ℕ) (n : ℕ) : Type 0 where
+pub record IsLongestPrefix (P : ℕ → Type 0) (bytes : List ℕ) (n : ℕ) : Type 0 where
   pub within : n ≤ length bytes
   pub each : (k : ℕ) → k < n → P (slice_index bytes k)
   pub stops : n < length bytes → P (slice_index bytes n) → ⊥

@@ -25,8 +25,8 @@ pub record Building : Type 0 where
 abbrev pub nothing_yet : Building
 nothing_yet = record { lists = []; items = none }
 
-abbrev pub with_form : Building → Form → Building
-with_form s f = record { lists = s.lists; items = append s.items (more f none) }
+abbrev pub with_item : Building → Form → Building
+with_item s f = record { lists = s.lists; items = append s.items (more f none) }
 
 abbrev pub with_list_open : Place → Building → Building
 with_list_open at s = record { lists = record { place = at; before = s.items } ∷ s.lists; items = none }
@@ -41,8 +41,8 @@ begins_with_digit [] = false
 begins_with_digit (b ∷ bs) = nat_le 48 b && nat_le b 57
 
 -- the form that a token stands for
-abbrev pub word : Place → List ℕ → Form
-word at t = if begins_with_digit t then number at (value t) else symbol at t
+abbrev pub token_form : Place → List ℕ → Form
+token_form at t = if begins_with_digit t then number at (value t) else symbol at t
 
 -- what a piece at this place makes of what was built before it
 abbrev pub with_piece : Place → Building → Piece → Building
@@ -50,8 +50,8 @@ with_piece at s (blank b) = s
 with_piece at s (comment t) = s
 with_piece at s opening = with_list_open at s
 with_piece at s closing = with_list_closed s.lists s.items
-with_piece at s (quoted t) = with_form s (string at t)
-with_piece at s (token t) = with_form s (word at t)
+with_piece at s (quoted t) = with_item s (string at t)
+with_piece at s (token t) = with_item s (token_form at t)
 
 -- what these pieces make of it
 abbrev pub with_pieces : Place → Building → List Piece → Building
@@ -59,9 +59,9 @@ with_pieces at s [] = s
 with_pieces at s (p ∷ ps) = with_pieces (after_piece at p) (with_piece at s p) ps
 
 -- the places of lists that are not closed yet
-abbrev pub places_of : List Unfinished → List Place
-places_of [] = []
-places_of (l ∷ ls) = l.place ∷ places_of ls
+abbrev pub places_of_unclosed : List Unfinished → List Place
+places_of_unclosed [] = []
+places_of_unclosed (l ∷ ls) = l.place ∷ places_of_unclosed ls
 
 -- what a builder of the program has built: it holds the innermost list last
 abbrev pub unfinished_onto : List Unfinished → List OpenList → List Unfinished
@@ -73,7 +73,7 @@ building_of b = record { lists = unfinished_onto [] b.lists.items; items = views
 
 -- the places of the lists that a builder has not closed yet
 abbrev pub opened_by : Builder → List Place
-opened_by b = places_of (building_of b).lists
+opened_by b = places_of_unclosed (building_of b).lists
 
 -- the error is that the piece is refused at its place, or memory ran out
 abbrev pub RefusesPiece : Place → List Place → Piece → ReadError → Type 0

@@ -73,13 +73,13 @@ IsRefusedPiece opened (quoted t) code = ⊥
 IsRefusedPiece opened (token t) code = BeginsWithDigit t × (IsNumber t → ⊥) × (code ≡ BadNumber)
 
 -- no reason refuses the piece
-abbrev pub IsAccepted : List Place → Piece → Type 0
-IsAccepted opened p = (code : Code) → IsRefusedPiece opened p code → ⊥
+abbrev pub IsAcceptedPiece : List Place → Piece → Type 0
+IsAcceptedPiece opened p = (code : Code) → IsRefusedPiece opened p code → ⊥
 
 -- none of these pieces is refused
 abbrev pub AreAccepted : Place → List Place → List Piece → Type 0
 AreAccepted at opened [] = Unit {0}
-AreAccepted at opened (p ∷ ps) = IsAccepted opened p × AreAccepted (after_piece at p) (opened_behind at opened p) ps
+AreAccepted at opened (p ∷ ps) = IsAcceptedPiece opened p × AreAccepted (after_piece at p) (opened_behind at opened p) ps
 
 -- The text is pieces, none of them refused, with no list open at its end, that write these forms.
 pub record IsWritten (text : List ℕ) (fs : Forms) : Type 0 where

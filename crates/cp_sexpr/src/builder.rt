@@ -1,10 +1,10 @@
 // Forms are built piece by piece.
 ghost use Rattle.std.specs.Prelude.{◌≡◌, ℕ, [], OnOk, IfOk, IfErr, IfSome, IfNone, IsTrue, ◌↔◌};
 ghost use Rattle.cp_sexpr.specs.Pieces.{opening, closing, token};
-ghost use Rattle.cp_sexpr.specs.Written.{BeginsWithDigit, IsNumber, value, IsAccepted};
+ghost use Rattle.cp_sexpr.specs.Written.{BeginsWithDigit, IsNumber, value, IsAcceptedPiece};
 ghost use Rattle.cp_sexpr.specs.CutPieces.{piece_of};
 ghost use Rattle.cp_sexpr.specs.View.{view, views};
-ghost use Rattle.cp_sexpr.specs.UnfinishedForms.{nothing_yet, with_form, with_list_open, with_list_closed, word, with_piece, building_of, opened_by, RefusesPiece, RefusesEnd};
+ghost use Rattle.cp_sexpr.specs.UnfinishedForms.{nothing_yet, with_item, with_list_open, with_list_closed, token_form, with_piece, building_of, opened_by, RefusesPiece, RefusesEnd};
 
 use crate::error::ReadError;
 use crate::form::Form;
@@ -59,8 +59,8 @@ fn begins_with_digit(text: &[u8]) -> bool
 
 /// The form that a token stands for.
 fn word(alloc: Global, place: Place, text: &str) -> Result<Form, ReadError>
-    ensures form { IfOk result (λ f. view f ≡ word place text.now) }
-    ensures accepted { IfOk result (λ _. IsAccepted [] (token text.now)) }
+    ensures form { IfOk result (λ f. view f ≡ token_form place text.now) }
+    ensures accepted { IfOk result (λ _. IsAcceptedPiece [] (token text.now)) }
     ensures refused { IfErr result (RefusesPiece place [] (token text.now)) }
 {
     if !begins_with_digit(text.as_bytes()) {
@@ -86,7 +86,7 @@ impl Builder {
     }
 
     fn add(&mut self, form: Form) -> Result<(), ReadError>
-        ensures ok { OnOk result (building_of self.new ≡ with_form (building_of self.old) (view form)) }
+        ensures ok { OnOk result (building_of self.new ≡ with_item (building_of self.old) (view form)) }
         ensures err { IfErr result (λ e. e ≡ ReadError.Memory) }
     {
         self.items.push(form)?;
@@ -95,7 +95,7 @@ impl Builder {
 
     fn open_list(&mut self, alloc: Global, place: Place) -> Result<(), ReadError>
         ensures ok { OnOk result (building_of self.new ≡ with_list_open place (building_of self.old)) }
-        ensures accepted { OnOk result (IsAccepted (opened_by self.old) opening) }
+        ensures accepted { OnOk result (IsAcceptedPiece (opened_by self.old) opening) }
         ensures refused { IfErr result (RefusesPiece place (opened_by self.old) opening) }
     {
         if self.lists.len() >= MAX_DEPTH {
@@ -112,7 +112,7 @@ impl Builder {
     fn close_list(&mut self, place: Place) -> Result<(), ReadError>
         ensures ok { OnOk result (building_of self.new
             ≡ with_list_closed (building_of self.old).lists (building_of self.old).items) }
-        ensures accepted { OnOk result (IsAccepted (opened_by self.old) closing) }
+        ensures accepted { OnOk result (IsAcceptedPiece (opened_by self.old) closing) }
         ensures refused { IfErr result (RefusesPiece place (opened_by self.old) closing) }
     {
         let Some(
@@ -140,7 +140,7 @@ impl Builder {
     ) -> Result<(), ReadError>
         ensures ok { OnOk result (building_of self.new
             ≡ with_piece place (building_of self.old) (piece_of piece.entry)) }
-        ensures accepted { OnOk result (IsAccepted (opened_by self.old) (piece_of piece.entry)) }
+        ensures accepted { OnOk result (IsAcceptedPiece (opened_by self.old) (piece_of piece.entry)) }
         ensures refused { IfErr result (RefusesPiece place (opened_by self.old) (piece_of piece.entry)) }
     {
         match piece {

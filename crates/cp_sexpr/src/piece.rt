@@ -3,7 +3,7 @@ ghost use Rattle.std.specs.Prelude.{◌≡◌, ◌+◌, ◌<◌, ◌≤◌, ◌^
 ghost use Rattle.cp_base.specs.declared.place.Place.{Place as PlaceData};
 ghost use Rattle.cp_sexpr.specs.Pieces.{BeginsWith, place_after, quote};
 ghost use Rattle.cp_sexpr.specs.Reading.{IsRefused};
-ghost use Rattle.cp_sexpr.specs.CutPieces.{IsOfKind, IsRun, piece_of};
+ghost use Rattle.cp_sexpr.specs.CutPieces.{IsOfKind, IsLongestPrefix, piece_of};
 
 use cp_base::{Code, Place, Refusal};
 use std::str;
@@ -39,7 +39,7 @@ fn is_of_kind(kind: Kind, b: u8) -> bool
 
 /// How many bytes of this kind the bytes begin with.
 fn run_length(kind: Kind, bytes: &[u8]) -> usize
-    ensures { IsRun (IsOfKind kind) bytes.now result }
+    ensures { IsLongestPrefix (IsOfKind kind) bytes.now result }
 {
     bytes
         .iter()

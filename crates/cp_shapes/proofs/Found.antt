@@ -4,9 +4,9 @@ use Rattle.cp_lists.proofs.Members.{drop_read, item_is_in}
 use Rattle.cp_lists.specs.Lists.{item_at, IsIn, here, there}
 use Rattle.cp_model.specs.Skeleton.{Skeleton}
 use Rattle.cp_lists.proofs.Items.{item_below, item_there}
-use Rattle.cp_shapes.specs.Shapes.{IsLeast, IsInstanceWithin, IsShapeAt, IsShapeOf, IsMarkOf}
+use Rattle.cp_shapes.specs.Shapes.{IsLeast, IsInstanceWithin, IsShapeAt, IsInstanceOfShape, IsMarkOf}
 use Rattle.std.proofs.lemmas.List.{drop_all, nil_from_length}
-use Rattle.cp_shapes.specs.Rows.{IsRising, IsRowOf, AreRowsOf, is_empty_row, FindsShape}
+use Rattle.cp_shapes.specs.Rows.{IsRising, IsRowOf, AreEmbeddingRowsOf, is_empty_row, FindsShape}
 use Rattle.cp_shapes.proofs.RisingRows.{rising_behind}
 use Rattle.cp_shapes.proofs.Instances.{embeds_first_within, instance_on}
 use Rattle.cp_shapes.proofs.Minimal.{IsMinimalBelow, minimal_below}
@@ -41,7 +41,7 @@ abbrev or_none : Option (List ℕ) → List ℕ
 or_none (Some row) = row
 or_none None = []
 
-module _ (ks : List Skeleton) (rows : List (List ℕ)) (are : AreRowsOf ks rows) where
+module _ (ks : List Skeleton) (rows : List (List ℕ)) (are : AreEmbeddingRowsOf ks rows) where
   abbrev row : ℕ → List ℕ
   row m = or_none (item_at rows m)
 
@@ -106,15 +106,15 @@ module _ (ks : List Skeleton) (rows : List (List ℕ)) (are : AreRowsOf ks rows)
     no_instance = λ k h. h.other (least k (embeds_first_within ks k j h.embeds) (either_below k j (inr h)));
   }
 
-  shape_or : (m j : ℕ) → m < length ks → (j ≡ m) ⊎ IsInstanceWithin ks m j → ((k : ℕ) → k < length ks → below k j ≡ true → k ≡ j) → IsShapeAt ks m ⊎ ((n : ℕ) × IsShapeOf ks m n)
+  shape_or : (m j : ℕ) → m < length ks → (j ≡ m) ⊎ IsInstanceWithin ks m j → ((k : ℕ) → k < length ks → below k j ≡ true → k ≡ j) → IsShapeAt ks m ⊎ ((n : ℕ) × IsInstanceOfShape ks m n)
   shape_or m j l (inl e) least = inl (subst (IsShapeAt ks) e (minimal_is_shape j (subst (λ (x : ℕ). x < length ks) (sym e) l) least))
   shape_or m j l (inr h) least = inr (j, (minimal_is_shape j (embeds_first_within ks j m h.embeds) least, h))
 
   -- A candidate is a shape, or an instance of one.
-  pub shape_or_instance : (m : ℕ) → m < length ks → IsShapeAt ks m ⊎ ((n : ℕ) × IsShapeOf ks m n)
+  pub shape_or_instance : (m : ℕ) → m < length ks → IsShapeAt ks m ⊎ ((n : ℕ) × IsInstanceOfShape ks m n)
   shape_or_instance m l = let j = minimal m in shape_or m j.0 l (from_below j.0 m j.1.below) (λ k less b. j.1.least k less refl b)
 
-  marked : (m : ℕ) → IsShapeAt ks m ⊎ ((n : ℕ) × IsShapeOf ks m n) → (found : Option ℕ) → FindsShape ks m found → IsMarkOf ks m found
+  marked : (m : ℕ) → IsShapeAt ks m ⊎ ((n : ℕ) × IsInstanceOfShape ks m n) → (found : Option ℕ) → FindsShape ks m found → IsMarkOf ks m found
   marked m other (Some n) f = f
   marked m (inl s) None f = s
   marked m (inr h) None f = absurd (f h.0 h.1)
@@ -152,7 +152,7 @@ module _ (ks : List Skeleton) (m : ℕ) (row : List ℕ) (is : IsRowOf ks m row)
   split : drop i row ≡ n ∷ drop (i + 1) row
   split = drop_read row i n within here_is
 
-  pub found_first : ((k : ℕ) → IsShapeOf ks m k → IsIn k (drop i row)) → IsShapeAt ks n → IsLeast (IsShapeOf ks m) n
+  pub found_first : ((k : ℕ) → IsInstanceOfShape ks m k → IsIn k (drop i row)) → IsShapeAt ks n → IsLeast (IsInstanceOfShape ks m) n
   found_first left shape = record {
     holds = (shape, (is.listed n).0 (item_is_in row i n within here_is));
     least = λ k less h. before k less (subst (IsIn k) split (left k h));
@@ -165,15 +165,15 @@ module _ (ks : List Skeleton) (m : ℕ) (row : List ℕ) (is : IsRowOf ks m row)
       before k less here = omega (arith, less)
       before k less (there j) = let l = above.0 k j in omega (arith, less, l)
 
-  behind : (k : ℕ) → (IsShapeAt ks n → ⊥) → IsShapeOf ks m k → IsIn k (n ∷ drop (i + 1) row) → IsIn k (drop (i + 1) row)
+  behind : (k : ℕ) → (IsShapeAt ks n → ⊥) → IsInstanceOfShape ks m k → IsIn k (n ∷ drop (i + 1) row) → IsIn k (drop (i + 1) row)
   behind k not h here = absurd (not h.0)
   behind k not h (there j) = j
 
-  pub not_first : ((k : ℕ) → IsShapeOf ks m k → IsIn k (drop i row)) → (IsShapeAt ks n → ⊥) → (k : ℕ) → IsShapeOf ks m k → IsIn k (drop (i + 1) row)
+  pub not_first : ((k : ℕ) → IsInstanceOfShape ks m k → IsIn k (drop i row)) → (IsShapeAt ks n → ⊥) → (k : ℕ) → IsInstanceOfShape ks m k → IsIn k (drop (i + 1) row)
   not_first left not k h = behind k not h (subst (IsIn k) split (left k h))
 
-pub all_left : (ks : List Skeleton) (m : ℕ) (row : List ℕ) → IsRowOf ks m row → (k : ℕ) → IsShapeOf ks m k → IsIn k row
+pub all_left : (ks : List Skeleton) (m : ℕ) (row : List ℕ) → IsRowOf ks m row → (k : ℕ) → IsInstanceOfShape ks m k → IsIn k row
 all_left ks m row is k h = (is.listed k).1 h.1
 
-pub none_left : (ks : List Skeleton) (m : ℕ) (row : List ℕ) (i : ℕ) → length row ≤ i → ((k : ℕ) → IsShapeOf ks m k → IsIn k (drop i row)) → (k : ℕ) → IsShapeOf ks m k → ⊥
+pub none_left : (ks : List Skeleton) (m : ℕ) (row : List ℕ) (i : ℕ) → length row ≤ i → ((k : ℕ) → IsInstanceOfShape ks m k → IsIn k (drop i row)) → (k : ℕ) → IsInstanceOfShape ks m k → ⊥
 none_left ks m row i all left k h = elim (subst (IsIn k) (drop_all i row all) (left k h)) [ ]

@@ -8,7 +8,7 @@ use Rattle.cp_model.specs.Skeleton.{Skeleton}
 use Rattle.cp_model.specs.Homomorphism.{SkeletonMap, IsEmbedding, Embeds}
 use Rattle.cp_hom.specs.Maps.{map_view}
 use Rattle.cp_hom.specs.declared.strand_map.Map.{Map}
-use Rattle.cp_fingerprint.specs.Fingerprints.{Traits, traits_of}
+use Rattle.cp_fingerprint.specs.Signatures.{SignatureData, signature_of}
 use Rattle.cp_model.proofs.CarriedParts.{not_both}
 use Rattle.cp_shapes.specs.Shapes.{EmbedsAt, IsInstanceWithin}
 use Rattle.cp_shapes.proofs.Instances.{same_item, embeds_first_within}
@@ -67,20 +67,20 @@ module _ (ks : List Skeleton) (m n : ℕ) (km kn : Skeleton) (at_m : item_at ks 
       (λ i. back_or_not flag refl (not_first l i.first)),
     )
 
--- ---- fingerprints
+-- ---- signatures
 
-partition_read : {A : Type 0} (f : A → Skeleton) (xs : List A) (n : ℕ) (k : Skeleton) (p : Traits) → item_at (map f xs) n ≡ Some k → p ≡ get_or (map (λ x. traits_of (f x)) xs) n p → traits_of k ≡ p
+partition_read : {A : Type 0} (f : A → Skeleton) (xs : List A) (n : ℕ) (k : Skeleton) (p : SignatureData) → item_at (map f xs) n ≡ Some k → p ≡ get_or (map (λ x. signature_of (f x)) xs) n p → signature_of k ≡ p
 partition_read f [] n k p e is = absurd (cc)
-partition_read f (x ∷ xs) zero k p e is = let q : f x ≡ k = cc in sym (is ∙ ap traits_of q)
+partition_read f (x ∷ xs) zero k p e is = let q : f x ≡ k = cc in sym (is ∙ ap signature_of q)
 partition_read f (x ∷ xs) (suc n) k p e is = partition_read f xs n k p e is
 
--- A candidate with another fingerprint is no instance.
-pub kept_apart : {A : Type 0} (f : A → Skeleton) (xs : List A) (fingerprints : List Traits) (m n : ℕ) (first second : Traits) (flag : Bool) → fingerprints ≡ map (λ x. traits_of (f x)) xs →
-    first ≡ get_or fingerprints n first → second ≡ get_or fingerprints m second → flag ≡ false →
-    ((a b : Skeleton) → traits_of a ≡ first → traits_of b ≡ second → Embeds a b → flag ≡ true) → IsInstanceWithin (map f xs) m n → ⊥
-kept_apart f xs fingerprints m n first second flag e first_is second_is q kept h =
-    let of : (i : ℕ) (k : Skeleton) (p : Traits) → item_at (map f xs) i ≡ Some k → p ≡ get_or fingerprints i p → traits_of k ≡ p =
-    (λ i k p at is. partition_read f xs i k p at (is ∙ ap (λ (ps : List Traits). get_or ps i p) e)) in
+-- A candidate with another signature is no instance.
+pub kept_apart : {A : Type 0} (f : A → Skeleton) (xs : List A) (signatures : List SignatureData) (m n : ℕ) (first second : SignatureData) (flag : Bool) → signatures ≡ map (λ x. signature_of (f x)) xs →
+    first ≡ get_or signatures n first → second ≡ get_or signatures m second → flag ≡ false →
+    ((a b : Skeleton) → signature_of a ≡ first → signature_of b ≡ second → Embeds a b → flag ≡ true) → IsInstanceWithin (map f xs) m n → ⊥
+kept_apart f xs signatures m n first second flag e first_is second_is q kept h =
+    let of : (i : ℕ) (k : Skeleton) (p : SignatureData) → item_at (map f xs) i ≡ Some k → p ≡ get_or signatures i p → signature_of k ≡ p =
+    (λ i k p at is. partition_read f xs i k p at (is ∙ ap (λ (ps : List SignatureData). get_or ps i p) e)) in
     not_both q (kept h.embeds.first h.embeds.second (of n h.embeds.first first h.embeds.at_first first_is) (of m h.embeds.second second h.embeds.at_second second_is) h.embeds.embeds)
 
 pub instance_below : {A : Type 0} (f : A → Skeleton) (xs : List A) (m i n : ℕ) → length xs ≤ n → IsInstanceWithin (map f xs) m i → i < n

@@ -2,7 +2,7 @@
 use Rattle.std.specs.Prelude.{◌≡◌, ◌↔◌, ℕ, ◌<◌, List, [], ◌∷◌, length, map, Vec, ◌==◌, Bool, false, Option, Some, None}
 use Rattle.cp_lists.specs.Lists.{item_at, IsIn}
 use Rattle.cp_model.specs.Skeleton.{Skeleton}
-use Rattle.cp_shapes.specs.Shapes.{IsLeast, IsInstanceWithin, IsShapeOf}
+use Rattle.cp_shapes.specs.Shapes.{IsLeast, IsInstanceWithin, IsInstanceOfShape}
 
 -- Each number is above all before it.
 abbrev pub IsRising : List ℕ → Type 0
@@ -15,7 +15,7 @@ pub record IsRowOf (ks : List Skeleton) (m : ℕ) (row : List ℕ) : Type 0 wher
   pub rising : IsRising row
 
 -- For each candidate its row.
-pub record AreRowsOf (ks : List Skeleton) (rows : List (List ℕ)) : Type 0 where
+pub record AreEmbeddingRowsOf (ks : List Skeleton) (rows : List (List ℕ)) : Type 0 where
   pub count : length rows ≡ length ks
   pub each : (m : ℕ) (row : List ℕ) → item_at rows m ≡ Some row → IsRowOf ks m row
 
@@ -29,5 +29,5 @@ is_empty_row (Some row) = length row == 0
 
 -- The least shape of which candidate number m is an instance; none where there is none.
 abbrev pub FindsShape : List Skeleton → ℕ → Option ℕ → Type 0
-FindsShape ks m (Some n) = IsLeast (IsShapeOf ks m) n
-FindsShape ks m None = (n : ℕ) → IsShapeOf ks m n → ⊥
+FindsShape ks m (Some n) = IsLeast (IsInstanceOfShape ks m) n
+FindsShape ks m None = (n : ℕ) → IsInstanceOfShape ks m n → ⊥

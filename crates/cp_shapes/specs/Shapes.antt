@@ -31,15 +31,15 @@ pub record IsShapeAt (ks : List Skeleton) (m : ℕ) : Type 0 where
   pub no_instance : (n : ℕ) → IsInstanceWithin ks m n → ⊥
 
 -- Candidate number n is a shape, and candidate number m an instance of it.
-abbrev pub IsShapeOf : List Skeleton → ℕ → ℕ → Type 0
-IsShapeOf ks m n = IsShapeAt ks n × IsInstanceWithin ks m n
+abbrev pub IsInstanceOfShape : List Skeleton → ℕ → ℕ → Type 0
+IsInstanceOfShape ks m n = IsShapeAt ks n × IsInstanceWithin ks m n
 
 -- What a candidate is: a shape, or else an instance of the least such shape.
 abbrev pub IsMarkOf : List Skeleton → ℕ → Option ℕ → Type 0
 IsMarkOf ks m None = IsShapeAt ks m
-IsMarkOf ks m (Some n) = IsLeast (IsShapeOf ks m) n
+IsMarkOf ks m (Some n) = IsLeast (IsInstanceOfShape ks m) n
 
 -- For each candidate what it is.
-pub record AreMarksOf (ks : List Skeleton) (marks : List (Option ℕ)) : Type 0 where
+pub record AreShapeMarksOf (ks : List Skeleton) (marks : List (Option ℕ)) : Type 0 where
   pub count : length marks ≡ length ks
   pub each : (m : ℕ) (mark : Option ℕ) → item_at marks m ≡ Some mark → IsMarkOf ks m mark

@@ -7,7 +7,7 @@ use Rattle.cp_model.specs.Standing.{Standing, StandsIn, StandsApart}
 use Rattle.cp_model.specs.Homomorphism.{FactorsThrough}
 
 -- The problem's standing factors through a standing apart of skeleton number i.
-pub record StandsThrough (problem : Skeleton) (ks : List Skeleton) (b : Bundle) (h : Standing) (i : ℕ) : Type 0 where
+pub record FactorsThroughNumber (problem : Skeleton) (ks : List Skeleton) (b : Bundle) (h : Standing) (i : ℕ) : Type 0 where
   pub skeleton : Skeleton
   pub at : item_at ks i ≡ Some skeleton
   pub standing : Standing

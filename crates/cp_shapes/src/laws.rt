@@ -5,8 +5,8 @@ ghost use Rattle.cp_model.specs.Strand.{Protocol};
 ghost use Rattle.cp_model.specs.Bundle.{Bundle};
 ghost use Rattle.cp_model.specs.Skeleton.{Skeleton, IsSkeleton};
 ghost use Rattle.cp_model.specs.Standing.{Standing};
-ghost use Rattle.cp_shapes.specs.Shapes.{EmbedsAt, IsShapeAt, AreMarksOf};
-ghost use Rattle.cp_shapes.specs.Through.{StandsThrough};
+ghost use Rattle.cp_shapes.specs.Shapes.{EmbedsAt, IsShapeAt, AreShapeMarksOf};
+ghost use Rattle.cp_shapes.specs.Through.{FactorsThroughNumber};
 
 /// No shape embeds in another.
 pub fn shapes_are_apart()
@@ -16,7 +16,7 @@ pub fn shapes_are_apart()
 /// Some shape, possibly the candidate itself, embeds in each candidate. So a standing that factors through a candidate factors
 /// through a shape.
 pub fn standings_go_through_shapes()
-    ensures embeds { (ks : List Skeleton) (marks : List (Option ℕ)) → AreMarksOf ks marks → (m : ℕ) → m < length ks → (n : ℕ) × IsShapeAt ks n × EmbedsAt ks n m }
-    ensures stands { (protocol : Protocol) (problem : Skeleton) (ks : List Skeleton) (marks : List (Option ℕ)) (b : Bundle) (h : Standing) → AreMarksOf ks marks → ((k : Skeleton) → IsIn k ks → IsSkeleton protocol k)
-        → (m : ℕ) → StandsThrough problem ks b h m → (n : ℕ) × IsShapeAt ks n × StandsThrough problem ks b h n }
+    ensures embeds { (ks : List Skeleton) (marks : List (Option ℕ)) → AreShapeMarksOf ks marks → (m : ℕ) → m < length ks → (n : ℕ) × IsShapeAt ks n × EmbedsAt ks n m }
+    ensures stands { (protocol : Protocol) (problem : Skeleton) (ks : List Skeleton) (marks : List (Option ℕ)) (b : Bundle) (h : Standing) → AreShapeMarksOf ks marks → ((k : Skeleton) → IsIn k ks → IsSkeleton protocol k)
+        → (m : ℕ) → FactorsThroughNumber problem ks b h m → (n : ℕ) × IsShapeAt ks n × FactorsThroughNumber problem ks b h n }
 {}

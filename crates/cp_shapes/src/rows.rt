@@ -1,24 +1,24 @@
 // For each candidate, the candidates of which it is an instance.
 ghost use Rattle.std.specs.Prelude.{◌≡◌, ◌↔◌, ◌<◌, length, map, IsTrue, IfOk};
 ghost use Rattle.cp_skel.specs.View.{skeleton_view};
-ghost use Rattle.cp_fingerprint.specs.Fingerprints.{traits_of};
+ghost use Rattle.cp_fingerprint.specs.Signatures.{signature_of};
 ghost use Rattle.cp_shapes.specs.Shapes.{IsInstanceWithin};
-ghost use Rattle.cp_shapes.specs.Rows.{IsRowOf, AreRowsOf, rows_view};
+ghost use Rattle.cp_shapes.specs.Rows.{IsRowOf, AreEmbeddingRowsOf, rows_view};
 
-use cp_fingerprint::Fingerprint;
+use cp_fingerprint::Signature;
 use cp_hom::embed;
 use cp_skel::Skeleton;
 use std::alloc::{AllocError, Global};
 
-/// The fingerprints of the candidates.
-fn fingerprints(alloc: Global, candidates: &[&Skeleton]) -> Result<Vec<Fingerprint>, AllocError>
-    ensures { IfOk result (λ fingerprints. fingerprints.items ≡ map (λ k. traits_of (skeleton_view k.now)) candidates.now) }
+/// The signatures of the candidates.
+fn signatures(alloc: Global, candidates: &[&Skeleton]) -> Result<Vec<Signature>, AllocError>
+    ensures { IfOk result (λ signatures. signatures.items ≡ map (λ k. signature_of (skeleton_view k.now)) candidates.now) }
 {
-    let mut fingerprints = Vec::new(alloc);
+    let mut signatures = Vec::new(alloc);
     for candidate in candidates {
-        fingerprints.push(Fingerprint::of(alloc, candidate)?)?;
+        signatures.push(Signature::of(alloc, candidate)?)?;
     }
-    Ok(fingerprints)
+    Ok(signatures)
 }
 
 /// Whether a candidate is an instance of another: `shape` embeds in `instance`, and either `instance` does not embed in `shape`
@@ -50,17 +50,17 @@ fn is_instance(
 fn row_of(
     alloc: Global,
     candidates: &[&Skeleton],
-    fingerprints: &[Fingerprint],
+    signatures: &[Signature],
     instance: usize,
 ) -> Result<Vec<usize>, AllocError>
-    requires fingerprints { fingerprints.now ≡ map (λ k. traits_of (skeleton_view k.now)) candidates.now }
+    requires signatures { signatures.now ≡ map (λ k. signature_of (skeleton_view k.now)) candidates.now }
     requires within { instance < length candidates.now }
     ensures { IfOk result (λ row. IsRowOf (map (λ k. skeleton_view k.now) candidates.now) instance row.items) }
 {
-    let own = &fingerprints[instance];
+    let own = &signatures[instance];
     let mut row = Vec::new(alloc);
     for shape in 0..candidates.len() {
-        if !fingerprints[shape].may_embed(own) {
+        if !signatures[shape].may_embed(own) {
             continue;
         }
         if !is_instance(alloc, candidates, instance, shape)? {
@@ -73,12 +73,12 @@ fn row_of(
 
 /// For each candidate, the candidates of which it is an instance, in order.
 pub(crate) fn rows(alloc: Global, candidates: &[&Skeleton]) -> Result<Vec<Vec<usize>>, AllocError>
-    ensures { IfOk result (λ rows. AreRowsOf (map (λ k. skeleton_view k.now) candidates.now) (rows_view rows.items)) }
+    ensures { IfOk result (λ rows. AreEmbeddingRowsOf (map (λ k. skeleton_view k.now) candidates.now) (rows_view rows.items)) }
 {
-    let fingerprints = fingerprints(alloc, candidates)?;
+    let signatures = signatures(alloc, candidates)?;
     let mut rows = Vec::new(alloc);
     for instance in 0..candidates.len() {
-        rows.push(row_of(alloc, candidates, &fingerprints, instance)?)?;
+        rows.push(row_of(alloc, candidates, &signatures, instance)?)?;
     }
     Ok(rows)
 }

@@ -2,10 +2,10 @@
 use Rattle.std.proofs.Common.{◌≡◌, ◌↔◌, List, ◌∷◌, Bool, true, false, sym, ap, ◌∙◌, subst}
 use Rattle.cp_model.specs.declared.node.Node.{Node}
 use Rattle.cp_model.specs.declared.node.OrderPair.{OrderPair}
-use Rattle.cp_model.specs.Order.{LeadsTo}
+use Rattle.cp_model.specs.Order.{ReachesAlong}
 use Rattle.cp_model.specs.Skeleton.{Skeleton, Before, IsOrderPair}
 use Rattle.cp_order.specs.Closed.{KeepsOrder}
-use Rattle.cp_order.specs.LeadingNodes.{Target}
+use Rattle.cp_order.specs.PredecessorNodes.{Target}
 use Rattle.cp_model.specs.Data.{SkeletonData}
 use Rattle.cp_skel.specs.Ordered.{IsOrdered, ordered_by}
 use Rattle.cp_skel.specs.Sound.{IsSound}
@@ -14,15 +14,15 @@ use Rattle.cp_skel.proofs.OrderKept.{leads_back, leads_not_back, more_ordered, k
 use Rattle.cp_skel.proofs.SoundSkeletons.{sound_ordered, added_sound}
 
 module _ (parts seen : SkeletonData) (same : parts ≡ seen) (sound : IsSound (skeleton_view parts)) (p : OrderPair) (fits : IsOrderPair (skeleton_view seen) p)
-    (leads : Bool) (l : Target) (pairs : List OrderPair) (gathered : l ≡ record { pairs = pairs; node = p.earlier }) (own : pairs ≡ parts.order) (has : (leads ≡ true) ↔ LeadsTo l.pairs p.later l.node) where
+    (leads : Bool) (l : Target) (pairs : List OrderPair) (gathered : l ≡ record { pairs = pairs; node = p.earlier }) (own : pairs ≡ parts.order) (has : (leads ≡ true) ↔ ReachesAlong l.pairs p.later l.node) where
   abbrev k : Skeleton
   k = skeleton_view parts
 
   pair : IsOrderPair k p
   pair = subst (λ d. IsOrderPair (skeleton_view d) p) (sym same) fits
 
-  told : (leads ≡ true) ↔ LeadsTo parts.order p.later p.earlier
-  told = subst (λ (t : Target). (leads ≡ true) ↔ LeadsTo t.pairs p.later t.node) (gathered ∙ ap (λ (ps : List OrderPair). record { pairs = ps; node = p.earlier }) own) has
+  told : (leads ≡ true) ↔ ReachesAlong parts.order p.later p.earlier
+  told = subst (λ (t : Target). (leads ≡ true) ↔ ReachesAlong t.pairs p.later t.node) (gathered ∙ ap (λ (ps : List OrderPair). record { pairs = ps; node = p.earlier }) own) has
 
   free : leads ≡ false → Before k p.later p.earlier → ⊥
   free = leads_not_back k p leads (sound_ordered k sound) pair told

@@ -16,8 +16,8 @@ use Rattle.cp_lists.proofs.Members.{in_append_left}
 use Rattle.cp_model.proofs.LawPrefixes.{variables_of_higher}
 use Rattle.cp_lists.proofs.Items.{item_below, item_there}
 use Rattle.cp_model.proofs.StatedStays.{HasAssumptionsOf, own_stays, stated_stays}
-use Rattle.cp_skel.specs.Given.{AddsOnce}
-use Rattle.cp_skel.specs.Extensions.{AddsListener, AddsStrand, CanExtend, Extends}
+use Rattle.cp_model.specs.GivenAssumptions.{AddsOnce}
+use Rattle.cp_model.specs.Extensions.{AddsListener, AddsStrand, CanExtend, Extends}
 use Rattle.cp_skel.specs.Ordered.{IsOrdered, ordered_by, DiffersInOrder}
 use Rattle.cp_skel.specs.KeptByChanges.{KeptByChanges}
 use Rattle.cp_skel.specs.Sound.{IsSound}

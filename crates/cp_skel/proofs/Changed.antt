@@ -6,28 +6,28 @@ use Rattle.cp_model.specs.Term.{Term, AgreeOnTerms}
 use Rattle.cp_model.specs.Strand.{Role, variables_of_prefix}
 use Rattle.cp_model.specs.Skeleton.{SkeletonStrand, instance, Assumptions, Skeleton}
 use Rattle.cp_model.specs.Homomorphism.{substitution_by}
-use Rattle.cp_skel.specs.Given.{AddsGiven}
-use Rattle.cp_skel.specs.JoinedAssumptions.{joined}
-use Rattle.cp_strand.specs.PrefixVariables.{prefix_variables, is_added, added_variables, AreTermsFor, terms_of}
+use Rattle.cp_model.specs.GivenAssumptions.{AddsGiven}
+use Rattle.cp_skel.specs.JoinedAssumptions.{joined_assumptions}
+use Rattle.cp_model.specs.PrefixVariables.{prefix_variables, is_added, added_variables, AreTermsFor, terms_of}
 use Rattle.cp_strand.specs.Valued.{valued}
-use Rattle.cp_skel.specs.Extensions.{AddsStrand, CanExtend, Extends, IsClosedPrefix}
+use Rattle.cp_model.specs.Extensions.{AddsStrand, CanExtend, Extends, IsClosedPrefix}
 use Rattle.cp_skel.proofs.ValuedTerms.{value-terms, all-added, keeps-terms}
 
 abbrev pub made : Role → ℕ → ℕ → List Term → List Term → List Term
 made role before height old values = valued (is_added (variables_of_prefix role before) (variables_of_prefix role height)) old 0 role.variables values
 
 module _ (old : Skeleton) (role r : Role) (height h : ℕ) (values ts : List Term) (more reserved joint : Assumptions) (same_role : r ≡ role) (same_height : h ≡ height)
-    (kept : reserved ≡ old.assumptions) (all : joint ≡ joined reserved more) where
-  given : (s : ℕ) → AddsGiven r h (substitution_by ts) s old.assumptions (joined old.assumptions more) → AddsGiven role height (substitution_by ts) s old.assumptions joint
+    (kept : reserved ≡ old.assumptions) (all : joint ≡ joined_assumptions reserved more) where
+  given : (s : ℕ) → AddsGiven r h (substitution_by ts) s old.assumptions (joined_assumptions old.assumptions more) → AddsGiven role height (substitution_by ts) s old.assumptions joint
   given s g =
-      let whole : joined old.assumptions more ≡ joint = sym (all ∙ ap (λ a. joined a more) kept) in
+      let whole : joined_assumptions old.assumptions more ≡ joint = sym (all ∙ ap (λ a. joined_assumptions a more) kept) in
       subst (AddsGiven role height (substitution_by ts) s old.assumptions) whole
-      (subst (λ k. AddsGiven role k (substitution_by ts) s old.assumptions (joined old.assumptions more)) same_height
-      (subst (λ q. AddsGiven q h (substitution_by ts) s old.assumptions (joined old.assumptions more)) same_role g))
+      (subst (λ k. AddsGiven role k (substitution_by ts) s old.assumptions (joined_assumptions old.assumptions more)) same_height
+      (subst (λ q. AddsGiven q h (substitution_by ts) s old.assumptions (joined_assumptions old.assumptions more)) same_role g))
 
   pub strand-added : (strands : List SkeletonStrand) (before : List Term) (n : ℕ) → ts ≡ made role 0 height before values → AreTermsFor (prefix_variables role height) values →
       strands ≡ old.strands ++ instance r h (substitution_by ts) ∷ [] → n ≡ length old.strands →
-      AddsGiven r h (substitution_by ts) n old.assumptions (joined old.assumptions more) →
+      AddsGiven r h (substitution_by ts) n old.assumptions (joined_assumptions old.assumptions more) →
       AddsStrand role height values old (record { strands = strands; pairs = old.pairs; assumptions = joint; from_problem = old.from_problem })
   strand-added strands before n is fit behind number g = record {
     terms = substitution_by ts;
@@ -43,7 +43,7 @@ module _ (old : Skeleton) (role r : Role) (height h : ℕ) (values ts : List Ter
   pub strand-extended : (strands : List SkeletonStrand) (s before : ℕ) (terms : List Term) (can : CanExtend old s height values) → IsClosedPrefix can.role height →
       item_at old.strands s ≡ Some (instance role before (substitution_by terms)) → ts ≡ made role before height terms values →
       item_at strands s ≡ Some (instance r h (substitution_by ts)) → ((t : ℕ) → t ≢ s → item_at strands t ≡ item_at old.strands t) →
-      AddsGiven r h (substitution_by ts) s old.assumptions (joined old.assumptions more) →
+      AddsGiven r h (substitution_by ts) s old.assumptions (joined_assumptions old.assumptions more) →
       Extends s height values old (record { strands = strands; pairs = old.pairs; assumptions = joint; from_problem = old.from_problem })
   strand-extended strands s before terms can declared was is on others g =
       let both : Some (instance can.role can.before can.terms) ≡ Some (instance role before (substitution_by terms)) = sym can.on_instance ∙ was in

@@ -14,13 +14,13 @@ use Rattle.cp_model.proofs.SameTests.{variable_in, in_has_variable}
 use Rattle.cp_model.proofs.DeclaredVariables.{still_declared}
 use Rattle.cp_lists.proofs.Members.{in_append, in_append_left, in_append_right}
 use Rattle.cp_lists.proofs.Items.{item_of_push}
-use Rattle.cp_skel.specs.Extensions.{AddsListener, IsClosedPrefix, AddsStrand, Extends}
-use Rattle.cp_skel.specs.Given.{IsGivenFrom, IsOriginFrom, AddsOnce, AddsGiven}
-use Rattle.cp_strand.specs.PrefixVariables.{prefix_variables, added_variables, terms_of}
+use Rattle.cp_model.specs.Extensions.{AddsListener, IsClosedPrefix, AddsStrand, Extends}
+use Rattle.cp_model.specs.GivenAssumptions.{IsGivenFrom, IsOriginFrom, AddsOnce, AddsGiven}
+use Rattle.cp_model.specs.PrefixVariables.{prefix_variables, added_variables, terms_of}
 use Rattle.cp_skel.specs.Ordered.{ordered_by}
-use Rattle.cp_skel.proofs.PrefixVariables.{in-prefix, in-added}
+use Rattle.cp_model.proofs.PrefixVariables.{in-prefix, in-added}
 use Rattle.cp_model.proofs.OccurringVariables.{in_trace_under, strand_with, in_strands, atom_with, in_atoms, unique_with, in_uniques}
-use Rattle.cp_skel.proofs.UnderVariables.{applies_at, of_atom, of_trace}
+use Rattle.cp_model.proofs.UnderVariables.{applies_at, of_atom, of_trace}
 
 -- ---- more declarations
 

@@ -10,7 +10,7 @@ use Rattle.cp_model.specs.Skeleton.{Assumptions, Skeleton}
 use Rattle.cp_model.specs.Given.{has_atom, atoms_onto, has_unique, uniques_onto, given_non, given_penetrator_non, given_uniques, with_given, listed}
 use Rattle.cp_lists.proofs.Members.{in_append, in_append_left, in_append_right, into_filter, from_filter, not_in_none, only_item, head_or_behind, filter-all}
 use Rattle.cp_model.proofs.Gathered.{IsGathering, onto-append, onto-keeps, onto-takes, onto-only, atoms, uniques}
-use Rattle.cp_skel.specs.Given.{IsEachOnce, AddsOnce, HasEachOnce}
+use Rattle.cp_model.specs.GivenAssumptions.{IsEachOnce, AddsOnce, HasEachOnce}
 use Rattle.cp_skel.proofs.Once.{once-append, adds-none, adds-known, adds-one, adds-then}
 
 -- ---- what is kept of a list

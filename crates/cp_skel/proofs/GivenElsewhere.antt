@@ -7,9 +7,9 @@ use Rattle.cp_model.specs.Strand.{Role}
 use Rattle.cp_model.specs.Skeleton.{SkeletonStrand, instance}
 use Rattle.cp_lists.proofs.Members.{in_append, in_append_left, none_in_empty}
 use Rattle.cp_lists.proofs.Items.{item_still, item_last, item_of_push, map_of_read}
-use Rattle.cp_skel.specs.Given.{IsGivenFrom, AddsOnce}
+use Rattle.cp_model.specs.GivenAssumptions.{IsGivenFrom, AddsOnce}
 use Rattle.cp_skel.specs.Kinds.{IsInFirstAlone}
-use Rattle.cp_skel.specs.Deletion.{LeavesOut, all_left, is_gone, is_left, GivesFrom, IsGivenAt, IsGivenElsewhere, IsForgotten}
+use Rattle.cp_skel.specs.Deletion.{LeavesOut, all_left, is_gone, is_left, GivesFrom, IsStatedAt, IsGivenElsewhere, IsForgotten}
 
 -- What an instance gives is added to what was given.
 pub adds_given : (stated : Role → List AtomTerm) (strand : SkeletonStrand) (role : Role) (height : ℕ) (terms : Substitution) (xs old more : List AtomTerm) →
@@ -150,7 +150,7 @@ forgotten_alone view stated d xs x base more gave elsewhere else own l e none g 
     only (inl h) = elim h [ ]
     only (inr h) = h
 
-    at_d : IsGivenAt stated (map view xs) d v → GivesFrom stated (view x) v
+    at_d : IsStatedAt stated (map view xs) d v → GivesFrom stated (view x) v
     at_d h =
         let p : item_at (map view xs) d ≡ Some h.strand = h.there_is in
         let q : item_at (map view xs) d ≡ Some (view x) = here in

@@ -12,7 +12,7 @@ use Rattle.cp_model.specs.Same.{has_variables, origin_in}
 use Rattle.cp_model.specs.Given.{atoms_onto, uniques_onto, applying, unique_if_below, applying_uniques}
 use Rattle.cp_lists.proofs.Members.{in_append, in_append_left, in_append_right, not_in_none, only_item, head_or_behind}
 use Rattle.cp_model.proofs.SameTests.{origin_found, finds_origin, variables_there, there_variables}
-use Rattle.cp_skel.specs.Given.{IsGivenFrom, IsGivenNon, IsGivenPenetratorNon, IsOriginFrom, IsGivenUnique, AddsOnce, AddsGiven, with_given_from}
+use Rattle.cp_model.specs.GivenAssumptions.{IsGivenFrom, IsGivenNon, IsGivenPenetratorNon, IsOriginFrom, IsGivenUnique, AddsOnce, AddsGiven, with_given_from}
 use Rattle.cp_skel.proofs.Once.{adds-same}
 use Rattle.cp_model.proofs.Gathered.{atoms, uniques}
 use Rattle.cp_skel.proofs.EachOnce.{adds-onto}

@@ -14,11 +14,9 @@ pub mod ValuedTerms
 pub mod Changed
 pub mod Grown
 pub mod StaySkeletons
-pub mod PrefixVariables
 pub mod EachOnce
 pub mod StrandsGive
 pub mod DeclaredRoles
-pub mod UnderVariables
 pub mod DeclaredChanges
 pub mod CarriedHomomorphisms
 pub mod EventLists

@@ -3,7 +3,7 @@ use Rattle.std.proofs.Common.{◌≡◌, List, [], ◌∷◌, ◌++◌, refl, sy
 use Rattle.std.proofs.lemmas.List.{append-nil}
 use Rattle.cp_lists.specs.Lists.{IsIn, here, there}
 use Rattle.cp_lists.proofs.Members.{in_append, in_append_left, in_append_right, not_in_none, only_item}
-use Rattle.cp_skel.specs.Given.{IsEachOnce, AddsOnce}
+use Rattle.cp_model.specs.GivenAssumptions.{IsEachOnce, AddsOnce}
 
 pub once-append : {A : Type 0} (xs ys : List A) → IsEachOnce xs → IsEachOnce ys → ((x : A) → IsIn x xs → IsIn x ys → ⊥) → IsEachOnce (xs ++ ys)
 once-append [] ys p q apart = q

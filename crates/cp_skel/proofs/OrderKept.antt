@@ -6,7 +6,7 @@ use Rattle.cp_model.specs.Strand.{send, recv}
 use Rattle.cp_model.specs.declared.node.Node.{Node}
 use Rattle.cp_model.specs.Skeleton.{term_event_at, IsNodeOf, Skeleton, OrderStep, along_strand_of, along_pair, Before, IsOrderPair}
 use Rattle.cp_model.specs.declared.node.OrderPair.{OrderPair}
-use Rattle.cp_model.specs.Order.{IsAtOrAfter, LeadsTo, on_strand}
+use Rattle.cp_model.specs.Order.{IsAtOrAfter, ReachesAlong, on_strand}
 use Rattle.cp_lists.proofs.Reached.{steps_append}
 use Rattle.cp_model.proofs.CarriedParts.{not_both}
 use Rattle.cp_model.proofs.LawOrder.{before_by_pairs}
@@ -14,22 +14,22 @@ use Rattle.cp_order.specs.Closed.{IsComposedOf, KeepsOrder}
 use Rattle.cp_skel.specs.Ordered.{IsOrdered, ordered_by}
 use Rattle.cp_order.proofs.AlongPairs.{pair_led}
 
--- ---- questions to an order
+-- ---- what an order tells
 
-pub asked_before : (k : Skeleton) (x y : Node) (leads : Bool) → IsOrdered k → IsNodeOf k.strands y → (x ≡ y → ⊥) → (leads ≡ true) ↔ LeadsTo k.pairs x y → (leads ≡ true) ↔ Before k x y
+pub asked_before : (k : Skeleton) (x y : Node) (leads : Bool) → IsOrdered k → IsNodeOf k.strands y → (x ≡ y → ⊥) → (leads ≡ true) ↔ ReachesAlong k.pairs x y → (leads ≡ true) ↔ Before k x y
 asked_before k x y leads ordered at other l =
     let law = before_by_pairs k ordered.order_pairs ordered.no_cycle x y at in
     (λ h. law.1 (l.0 h, other), λ b. l.1 (law.0 b).0)
 
 -- Whether a pair's later node is before its earlier one.
-asked_back : (k : Skeleton) (p : OrderPair) (leads : Bool) → IsOrdered k → IsOrderPair k p → (leads ≡ true) ↔ LeadsTo k.pairs p.later p.earlier → (leads ≡ true) ↔ Before k p.later p.earlier
+asked_back : (k : Skeleton) (p : OrderPair) (leads : Bool) → IsOrdered k → IsOrderPair k p → (leads ≡ true) ↔ ReachesAlong k.pairs p.later p.earlier → (leads ≡ true) ↔ Before k p.later p.earlier
 asked_back k p leads ordered pair l =
     asked_before k p.later p.earlier leads ordered (send pair.sent, pair.transmission) (λ e. pair.between_strands (sym (ap (λ (n : Node). n.strand) e))) l
 
-pub leads_back : (k : Skeleton) (p : OrderPair) (leads : Bool) → IsOrdered k → IsOrderPair k p → (leads ≡ true) ↔ LeadsTo k.pairs p.later p.earlier → leads ≡ true → Before k p.later p.earlier
+pub leads_back : (k : Skeleton) (p : OrderPair) (leads : Bool) → IsOrdered k → IsOrderPair k p → (leads ≡ true) ↔ ReachesAlong k.pairs p.later p.earlier → leads ≡ true → Before k p.later p.earlier
 leads_back k p leads ordered pair l h = (asked_back k p leads ordered pair l).0 h
 
-pub leads_not_back : (k : Skeleton) (p : OrderPair) (leads : Bool) → IsOrdered k → IsOrderPair k p → (leads ≡ true) ↔ LeadsTo k.pairs p.later p.earlier → leads ≡ false → Before k p.later p.earlier → ⊥
+pub leads_not_back : (k : Skeleton) (p : OrderPair) (leads : Bool) → IsOrdered k → IsOrderPair k p → (leads ≡ true) ↔ ReachesAlong k.pairs p.later p.earlier → leads ≡ false → Before k p.later p.earlier → ⊥
 leads_not_back k p leads ordered pair l h b = not_both h ((asked_back k p leads ordered pair l).1 b)
 
 -- ---- pairs that order in the same way
@@ -40,15 +40,15 @@ pair_at k p h = (recv h.received, h.reception)
 apart : (k : Skeleton) (p : OrderPair) → IsOrderPair k p → p.earlier ≡ p.later → ⊥
 apart k p h e = h.between_strands (ap (λ (n : Node). n.strand) e)
 
--- one pair of an ordered skeleton, by what leads where
-before_of : (k : Skeleton) → IsOrdered k → (x y : Node) → IsNodeOf k.strands y → LeadsTo k.pairs x y → (x ≡ y → ⊥) → Before k x y
+-- one pair of an ordered skeleton, by what reaches what
+before_of : (k : Skeleton) → IsOrdered k → (x y : Node) → IsNodeOf k.strands y → ReachesAlong k.pairs x y → (x ≡ y → ⊥) → Before k x y
 before_of k ordered x y at l other = (before_by_pairs k ordered.order_pairs ordered.no_cycle x y at).1 (l, other)
 
 other_way : (i j : ℕ) → (i ≤ j → ⊥) → j ≤ i
 other_way i j h = omega arith
 
 module _ (k : Skeleton) (ordered : IsOrdered k) (ps : List OrderPair) (keeps : KeepsOrder k.pairs ps) where
-  pair_leads : (p : OrderPair) → IsIn p ps → LeadsTo k.pairs p.earlier p.later
+  pair_leads : (p : OrderPair) → IsIn p ps → ReachesAlong k.pairs p.earlier p.later
   pair_leads p m = (keeps.leads p.earlier p.later).0 (pair_led ps p m)
 
   -- against the order of a strand there is no pair

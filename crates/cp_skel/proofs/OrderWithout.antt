@@ -9,7 +9,7 @@ use Rattle.cp_model.specs.Term.{Term}
 use Rattle.cp_model.specs.Strand.{send, recv}
 use Rattle.cp_model.specs.Skeleton.{term_event_at, IsNodeOf, Skeleton, OrderStep, along_strand_of, along_pair, Before, IsOrderPair}
 use Rattle.cp_model.specs.declared.node.OrderPair.{OrderPair}
-use Rattle.cp_model.specs.Order.{IsAtOrAfter, LeadsTo, on_strand, over_pair}
+use Rattle.cp_model.specs.Order.{IsAtOrAfter, ReachesAlong, on_strand, over_pair}
 use Rattle.cp_lists.proofs.Members.{in_append, in_append_left, in_append_right}
 use Rattle.cp_lists.proofs.Reached.{steps_append}
 use Rattle.cp_model.proofs.LawOrder.{before_leads, leads_before}
@@ -62,7 +62,7 @@ module _ (old new : Skeleton) (d : ℕ) (strands : new.strands ≡ remove old.st
 
   -- ---- from old to new
 
-  through_leads : (p q : OrderPair) → IsIn p old.pairs → IsIn q old.pairs → IsAtOrAfter p.later q.earlier → LeadsTo old.pairs p.earlier q.later
+  through_leads : (p q : OrderPair) → IsIn p old.pairs → IsIn q old.pairs → IsAtOrAfter p.later q.earlier → ReachesAlong old.pairs p.earlier q.later
   through_leads p q m n a = over_pair m (refl, omega arith) (over_pair n a (on_strand (refl, omega arith)))
 
   node_later : (q : OrderPair) → IsIn q old.pairs → IsNodeOf old.strands q.later
@@ -90,31 +90,31 @@ module _ (old new : Skeleton) (d : ℕ) (strands : new.strands ≡ remove old.st
 
   -- What leads on from a node, or from the strand's node to which a pair leads.
   abbrev Goes : Node → Node → Type 0
-  Goes z y = (z.strand ≢ d → LeadsTo new.pairs (node_renumbered d z) (node_renumbered d y))
-      × (z.strand ≡ d → (p : OrderPair) → IsIn p old.pairs → p.later.strand ≡ d → p.later.index ≤ z.index → LeadsTo new.pairs (node_renumbered d p.earlier) (node_renumbered d y))
+  Goes z y = (z.strand ≢ d → ReachesAlong new.pairs (node_renumbered d z) (node_renumbered d y))
+      × (z.strand ≡ d → (p : OrderPair) → IsIn p old.pairs → p.later.strand ≡ d → p.later.index ≤ z.index → ReachesAlong new.pairs (node_renumbered d p.earlier) (node_renumbered d y))
 
-  step_off : (z y : Node) (q : OrderPair) → IsIn q old.pairs → IsAtOrAfter z q.earlier → z.strand ≢ d → Goes q.later y → LeadsTo new.pairs (node_renumbered d z) (node_renumbered d y)
+  step_off : (z y : Node) (q : OrderPair) → IsIn q old.pairs → IsAtOrAfter z q.earlier → z.strand ≢ d → Goes q.later y → ReachesAlong new.pairs (node_renumbered d z) (node_renumbered d y)
   step_off z y q m a off rest =
       let there : IsAtOrAfter (node_renumbered d z) (node_renumbered d q.earlier) = (ap (renumbered d) a.0, a.1) in
-      elim (cases_eq q.later.strand d) as (λ _. LeadsTo new.pairs (node_renumbered d z) (node_renumbered d y)) [
+      elim (cases_eq q.later.strand d) as (λ _. ReachesAlong new.pairs (node_renumbered d z) (node_renumbered d y)) [
         | inl on ↦ after_leads new.pairs (node_renumbered d z) (node_renumbered d q.earlier) (node_renumbered d y) there (rest.1 on q m on (omega arith))
         | inr other ↦ over_pair (left_in q m (λ e. off (a.0 ∙ e)) other) there (rest.0 other)
       ]
 
   step_on : (z y : Node) (p q : OrderPair) → IsIn q old.pairs → IsAtOrAfter z q.earlier → z.strand ≡ d → IsIn p old.pairs → p.later.strand ≡ d → p.later.index ≤ z.index → Goes q.later y →
-      LeadsTo new.pairs (node_renumbered d p.earlier) (node_renumbered d y)
+      ReachesAlong new.pairs (node_renumbered d p.earlier) (node_renumbered d y)
   step_on z y p q n a on m e l rest =
       let out : q.earlier.strand ≡ d = sym a.0 ∙ on in
       let along : p.later.index ≤ q.earlier.index = omega (arith, a.1) in
-      let rest_leads : LeadsTo new.pairs (node_renumbered d q.later) (node_renumbered d y) = rest.0 (later_off q n out) in
-      elim (cases_eq p.earlier.strand q.later.strand) as (λ _. LeadsTo new.pairs (node_renumbered d p.earlier) (node_renumbered d y)) [
+      let rest_leads : ReachesAlong new.pairs (node_renumbered d q.later) (node_renumbered d y) = rest.0 (later_off q n out) in
+      elim (cases_eq p.earlier.strand q.later.strand) as (λ _. ReachesAlong new.pairs (node_renumbered d p.earlier) (node_renumbered d y)) [
         | inl same ↦
             let o = leads_onward p q m n (e ∙ sym out, along) same in
             after_leads new.pairs (node_renumbered d p.earlier) (node_renumbered d q.later) (node_renumbered d y) (ap (renumbered d) o.0, o.1) rest_leads
         | inr other ↦ over_pair (bridge_in p q m n e out along other) (refl, omega arith) rest_leads
       ]
 
-  goes : (z y : Node) → y.strand ≢ d → LeadsTo old.pairs z y → Goes z y
+  goes : (z y : Node) → y.strand ≢ d → ReachesAlong old.pairs z y → Goes z y
   goes z y h (on_strand a) = (λ off. on_strand (ap (renumbered d) a.0, a.1), λ on p m e l. absurd (h (sym a.0 ∙ on)))
   goes z y h (over_pair {p = q} m a l) =
       let rest : Goes q.later y = goes q.later y h l in

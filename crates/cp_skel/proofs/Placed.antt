@@ -4,7 +4,7 @@ use Rattle.std.specs.Prelude.{Option, Some, None}
 use Rattle.cp_lists.specs.Lists.{item_at}
 use Rattle.cp_model.specs.Term.{Sort, text_sort, datum_sort, name_sort, skey_sort, akey_sort, symmetric_term, asymmetric_term, text_variable, datum_variable, name_variable, key_term, AtomTerm, Term, atom_term, atom_of_variable, apply_to_atom}
 use Rattle.cp_model.specs.Homomorphism.{text_in, datum_in, name_in, skey_in, akey_in, substitution_by}
-use Rattle.cp_strand.specs.PrefixVariables.{fits}
+use Rattle.cp_model.specs.PrefixVariables.{fits}
 use Rattle.cp_strand.specs.Valued.{term_or}
 
 -- A term of the variable's sort that stands at its number is what the variable becomes.

@@ -10,7 +10,7 @@ use Rattle.cp_model.specs.declared.node.Node.{Node}
 use Rattle.cp_model.specs.declared.node.OrderPair.{OrderPair}
 use Rattle.cp_model.specs.Given.{listed}
 use Rattle.cp_model.proofs.LawPrefixes.{in_front_of_trace}
-use Rattle.cp_skel.specs.Extensions.{AddsListener, AddsStrand, CanExtend, Extends, IsClosedPrefix}
+use Rattle.cp_model.specs.Extensions.{AddsListener, AddsStrand, CanExtend, Extends, IsClosedPrefix}
 use Rattle.cp_order.specs.Closed.{KeepsOrder}
 use Rattle.cp_model.specs.Data.{StrandData, SkeletonData, skeleton_of, Declared}
 use Rattle.cp_skel.specs.View.{skeleton_view}

@@ -13,8 +13,8 @@ use Rattle.cp_lists.proofs.Items.{item_of_take, take_of_item, item_of_map, map_o
 use Rattle.cp_model.proofs.LawPrefixes.{in_trace}
 use Rattle.cp_model.proofs.LawTerms.{carried_under}
 use Rattle.cp_model.proofs.LawAgreement.{agree_event}
-use Rattle.cp_skel.specs.Given.{IsGivenUnique, AddsOnce, AddsGiven}
-use Rattle.cp_skel.specs.Extensions.{AddsListener, AddsStrand, CanExtend, Extends}
+use Rattle.cp_model.specs.GivenAssumptions.{IsGivenUnique, AddsOnce, AddsGiven}
+use Rattle.cp_model.specs.Extensions.{AddsListener, AddsStrand, CanExtend, Extends}
 use Rattle.cp_skel.proofs.Grown.{Grows, pairs-stay, origin-stays, cycles-stay-out}
 
 -- ---- what each strand must be

@@ -11,7 +11,7 @@ use Rattle.cp_model.specs.Skeleton.{SkeletonStrand, instance, listener, UniqueAt
 use Rattle.cp_model.specs.Same.{has_variables, origin_in}
 use Rattle.cp_model.specs.Given.{atoms_onto, uniques_onto, applying, unique_if_below, applying_uniques, given_non, given_penetrator_non, given_uniques}
 use Rattle.cp_model.proofs.SameTests.{origin_found, finds_origin}
-use Rattle.cp_skel.specs.Given.{with_given_from}
+use Rattle.cp_model.specs.GivenAssumptions.{with_given_from}
 use Rattle.cp_strand.specs.View.{strand_view}
 use Rattle.cp_model.specs.Data.{InstanceData, StrandData}
 use Rattle.cp_model.proofs.Gathered.{onto-append, atoms, uniques}

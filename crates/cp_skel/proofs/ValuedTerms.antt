@@ -12,9 +12,9 @@ use Rattle.cp_model.specs.Homomorphism.{substitution_by}
 use Rattle.cp_model.proofs.LawPrefixes.{variables_of_higher}
 use Rattle.cp_model.specs.Same.{has_variable}
 use Rattle.cp_model.proofs.SameTests.{in_has_variable}
-use Rattle.cp_strand.specs.PrefixVariables.{declared_variables, prefix_variables, is_added, added_variables, AreTermsFor, terms_of}
+use Rattle.cp_model.specs.PrefixVariables.{declared_variables, prefix_variables, is_added, added_variables, AreTermsFor, terms_of}
 use Rattle.cp_strand.specs.Valued.{term_or, valued}
-use Rattle.cp_skel.specs.Extensions.{IsClosedPrefix}
+use Rattle.cp_model.specs.Extensions.{IsClosedPrefix}
 use Rattle.cp_skel.proofs.Placed.{placed, stays}
 
 module _ (wanted : Variable → Bool) (old : List Term) (n : ℕ) (d : Declaration) (ds : List Declaration) (vs : List Term) where

@@ -5,7 +5,7 @@ use Rattle.cp_model.specs.Term.{AtomTerm, Term}
 use Rattle.cp_model.specs.declared.node.Node.{Node}
 use Rattle.cp_model.specs.Skeleton.{UniqueAt, Assumptions, FromProblem}
 use Rattle.cp_model.specs.declared.node.OrderPair.{OrderPair}
-use Rattle.cp_term.specs.Code.{coded_atom, coded_term}
+use Rattle.cp_term.specs.Code.{coded_atom_term, coded_term}
 use Rattle.cp_model.specs.Data.{Declared, StrandData, SkeletonData}
 use Rattle.cp_model.specs.declared.sort.Sort as program
 use Rattle.cp_model.specs.declared.sort.Sort.TheVariants as sorts
@@ -18,7 +18,7 @@ abbrev coded_pair : Coded OrderPair
 coded_pair = code_by (Node × Node) (coded× coded_node coded_node) (λ p. (p.earlier, p.later)) (λ q. record { earlier = q.0; later = q.1 }) (λ p. refl)
 
 abbrev pub coded_unique : Coded UniqueAt
-coded_unique = code_by (AtomTerm × Node) (coded× coded_atom coded_node) (λ u. (u.value, u.origin)) (λ p. record { value = p.0; origin = p.1 }) (λ u. refl)
+coded_unique = code_by (AtomTerm × Node) (coded× coded_atom_term coded_node) (λ u. (u.value, u.origin)) (λ p. record { value = p.0; origin = p.1 }) (λ u. refl)
 
 abbrev pub coded_assumptions : Coded Assumptions
 coded_assumptions =
@@ -44,15 +44,15 @@ sort_number sorts.Akey = 4
 abbrev sort_from : ℕ → program.Sort
 sort_from n = if n == 0 then sorts.Text else if n == 1 then sorts.Datum else if n == 2 then sorts.Name else if n == 3 then sorts.Skey else sorts.Akey
 
-pub sort_back : (s : program.Sort) → sort_from (sort_number s) ≡ s
-sort_back sorts.Text = refl
-sort_back sorts.Datum = refl
-sort_back sorts.Name = refl
-sort_back sorts.Skey = refl
-sort_back sorts.Akey = refl
+pub program_sort_back : (s : program.Sort) → sort_from (sort_number s) ≡ s
+program_sort_back sorts.Text = refl
+program_sort_back sorts.Datum = refl
+program_sort_back sorts.Name = refl
+program_sort_back sorts.Skey = refl
+program_sort_back sorts.Akey = refl
 
 abbrev coded_declared : Coded Declared
-coded_declared = code_by (List ℕ × program.Sort) (coded× (coded_list coded_ℕ) (code_by ℕ coded_ℕ sort_number sort_from sort_back)) (λ d. (d.root, d.sort)) (λ p. record { root = p.0; sort = p.1 }) (λ d. refl)
+coded_declared = code_by (List ℕ × program.Sort) (coded× (coded_list coded_ℕ) (code_by ℕ coded_ℕ sort_number sort_from program_sort_back)) (λ d. (d.root, d.sort)) (λ p. record { root = p.0; sort = p.1 }) (λ d. refl)
 
 abbrev pub coded_skeleton : Coded SkeletonData
 coded_skeleton =

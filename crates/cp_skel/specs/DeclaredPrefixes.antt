@@ -4,7 +4,7 @@ use Rattle.cp_lists.specs.Lists.{item_at}
 use Rattle.cp_model.specs.Term.{Substitution}
 use Rattle.cp_model.specs.Strand.{Role}
 use Rattle.cp_model.specs.Skeleton.{instance, Skeleton}
-use Rattle.cp_skel.specs.Extensions.{IsClosedPrefix}
+use Rattle.cp_model.specs.Extensions.{IsClosedPrefix}
 
 -- The role of each instance declares the variables of its prefix.
 abbrev pub HasDeclaredPrefixes : Skeleton → Type 0

@@ -7,7 +7,7 @@ use Rattle.cp_model.specs.Bundle.{node_at}
 use Rattle.cp_model.specs.declared.node.Node.{Node}
 use Rattle.cp_model.specs.Skeleton.{SkeletonStrand, instance, UniqueAt, Assumptions, FromProblem, Skeleton, Before}
 use Rattle.cp_model.specs.declared.node.OrderPair.{OrderPair}
-use Rattle.cp_skel.specs.Given.{IsGivenFrom}
+use Rattle.cp_model.specs.GivenAssumptions.{IsGivenFrom}
 
 -- The number of a strand once strand number d is gone: those above d fall by one.
 abbrev pub renumbered : ℕ → ℕ → ℕ
@@ -51,7 +51,7 @@ pub record GivesFrom (stated : Role → List AtomTerm) (strand : SkeletonStrand)
   pub given : IsGivenFrom (stated role) role height terms v
 
 -- Strand number s gives v.
-pub record IsGivenAt (stated : Role → List AtomTerm) (strands : List SkeletonStrand) (s : ℕ) (v : AtomTerm) : Type 0 where
+pub record IsStatedAt (stated : Role → List AtomTerm) (strands : List SkeletonStrand) (s : ℕ) (v : AtomTerm) : Type 0 where
   pub strand : SkeletonStrand
   pub there_is : item_at strands s ≡ Some strand
   pub gives : GivesFrom stated strand v
@@ -60,12 +60,12 @@ pub record IsGivenAt (stated : Role → List AtomTerm) (strands : List SkeletonS
 pub record IsGivenElsewhere (stated : Role → List AtomTerm) (strands : List SkeletonStrand) (d : ℕ) (v : AtomTerm) : Type 0 where
   pub number : ℕ
   pub other : number ≢ d
-  pub gives : IsGivenAt stated strands number v
+  pub gives : IsStatedAt stated strands number v
 
 -- An assumption is forgotten with strand number d: that strand gives it, no other does, and the problem's own
 -- assumptions do not have it.
 pub record IsForgotten (stated : Role → List AtomTerm) (strands : List SkeletonStrand) (own : List AtomTerm) (d : ℕ) (v : AtomTerm) : Type 0 where
-  pub gave : IsGivenAt stated strands d v
+  pub gave : IsStatedAt stated strands d v
   pub alone : IsGivenElsewhere stated strands d v → ⊥
   pub not_own : IsIn v own → ⊥
 

@@ -6,16 +6,16 @@ use Rattle.cp_model.specs.Bundle.{node_at}
 use Rattle.cp_model.specs.declared.node.Node.{Node}
 use Rattle.cp_model.specs.Skeleton.{SkeletonStrand, instance, listener, skeleton_trace, Skeleton}
 use Rattle.cp_strand.specs.View.{event_view}
-use Rattle.cp_skel.specs.declared.events.Occurrence as program
+use Rattle.cp_skel.specs.declared.events.LocatedEvent as program
 
 -- An event, the node where it stands, and whether a role strand is there.
-pub record Occurrence : Type 0 where
+pub record LocatedEvent : Type 0 where
   pub node : Node
   pub event : Event Term
   pub by_role : Bool
 
-abbrev pub occurrence_view : program.Occurrence → Occurrence
-occurrence_view o = record { node = o.node; event = event_view o.event; by_role = o.by_role }
+abbrev pub located_event_view : program.LocatedEvent → LocatedEvent
+located_event_view o = record { node = o.node; event = event_view o.event; by_role = o.by_role }
 
 -- The strand is an instance of a role.
 abbrev pub is_role_strand : SkeletonStrand → Bool
@@ -23,15 +23,15 @@ is_role_strand (instance role height terms) = true
 is_role_strand (listener t) = false
 
 -- The events of strand number s, the first of them at place i.
-abbrev pub occurrences_on : ℕ → ℕ → Bool → List (Event Term) → List Occurrence
-occurrences_on s i r [] = []
-occurrences_on s i r (e ∷ es) = record { node = node_at s i; event = e; by_role = r } ∷ occurrences_on s (suc i) r es
+abbrev pub located_events_on : ℕ → ℕ → Bool → List (Event Term) → List LocatedEvent
+located_events_on s i r [] = []
+located_events_on s i r (e ∷ es) = record { node = node_at s i; event = e; by_role = r } ∷ located_events_on s (suc i) r es
 
 -- The events of strands, the first of which has number s, by strand and then by index.
-abbrev pub occurrences_from : ℕ → List SkeletonStrand → List Occurrence
-occurrences_from s [] = []
-occurrences_from s (x ∷ xs) = occurrences_on s 0 (is_role_strand x) (skeleton_trace x) ++ occurrences_from (suc s) xs
+abbrev pub located_events_from : ℕ → List SkeletonStrand → List LocatedEvent
+located_events_from s [] = []
+located_events_from s (x ∷ xs) = located_events_on s 0 (is_role_strand x) (skeleton_trace x) ++ located_events_from (suc s) xs
 
 -- The events of a skeleton.
-abbrev pub events_of : Skeleton → List Occurrence
-events_of k = occurrences_from 0 k.strands
+abbrev pub events_of : Skeleton → List LocatedEvent
+events_of k = located_events_from 0 k.strands

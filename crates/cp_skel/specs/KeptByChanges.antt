@@ -5,7 +5,7 @@ use Rattle.cp_model.specs.declared.node.OrderPair.{OrderPair}
 use Rattle.cp_model.specs.Term.{Term}
 use Rattle.cp_model.specs.Strand.{Role}
 use Rattle.cp_model.specs.Skeleton.{Skeleton, Before}
-use Rattle.cp_skel.specs.Extensions.{AddsListener, AddsStrand, Extends}
+use Rattle.cp_model.specs.Extensions.{AddsListener, AddsStrand, Extends}
 use Rattle.cp_skel.specs.Ordered.{ordered_by, DiffersInOrder}
 
 -- A skeleton of which P holds goes on to be one when a listener or an instance is added, when an instance grows, when a

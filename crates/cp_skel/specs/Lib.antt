@@ -3,8 +3,6 @@ pub mod View
 pub mod Parts
 pub mod Sound
 pub mod Trees
-pub mod Given
-pub mod Extensions
 pub mod DeclaredPrefixes
 pub mod JoinedAssumptions
 pub mod Ordered

@@ -1,6 +1,6 @@
 // What skeletons assume.
 ghost use Rattle.std.specs.Prelude.{◌≡◌, IfOk, OnOk, OnErr};
-ghost use Rattle.cp_skel.specs.JoinedAssumptions.{joined};
+ghost use Rattle.cp_skel.specs.JoinedAssumptions.{joined_assumptions};
 
 use cp_model::Node;
 use cp_strand::{Atom, Same, copy_atoms};
@@ -160,7 +160,7 @@ impl Assumptions {
 
     /// Appends other assumptions to these. On an error nothing has changed.
     pub fn append(&mut self, mut more: Assumptions) -> Result<(), AllocError>
-        ensures joined { OnOk result (self.new ≡ joined self.old more) }
+        ensures joined { OnOk result (self.new ≡ joined_assumptions self.old more) }
         ensures unchanged { OnErr result (self.new ≡ self.old) }
     {
         self.non_originating.reserve(more.non_originating.len())?;

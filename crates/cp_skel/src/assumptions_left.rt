@@ -4,7 +4,7 @@ ghost use Rattle.cp_model.specs.Term.{AtomTerm};
 ghost use Rattle.cp_lists.specs.Lists.{IsIn};
 ghost use Rattle.cp_strand.specs.View.{strand_view};
 ghost use Rattle.cp_skel.specs.View.{skeleton_view};
-ghost use Rattle.cp_skel.specs.Deletion.{LeavesOut, as_it_is, GivesFrom, IsGivenAt, IsGivenElsewhere, IsForgotten, ForgetsAssumptions};
+ghost use Rattle.cp_skel.specs.Deletion.{LeavesOut, as_it_is, GivesFrom, IsStatedAt, IsGivenElsewhere, IsForgotten, ForgetsAssumptions};
 ghost use Rattle.cp_skel.specs.Kinds.{stated_as, IsInFirstAlone};
 
 use crate::assumptions::Assumptions;

@@ -6,7 +6,7 @@ ghost use Rattle.cp_model.specs.Skeleton.{Skeleton, Before, IsOrderPair, IsSkele
 ghost use Rattle.cp_model.specs.declared.node.OrderPair.{OrderPair};
 ghost use Rattle.cp_model.specs.Homomorphism.{CarriesHomomorphism};
 ghost use Rattle.cp_model.specs.Stated.{KeepsStated};
-ghost use Rattle.cp_skel.specs.Extensions.{IsClosedPrefix, CanExtend, Extends};
+ghost use Rattle.cp_model.specs.Extensions.{IsClosedPrefix, CanExtend, Extends};
 ghost use Rattle.cp_skel.specs.KeptByChanges.{KeptByChanges};
 ghost use Rattle.cp_skel.specs.Sound.{IsSound};
 ghost use Rattle.cp_skel.specs.Ordered.{IsOrdered, ordered_by, DiffersInOrder};

@@ -2,7 +2,7 @@
 ghost use Rattle.std.specs.Prelude.{◌≡◌, ◌<◌, length, IfOk, OnOk, OnErr};
 ghost use Rattle.std.specs.List.{remove};
 ghost use Rattle.cp_lists.specs.Lists.{IsIn};
-ghost use Rattle.cp_order.specs.Closed.{IsClosed};
+ghost use Rattle.cp_order.specs.Closed.{IsTransitive};
 ghost use Rattle.cp_skel.specs.View.{skeleton_view};
 ghost use Rattle.cp_skel.specs.Deletion.{ForgetsAssumptions, KeepsFromProblem, KeepsOrderOfOthers};
 
@@ -49,7 +49,7 @@ impl Skeleton {
         requires no_image { IsIn strand (skeleton_view self.old).from_problem.strands → ⊥ }
         ensures strands { OnOk result ((skeleton_view self.new).strands ≡ remove (skeleton_view self.old).strands strand) }
         ensures order { OnOk result (KeepsOrderOfOthers strand (skeleton_view self.old) (skeleton_view self.new)) }
-        ensures closed { OnOk result (IsClosed (skeleton_view self.new).pairs) }
+        ensures closed { OnOk result (IsTransitive (skeleton_view self.new).pairs) }
         ensures assumptions { OnOk result (ForgetsAssumptions strand (skeleton_view self.old) (skeleton_view self.new).assumptions) }
         ensures from_problem { OnOk result (KeepsFromProblem strand (skeleton_view self.old).from_problem (skeleton_view self.new).from_problem) }
         ensures variables { self.new.variables ≡ self.old.variables }

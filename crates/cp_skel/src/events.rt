@@ -1,7 +1,7 @@
 // The events of a skeleton in a list, each with its node.
 ghost use Rattle.std.specs.Prelude.{◌≡◌, ◌++◌, length, map, IfOk, OnOk};
 ghost use Rattle.cp_model.specs.Skeleton.{skeleton_trace};
-ghost use Rattle.cp_skel.specs.Events.{occurrence_view, is_role_strand, occurrences_on, events_of};
+ghost use Rattle.cp_skel.specs.Events.{located_event_view, is_role_strand, located_events_on, events_of};
 ghost use Rattle.cp_strand.specs.View.{strand_view};
 ghost use Rattle.cp_skel.specs.View.{skeleton_view};
 
@@ -11,7 +11,7 @@ use std::alloc::{AllocError, Global};
 
 /// An event of a skeleton, its node, and whether its strand is a role strand and no listener.
 #[derive(Drop)]
-pub struct Occurrence {
+pub struct LocatedEvent {
     pub node: Node,
     pub event: Event,
     pub by_role: bool,
@@ -39,9 +39,9 @@ fn add_events(
     alloc: Global,
     number: usize,
     strand: &Strand,
-    occurrences: &mut Vec<Occurrence>,
+    occurrences: &mut Vec<LocatedEvent>,
 ) -> Result<(), AllocError>
-    ensures { OnOk result (map occurrence_view occurrences.new.items ≡ map occurrence_view occurrences.old.items ++ occurrences_on number 0 (is_role_strand (strand_view strand.now)) (skeleton_trace (strand_view strand.now))) }
+    ensures { OnOk result (map located_event_view occurrences.new.items ≡ map located_event_view occurrences.old.items ++ located_events_on number 0 (is_role_strand (strand_view strand.now)) (skeleton_trace (strand_view strand.now))) }
 {
     let by_role = is_role_strand(strand);
     for index in 0..event_count(strand) {
@@ -50,7 +50,7 @@ fn add_events(
                 strand: number,
                 index,
             };
-            occurrences.push(Occurrence {
+            occurrences.push(LocatedEvent {
                 node,
                 event,
                 by_role,
@@ -62,8 +62,8 @@ fn add_events(
 
 impl Skeleton {
     /// The events of the skeleton, each with its node, by strand and then by index.
-    pub fn events(&self, alloc: Global) -> Result<Vec<Occurrence>, AllocError>
-        ensures listed { IfOk result (λ os. map occurrence_view os.items ≡ events_of (skeleton_view self.now)) }
+    pub fn events(&self, alloc: Global) -> Result<Vec<LocatedEvent>, AllocError>
+        ensures listed { IfOk result (λ os. map located_event_view os.items ≡ events_of (skeleton_view self.now)) }
     {
         let mut occurrences = Vec::new(alloc);
         for (number, strand) in self.strands().iter().enumerate() {

@@ -1,8 +1,8 @@
 // Strands that are added to skeletons, and strands that grow.
 ghost use Rattle.std.specs.Prelude.{◌≡◌, length, IfOk, OnOk, OnErr};
 ghost use Rattle.cp_model.specs.Strand.{IsHeight};
-ghost use Rattle.cp_strand.specs.PrefixVariables.{prefix_variables, AreTermsFor};
-ghost use Rattle.cp_skel.specs.Extensions.{AddsListener, AddsStrand, CanExtend, Extends};
+ghost use Rattle.cp_model.specs.PrefixVariables.{prefix_variables, AreTermsFor};
+ghost use Rattle.cp_model.specs.Extensions.{AddsListener, AddsStrand, CanExtend, Extends};
 ghost use Rattle.cp_skel.specs.View.{skeleton_view};
 
 use crate::role_assumptions::missing;

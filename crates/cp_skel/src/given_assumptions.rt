@@ -1,7 +1,7 @@
 // The assumptions that the roles of strands give, added strand by strand.
 ghost use Rattle.std.specs.Prelude.{◌≡◌, ◌∷◌, [], map, OnOk};
 ghost use Rattle.cp_model.specs.Given.{with_given};
-ghost use Rattle.cp_skel.specs.Given.{with_given_from};
+ghost use Rattle.cp_model.specs.GivenAssumptions.{with_given_from};
 ghost use Rattle.cp_strand.specs.View.{instance_view, strand_view};
 
 use crate::assumptions::Assumptions;

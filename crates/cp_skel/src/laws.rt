@@ -9,11 +9,11 @@ ghost use Rattle.cp_model.specs.Problem.{IsDeclared};
 ghost use Rattle.cp_model.specs.Same.{has_variable};
 ghost use Rattle.cp_model.specs.Given.{atoms_onto, uniques_onto, listed_atoms, listed_uniques, listed};
 ghost use Rattle.cp_skel.specs.DeclaredPrefixes.{HasDeclaredPrefixes};
-ghost use Rattle.cp_skel.specs.Given.{IsEachOnce, HasEachOnce};
-ghost use Rattle.cp_strand.specs.PrefixVariables.{prefix_variables, added_variables};
+ghost use Rattle.cp_model.specs.GivenAssumptions.{IsEachOnce, HasEachOnce};
+ghost use Rattle.cp_model.specs.PrefixVariables.{prefix_variables, added_variables};
 ghost use Rattle.cp_skel.specs.Ordered.{IsOrdered};
 ghost use Rattle.cp_skel.specs.Deletion.{ForgetsAssumptions};
-ghost use Rattle.cp_skel.specs.Extensions.{AddsListener, AddsStrand, CanExtend, Extends};
+ghost use Rattle.cp_model.specs.Extensions.{AddsListener, AddsStrand, CanExtend, Extends};
 
 /// A skeleton over a protocol stays one when a listener is added.
 pub fn listener_keeps_skeletons()

@@ -31,12 +31,12 @@ pub use assumptions::{Assumptions, UniqueAt};
 pub use changes_laws::{
     changes_keep_homomorphisms, changes_keep_what_is_stated, extensions_fit, order_keeps_skeletons,
 };
-pub use cp_order::{Leading, Order, SortedPairs};
+pub use cp_order::{Order, Predecessors, SortedPairs};
 pub use cp_strand::{
     Atom, Declaration, Event, Instance, Protocol, Role, Strand, StrandShape, all_occur, applied,
     applied_atom, has_atom, is_same_role, occurs, origin, prefix_of, value_of_variable,
 };
-pub use events::Occurrence;
+pub use events::LocatedEvent;
 pub use from_problem::FromProblem;
 pub use given_assumptions::add_given;
 pub use laws::{

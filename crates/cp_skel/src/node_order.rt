@@ -2,13 +2,13 @@
 ghost use Rattle.std.specs.Prelude.{◌≡◌, ◌↔◌, [], ◌∷◌, ◌++◌, true, false, IsTrue, IfOk, OnOk, OnErr};
 ghost use Rattle.cp_model.specs.declared.node.Node.{Node as PlainNode};
 ghost use Rattle.cp_model.specs.Skeleton.{IsNodeOf, Before, IsOrderPair};
-ghost use Rattle.cp_order.specs.Closed.{IsClosed};
+ghost use Rattle.cp_order.specs.Closed.{IsTransitive};
 ghost use Rattle.cp_skel.specs.Ordered.{ordered_by, ChangesOrderOnly};
 ghost use Rattle.cp_skel.specs.Sound.{IsSound};
 ghost use Rattle.cp_skel.specs.View.{skeleton_view};
 
 use crate::skeleton::{Node, OrderPair, Skeleton};
-use cp_order::Leading;
+use cp_order::Predecessors;
 use std::alloc::{AllocError, Global};
 
 impl Skeleton {
@@ -36,7 +36,7 @@ impl Skeleton {
         requires second { IsNodeOf (skeleton_view self.now).strands m }
         ensures exact { IsTrue result ↔ Before (skeleton_view self.now) n m }
     {
-        n != m && self.order.leads_to(n, m)
+        n != m && self.order.reaches(n, m)
     }
 
     /// Closes the order: the same nodes are before each other, and this is then looked up. On an error nothing has
@@ -44,7 +44,7 @@ impl Skeleton {
     pub fn order_close(&mut self, alloc: Global) -> Result<(), AllocError>
         ensures rest { OnOk result (ChangesOrderOnly self.old self.new) }
         ensures before { OnOk result ((x y : PlainNode) → Before (skeleton_view self.new) x y ↔ Before (skeleton_view self.old) x y) }
-        ensures closed { OnOk result (IsClosed (skeleton_view self.new).pairs) }
+        ensures closed { OnOk result (IsTransitive (skeleton_view self.new).pairs) }
         ensures unchanged { OnErr result (self.new ≡ self.old) }
     {
         self.order.close(alloc)
@@ -62,7 +62,7 @@ impl Skeleton {
             → Before (skeleton_view self.new) x y ↔ Before (ordered_by (skeleton_view self.old) (record { earlier = n; later = m } ∷ (skeleton_view self.old).pairs)) x y) }
         ensures unchanged { OnErr result (self.new ≡ self.old) }
     {
-        if Leading::new(alloc, self.order.pairs(), n)?.has(m) {
+        if Predecessors::new(alloc, self.order.pairs(), n)?.has(m) {
             return Ok(false);
         }
         let (earlier, later) = (n, m);
@@ -71,9 +71,9 @@ impl Skeleton {
     }
 }
 
-/// Whether n is before m in the skeleton's order, decided by the gathered nodes that lead to m along its pairs. The
+/// Whether n is before m in the skeleton's order, decided by the gathered nodes that reach m along its pairs. The
 /// node m must exist.
-pub fn comes_before(k: &Skeleton, leading: &Leading<'_>, n: Node, m: Node) -> bool
+pub fn comes_before(k: &Skeleton, leading: &Predecessors<'_>, n: Node, m: Node) -> bool
     requires there { IsNodeOf (skeleton_view k.now).strands m }
     requires gathered { leading.now ≡ record { pairs = k.now.order; node = m } }
     ensures { IsTrue result ↔ Before (skeleton_view k.now) n m }

@@ -3,8 +3,8 @@ ghost use Rattle.std.specs.Prelude.{◌≡◌, ◌↔◌, ◌∷◌, [], ◌++�
 ghost use Rattle.cp_lists.specs.Lists.{IsIn};
 ghost use Rattle.cp_model.specs.Homomorphism.{substitution_by};
 ghost use Rattle.cp_model.specs.Given.{applying, applying_uniques, atoms_onto, uniques_onto};
-ghost use Rattle.cp_skel.specs.Given.{AddsGiven, with_given_from};
-ghost use Rattle.cp_skel.specs.JoinedAssumptions.{joined};
+ghost use Rattle.cp_model.specs.GivenAssumptions.{AddsGiven, with_given_from};
+ghost use Rattle.cp_skel.specs.JoinedAssumptions.{joined_assumptions};
 ghost use Rattle.cp_strand.specs.View.{instance_view};
 
 use crate::assumptions::{Assumptions, UniqueAt};
@@ -78,7 +78,7 @@ pub(crate) fn lacking(
     instance: &Instance,
     assumptions: &Assumptions,
 ) -> Result<Assumptions, AllocError>
-    ensures { IfOk result (λ more. joined assumptions.now more
+    ensures { IfOk result (λ more. joined_assumptions assumptions.now more
         ≡ with_given_from strand (instance_view instance.now ∷ []) assumptions.now) }
 {
     let role = instance.role();
@@ -114,7 +114,7 @@ pub fn missing(
     assumptions: &Assumptions,
 ) -> Result<Assumptions, AllocError>
     ensures { IfOk result (λ more. AddsGiven instance.now.role instance.now.height (substitution_by instance.now.values) strand
-        assumptions.now (joined assumptions.now more)) }
+        assumptions.now (joined_assumptions assumptions.now more)) }
 {
     lacking(alloc, strand, instance, assumptions)
 }

@@ -7,7 +7,7 @@ ghost use Rattle.cp_model.specs.Skeleton.{Skeleton};
 ghost use Rattle.cp_model.specs.declared.node.OrderPair.{OrderPair};
 ghost use Rattle.cp_model.specs.Problem.{IsDeclared};
 ghost use Rattle.cp_model.specs.PointOfView.{HasDeclaredVariables};
-ghost use Rattle.cp_skel.specs.Extensions.{AddsListener, IsClosedPrefix, AddsStrand, Extends};
+ghost use Rattle.cp_model.specs.Extensions.{AddsListener, IsClosedPrefix, AddsStrand, Extends};
 ghost use Rattle.cp_skel.specs.Ordered.{ordered_by};
 
 /// A skeleton all of whose variables are declared stays one under these changes: a listener is added on a term of

@@ -11,7 +11,7 @@ use Rattle.cp_model.specs.Same.{same_sort}
 use Rattle.cp_model.proofs.SameTests.{sort_is}
 use Rattle.cp_report.specs.Misfits.{misfit_unless}
 use Rattle.cp_report.specs.Spelled.{Local, LocalAt, keeps_sort, has_local, locals_onto, clash_misfits, place_of_local, variables_of_locals}
-use Rattle.cp_variables.proofs.GatheredLocals.{added, clash-added}
+use Rattle.cp_spelled.proofs.GatheredLocals.{added, clash-added}
 
 pub holds : (b : Bool) (at : Place) → misfit_unless b at ≡ [] → b ≡ true
 holds true at e = refl

@@ -7,17 +7,17 @@ use Rattle.cp_sexpr.specs.Syntax.{Form, symbol, string, number, list, forms_of}
 use Rattle.cp_language.specs.Words.{TermHead, cat, encrypt, long_term_key, public_key, private_key, inverse_key, operation_out_of_profile, no_operation, term_head}
 use Rattle.cp_language.specs.Faults.{items_of}
 use Rattle.cp_language.specs.Roles.{Headed, headed, front_of, last_form}
-use Rattle.cp_report.specs.Misfits.{stands_before, lacking, all_misfits, each_misfits}
+use Rattle.cp_report.specs.Misfits.{place_before, lacking, all_misfits, each_misfits}
 use Rattle.cp_report.specs.Spelled.{Scope, local_misfits, name_misfits, variables_misfits, spread_misfits, last_key_misfits, applied_misfits, term_misfits, each_term_misfits, value_misfits}
 use Rattle.cp_model.specs.Term.{Variable, name_sort}
-use Rattle.cp_variables.specs.FirstMisfit.{first_onto}
-use Rattle.cp_spelled.specs.Own.{wanted_sort_misfits, own_misfits, judged, headed_misfits, headed_judged}
-use Rattle.cp_forms.proofs.FirstOf.{moved_behind, moved_behind_two}
-use Rattle.cp_variables.proofs.Firsts.{in_order}
+use Rattle.cp_spelled.specs.FirstMisfit.{first_onto}
+use Rattle.cp_spelled.specs.Own.{wanted_sort_misfits, own_misfits, judged_in_report, headed_misfits, headed_judged}
+use Rattle.cp_scope.proofs.FirstOf.{moved_behind, moved_behind_two}
+use Rattle.cp_spelled.proofs.Firsts.{in_order}
 use Rattle.cp_scope.specs.OwnFaults.{behind_purpose}
 use Rattle.cp_scope.proofs.Judged.{smaller_none}
 use Rattle.cp_scope.proofs.Sizes.{forms_size}
-use Rattle.cp_forms.proofs.Views.{headed_is, items_of-forms_of}
+use Rattle.cp_scope.proofs.Views.{headed_is, items_of-forms_of}
 
 module _ (s : Scope) where
   all-each : (fs : List Form) → all_misfits (each_term_misfits s (forms_of fs)) ≡ each_misfits (term_misfits s) fs
@@ -25,12 +25,12 @@ module _ (s : Scope) where
   all-each (f ∷ fs) = ap (λ rs. term_misfits s f ++ rs) (all-each fs)
 
   applied-judged : (at : Place) (h : TermHead) (fs : List Form) (o : Option Place)
-      → first_onto o (applied_misfits s at h fs (each_term_misfits s (forms_of fs))) ≡ first_onto (first_onto o (own_misfits s at h fs)) (each_misfits (term_misfits s) (judged h fs))
+      → first_onto o (applied_misfits s at h fs (each_term_misfits s (forms_of fs))) ≡ first_onto (first_onto o (own_misfits s at h fs)) (each_misfits (term_misfits s) (judged_in_report h fs))
   applied-judged at cat fs o =
-      moved_behind stands_before in_order o (lacking 2 at fs) (all_misfits (each_term_misfits s (forms_of fs))) (spread_misfits (last_form fs))
+      moved_behind place_before in_order o (lacking 2 at fs) (all_misfits (each_term_misfits s (forms_of fs))) (spread_misfits (last_form fs))
       ∙ ap (first_onto (first_onto o (lacking 2 at fs ++ spread_misfits (last_form fs)))) (all-each fs)
   applied-judged at encrypt fs o =
-      moved_behind_two stands_before in_order o (lacking 2 at fs) (all_misfits (each_term_misfits s (forms_of fs))) (spread_misfits (last_form (front_of fs))) (last_key_misfits s (last_form fs))
+      moved_behind_two place_before in_order o (lacking 2 at fs) (all_misfits (each_term_misfits s (forms_of fs))) (spread_misfits (last_form (front_of fs))) (last_key_misfits s (last_form fs))
       ∙ ap (first_onto (first_onto o (lacking 2 at fs ++ spread_misfits (last_form (front_of fs)) ++ last_key_misfits s (last_form fs)))) (all-each fs)
   applied-judged at long_term_key fs o = refl
   applied-judged at public_key fs o = refl
@@ -44,7 +44,7 @@ module _ (s : Scope) where
   term-judged f h e o = ap (λ g. first_onto o (term_misfits s g)) (headed_is f h (sym e)).whole ∙ by_any (same_text h.head (codes "any") && s.in_pattern)
     where
       by_any : (b : Bool) → first_onto o (if b then local_misfits h.at (items_of (forms_of h.items)) else applied_misfits s h.at (term_head h.head) (items_of (forms_of h.items)) (each_term_misfits s (forms_of h.items)))
-          ≡ first_onto (first_onto o (if b then local_misfits h.at h.items else own_misfits s h.at (term_head h.head) h.items)) (each_misfits (term_misfits s) (if b then [] else judged (term_head h.head) h.items))
+          ≡ first_onto (first_onto o (if b then local_misfits h.at h.items else own_misfits s h.at (term_head h.head) h.items)) (each_misfits (term_misfits s) (if b then [] else judged_in_report (term_head h.head) h.items))
       by_any true = ap (λ gs. first_onto o (local_misfits h.at gs)) (items_of-forms_of h.items)
       by_any false =
           ap (λ gs. first_onto o (applied_misfits s h.at (term_head h.head) gs (each_term_misfits s (forms_of h.items)))) (items_of-forms_of h.items)
@@ -63,7 +63,7 @@ module _ (s : Scope) where
 
 -- ---- sizes
 
-judged_smaller : (h : TermHead) (fs : List Form) → forms_size (judged h fs) ≤ forms_size fs
+judged_smaller : (h : TermHead) (fs : List Form) → forms_size (judged_in_report h fs) ≤ forms_size fs
 judged_smaller cat fs = omega arith
 judged_smaller encrypt fs = omega arith
 judged_smaller long_term_key fs = smaller_none fs
@@ -76,6 +76,6 @@ judged_smaller no_operation fs = smaller_none fs
 pub headed-smaller : (s : Scope) (t : List ℕ) (fs : List Form) → forms_size (headed_judged s t fs) ≤ forms_size fs
 headed-smaller s t fs = by_any (same_text t (codes "any") && s.in_pattern)
   where
-    by_any : (b : Bool) → forms_size (if b then [] else judged (term_head t) fs) ≤ forms_size fs
+    by_any : (b : Bool) → forms_size (if b then [] else judged_in_report (term_head t) fs) ≤ forms_size fs
     by_any true = smaller_none fs
     by_any false = judged_smaller (term_head t) fs

@@ -1,3 +1,10 @@
+pub mod Firsts
+pub mod InOrder
+pub mod Headed
+pub mod Tabled
+pub mod GatheredLocals
+pub mod Stated
+pub mod Declared
 pub mod JudgedLists
 pub mod Scoped
 pub mod Meanings

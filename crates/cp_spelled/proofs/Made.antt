@@ -7,11 +7,11 @@ use Rattle.cp_model.specs.Strand.{Declaration}
 use Rattle.cp_sexpr.specs.Syntax.{Form}
 use Rattle.cp_report.specs.Spelled.{term_in, pattern_scope, pattern_misfits, pattern_of, variables_of_locals}
 use Rattle.cp_term.specs.Patterns.{pattern_by}
-use Rattle.cp_variables.specs.FirstMisfit.{first_onto}
-use Rattle.cp_variables.specs.LocalViews.{local_view}
-use Rattle.cp_variables.specs.declared.locals.Local as program
-use Rattle.cp_report.specs.Misfits.{stands_before}
-use Rattle.cp_forms.proofs.FirstOf.{none_found}
+use Rattle.cp_spelled.specs.FirstMisfit.{first_onto}
+use Rattle.cp_spelled.specs.LocalViews.{local_view}
+use Rattle.cp_spelled.specs.declared.locals.Local as program
+use Rattle.cp_report.specs.Misfits.{place_before}
+use Rattle.cp_scope.proofs.FirstOf.{none_found}
 use Rattle.cp_spelled.proofs.ReadPatterns.{differ, pattern-by}
 
 none_is : {A : Type 0} (o : Option A) → is_none o ≡ true → o ≡ None
@@ -19,7 +19,7 @@ none_is None e = refl
 none_is (Some x) e = absurd (cc)
 
 pub fits : (ms : List Place) (o p : Option Place) (b : Bool) → o ≡ None → p ≡ first_onto o ms → b ≡ is_none p → b ≡ true → ms ≡ []
-fits ms o p b e g h i = none_found stands_before ms (sym (g ∙ ap (λ x. first_onto x ms) e) ∙ none_is p (sym h ∙ i))
+fits ms o p b e g h i = none_found place_before ms (sym (g ∙ ap (λ x. first_onto x ms) e) ∙ none_is p (sym h ∙ i))
 
 pub unfit : (ms : List Place) (o p : Option Place) (b : Bool) → o ≡ None → p ≡ first_onto o ms → b ≡ is_none p → b ≡ false → ms ≢ []
 unfit ms o p b e g h i k = differ (sym i ∙ h ∙ ap is_none (g ∙ ap (λ x. first_onto x ms) e ∙ ap (first_onto None) k))

@@ -15,13 +15,13 @@ use Rattle.cp_language.specs.Terms.{variable_named}
 use Rattle.cp_language.specs.Roles.{list_items}
 use Rattle.cp_language.specs.Problems.{is_known, name_in_front, second_form}
 use Rattle.cp_scope.proofs.DeclaredIdentifiers.{AreSameNames, names-swap}
-use Rattle.cp_report.specs.Misfits.{stands_before, list_misfits, entries_misfits, symbol_misfits}
+use Rattle.cp_report.specs.Misfits.{place_before, list_misfits, entries_misfits, symbol_misfits}
 use Rattle.cp_report.specs.Spelled.{Scope, value_misfits}
 use Rattle.cp_report.specs.Skeletons.{identifier_of, maplet_misfits, maplets_misfits, term_or_tag, value_mapped}
-use Rattle.cp_variables.specs.FirstMisfit.{first_onto}
+use Rattle.cp_spelled.specs.FirstMisfit.{first_onto}
 use Rattle.cp_spelled.specs.Own.{value_of_item}
 use Rattle.cp_scope.specs.Places.{place_from}
-use Rattle.cp_forms.proofs.FirstOf.{first_onto-append}
+use Rattle.cp_scope.proofs.FirstOf.{first_onto-append}
 
 -- ---- maplets
 
@@ -42,7 +42,7 @@ module _ (s : Scope) (wanted : List Declaration) where
       ap (λ b. first_onto p (maplets_misfits s wanted b rest)) g
       ∙ ap (first_onto p) (maplets-names (before ++ identifier_of (view f) ∷ []) (identifier_of (view f) ∷ before) rest (names-swap before (identifier_of (view f) ∷ [])))
       ∙ ap (λ x. first_onto x (maplets_misfits s wanted (identifier_of (view f) ∷ before) rest)) q
-      ∙ sym (first_onto-append stands_before o (list_misfits (maplet_misfits s wanted before) (view f)) (maplets_misfits s wanted (identifier_of (view f) ∷ before) rest))
+      ∙ sym (first_onto-append place_before o (list_misfits (maplet_misfits s wanted before) (view f)) (maplets_misfits s wanted (identifier_of (view f) ∷ before) rest))
       ∙ sym (ap (λ fs. first_onto o (maplets_misfits s wanted before (map view fs))) (drop_read forms k f h e)) ∙ i
 
   pub maplets-done : (forms : List program.Form) (k : ℕ) → length forms ≤ k → (b : List (List ℕ)) (o all : Option Place) → first_onto o (maplets_misfits s wanted b (map view (drop k forms))) ≡ all → o ≡ all

@@ -7,7 +7,7 @@ use Rattle.cp_sexpr.specs.Syntax.{Form, forms_of}
 use Rattle.cp_sexpr.specs.View.{view}
 use Rattle.cp_sexpr.specs.declared.form.Form as program
 use Rattle.cp_language.specs.Roles.{Headed, headed}
-use Rattle.cp_forms.proofs.Views.{headed_is, items_of-forms_of}
+use Rattle.cp_scope.proofs.Views.{headed_is, items_of-forms_of}
 use Rattle.cp_report.specs.Spelled.{Scope, term_in, terms_in}
 use Rattle.cp_spelled.specs.Own.{headed_term}
 

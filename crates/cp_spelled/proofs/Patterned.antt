@@ -18,7 +18,7 @@ use Rattle.cp_language.specs.Problems.{is_known}
 use Rattle.cp_language.specs.Terms.{TermSort, variable_named, sort_of_variable, is_sort, term_of_variable, paired, all_but_last, last_of, as_key, as_name, key_as_term, applied, key_of_name}
 use Rattle.cp_report.specs.Misfits.{misfit, misfit_unless, unless_misfit, lacking, all_misfits, symbol_misfits, any_number_misfits}
 use Rattle.cp_report.specs.Spelled as report
-use Rattle.cp_report.specs.Spelled.{Local, LocalAt, Scope, sort_or_none, names_sort, local_with, local_by, local_at, variable_of_local, place_of_local, sort_of_head, known_or, key_misfits, local_misfits, is_of_sort, variable_misfits, variables_misfits, name_misfits, last_key_misfits, applied_misfits, term_misfits, each_term_misfits, term_in, terms_in, locals_in, locals_in_each}
+use Rattle.cp_report.specs.Spelled.{Local, LocalAt, Scope, sort_or_none, names_sort, local_with, local_by, local_at, variable_of_local, place_of_local, sort_of_head, known_or, key_misfits, local_misfits, is_found_of_sort, variable_misfits, variables_misfits, name_misfits, last_key_misfits, applied_misfits, term_misfits, each_term_misfits, term_in, terms_in, locals_in, locals_in_each}
 use Rattle.cp_spelled.proofs.Gathered.{holds}
 
 -- The variables of a label, and the locals of a pattern.
@@ -114,7 +114,7 @@ module _ (ds : List Declaration) (ls : List Local) where
   unless-both [] ys e = (refl, e)
   unless-both (x ∷ xs) ys e = absurd (cc)
 
-  sort-named : (r : Sort) (o : Option Variable) → is_of_sort r o ≡ true → (x : Variable) × (o ≡ Some x) × (x.sort ≡ r)
+  sort-named : (r : Sort) (o : Option Variable) → is_found_of_sort r o ≡ true → (x : Variable) × (o ≡ Some x) × (x.sort ≡ r)
   sort-named r None e = absurd (cc)
   sort-named r (Some x) e = (x, refl, sym (sort_is r x.sort e))
 
@@ -139,7 +139,7 @@ module _ (ds : List Declaration) (ls : List Local) where
 
   variable-is : (r : Sort) (f : Form) → variable_misfits scope r f ≡ [] → IsVariable r f
   variable-is r (symbol at t) e =
-      let x = sort-named r (variable_named ds t) (holds (is_of_sort r (variable_named ds t)) at e) in
+      let x = sort-named r (variable_named ds t) (holds (is_found_of_sort r (variable_named ds t)) at e) in
       record { variable = x.0; sort = x.2; term = ap term_of_variable x.1; agree = agree-named t x.0 x.1 }
   variable-is r (string at t) e = absurd (cc)
   variable-is r (number at n) e = absurd (cc)
@@ -150,12 +150,12 @@ module _ (ds : List Declaration) (ls : List Local) where
   variable-is r (list at (more (symbol p t) fs)) e = by_any (same_text t (codes "any")) refl e
     where
       by_any : (b : Bool) → same_text t (codes "any") ≡ b
-          → unless_misfit (if (b || false) && true then local_misfits at (items_of fs) else []) (misfit_unless (is_of_sort r (if (b || false) && true then variable_of_local scope (local_by (items_of fs)) else None)) at) ≡ []
+          → unless_misfit (if (b || false) && true then local_misfits at (items_of fs) else []) (misfit_unless (is_found_of_sort r (if (b || false) && true then variable_of_local scope (local_by (items_of fs)) else None)) at) ≡ []
           → IsVariable r (list at (more (symbol p t) fs))
       by_any true q g =
-          let parts = unless-both (local_misfits at (items_of fs)) (misfit_unless (is_of_sort r (variable_of_local scope (local_by (items_of fs)))) at) g in
+          let parts = unless-both (local_misfits at (items_of fs)) (misfit_unless (is_found_of_sort r (variable_of_local scope (local_by (items_of fs)))) at) g in
           let st = local-stated at fs parts.0 in
-          let x = sort-named r (variable_of_local scope (local_by (items_of fs))) (holds (is_of_sort r (variable_of_local scope (local_by (items_of fs)))) at parts.1) in
+          let x = sort-named r (variable_of_local scope (local_by (items_of fs))) (holds (is_found_of_sort r (variable_of_local scope (local_by (items_of fs)))) at parts.1) in
           let same : Some (variable_at st.local) ≡ Some x.0 = sym (ap (variable_of_local scope) st.is) ∙ x.1 in
           let variables : variable_at st.local ≡ x.0 = cc in
           record {

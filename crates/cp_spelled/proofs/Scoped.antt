@@ -8,10 +8,10 @@ use Rattle.cp_sexpr.specs.Syntax.{Form, symbol, string, number, list}
 use Rattle.cp_language.specs.Words.{term_head}
 use Rattle.cp_language.specs.Roles.{Headed, headed}
 use Rattle.cp_language.specs.Terms.{TermSort, of_atoms, variable_named, sort_of_variable}
-use Rattle.cp_forms.specs.Forms.{symbol_in}
-use Rattle.cp_forms.proofs.Views.{headed_is}
-use Rattle.cp_report.specs.Heads.{entries_of}
-use Rattle.cp_report.specs.Spelled.{Scope, Local, is_local, local_by, variable_of_local, variable_in, sort_of_head, sort_by_shape, known_or, sort_in, is_of_sort}
+use Rattle.cp_scope.specs.Forms.{symbol_in}
+use Rattle.cp_scope.proofs.Views.{headed_is}
+use Rattle.cp_report.specs.Heads.{forms_after_head}
+use Rattle.cp_report.specs.Spelled.{Scope, Local, is_local, local_by, variable_of_local, variable_in, sort_of_head, sort_by_shape, known_or, sort_in, is_found_of_sort}
 
 -- ---- variables
 
@@ -22,7 +22,7 @@ module _ (s : Scope) where
   variable-symbol (number at n) t e = absurd (cc)
   variable-symbol (list at fs) t e = absurd (cc)
 
-  pub variable-other : (f : Form) → None ≡ symbol_in f → (if is_local s f then variable_of_local s (local_by (entries_of f)) else None) ≡ variable_in s f
+  pub variable-other : (f : Form) → None ≡ symbol_in f → (if is_local s f then variable_of_local s (local_by (forms_after_head f)) else None) ≡ variable_in s f
   variable-other (symbol at u) e = absurd (cc)
   variable-other (string at u) e = refl
   variable-other (number at n) e = refl
@@ -33,17 +33,17 @@ module _ (s : Scope) where
   sort_of_local (Some l) = refl
 
   pub local-sort : (f : Form) → is_local s f ≡ true
-      → option_map (λ l. l.sort) (local_by (entries_of f)) ≡ option_map (λ x. x.sort) (if is_local s f then variable_of_local s (local_by (entries_of f)) else None)
-  local-sort f e = sort_of_local (local_by (entries_of f)) ∙ sym (ap (λ (b : Bool). option_map (λ (x : Variable). x.sort) (if b then variable_of_local s (local_by (entries_of f)) else None)) e)
+      → option_map (λ l. l.sort) (local_by (forms_after_head f)) ≡ option_map (λ x. x.sort) (if is_local s f then variable_of_local s (local_by (forms_after_head f)) else None)
+  local-sort f e = sort_of_local (local_by (forms_after_head f)) ∙ sym (ap (λ (b : Bool). option_map (λ (x : Variable). x.sort) (if b then variable_of_local s (local_by (forms_after_head f)) else None)) e)
 
-  pub no-local-sort : (f : Form) → is_local s f ≡ false → None ≡ option_map (λ x. x.sort) (if is_local s f then variable_of_local s (local_by (entries_of f)) else None)
-  no-local-sort f e = sym (ap (λ (b : Bool). option_map (λ (x : Variable). x.sort) (if b then variable_of_local s (local_by (entries_of f)) else None)) e)
+  pub no-local-sort : (f : Form) → is_local s f ≡ false → None ≡ option_map (λ x. x.sort) (if is_local s f then variable_of_local s (local_by (forms_after_head f)) else None)
+  no-local-sort f e = sym (ap (λ (b : Bool). option_map (λ (x : Variable). x.sort) (if b then variable_of_local s (local_by (forms_after_head f)) else None)) e)
 
-pub of-sort : (r q : Sort) (o : Option Variable) → Some q ≡ option_map (λ x. x.sort) o → same_sort r q ≡ is_of_sort r o
+pub of-sort : (r q : Sort) (o : Option Variable) → Some q ≡ option_map (λ x. x.sort) o → same_sort r q ≡ is_found_of_sort r o
 of-sort r q None e = absurd (cc)
 of-sort r q (Some x) e = ap (same_sort r) (same_Some q x.sort e)
 
-pub of-no-sort : (r : Sort) (o : Option Variable) → None ≡ option_map (λ x. x.sort) o → false ≡ is_of_sort r o
+pub of-no-sort : (r : Sort) (o : Option Variable) → None ≡ option_map (λ x. x.sort) o → false ≡ is_found_of_sort r o
 of-no-sort r None e = refl
 of-no-sort r (Some x) e = absurd (cc)
 

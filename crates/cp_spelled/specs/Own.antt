@@ -29,15 +29,15 @@ own_misfits s at operation_out_of_profile fs = misfit at
 own_misfits s at no_operation fs = misfit at
 
 -- The items of a list with this head that have to be terms.
-abbrev pub judged : TermHead → List Form → List Form
-judged cat fs = fs
-judged encrypt fs = fs
-judged long_term_key fs = []
-judged public_key fs = []
-judged private_key fs = []
-judged inverse_key fs = []
-judged operation_out_of_profile fs = []
-judged no_operation fs = []
+abbrev pub judged_in_report : TermHead → List Form → List Form
+judged_in_report cat fs = fs
+judged_in_report encrypt fs = fs
+judged_in_report long_term_key fs = []
+judged_in_report public_key fs = []
+judged_in_report private_key fs = []
+judged_in_report inverse_key fs = []
+judged_in_report operation_out_of_profile fs = []
+judged_in_report no_operation fs = []
 
 -- Where a list does not fit but for what is inside its items, also where it is headed as a local.
 abbrev pub headed_misfits : Scope → Place → List ℕ → List Form → List Place
@@ -45,7 +45,7 @@ headed_misfits s at t fs = if same_text t (codes "any") && s.in_pattern then loc
 
 -- Its items that have to be terms, also where it is headed as a local.
 abbrev pub headed_judged : Scope → List ℕ → List Form → List Form
-headed_judged s t fs = if same_text t (codes "any") && s.in_pattern then [] else judged (term_head t) fs
+headed_judged s t fs = if same_text t (codes "any") && s.in_pattern then [] else judged_in_report (term_head t) fs
 
 -- What a list stands for whose items stand for these terms, also where it is headed as a local.
 abbrev pub headed_term : Scope → List ℕ → List Form → List Term → Term

@@ -2,7 +2,7 @@
 use Rattle.std.specs.Prelude.{map}
 use Rattle.cp_strand.specs.View.{declaration_view}
 use Rattle.cp_report.specs.Spelled as report
-use Rattle.cp_variables.specs.LocalViews.{local_view}
+use Rattle.cp_spelled.specs.LocalViews.{local_view}
 use Rattle.cp_spelled.specs.declared.scope.Scope.{Scope}
 
 abbrev pub scope_view : Scope → report.Scope

@@ -9,24 +9,23 @@ ghost use Rattle.cp_report.specs.Spelled.{value_misfits};
 ghost use Rattle.cp_report.specs.Skeletons.{identifier_of, maplet_misfits, maplets_misfits, are_mapped, mapping_misfits, value_mapped, values_mapped};
 ghost use Rattle.cp_strand.specs.View.{declaration_view};
 ghost use Rattle.cp_scope.specs.Terms.{variable_view};
-ghost use Rattle.cp_variables.specs.FirstMisfit.{first_onto};
+ghost use Rattle.cp_spelled.specs.FirstMisfit.{first_onto};
 ghost use Rattle.cp_spelled.specs.Own.{value_of_item};
 ghost use Rattle.cp_spelled.specs.Views.{scope_view};
 
 use crate::misfits::value_misfits;
 use crate::scope::Scope;
 use crate::terms::term_or_tag;
+use crate::{FirstMisfit, Variables, identifier_of, no_more, second};
 use cp_base::Place;
-use cp_forms::{item_at, list_items, place_of, symbol_or_empty};
-use cp_scope::{Taken, Variable, no_term};
+use cp_scope::{NameSet, Variable, item_at, list_items, no_term, place_of, symbol_or_empty};
 use cp_sexpr::Form;
 use cp_strand::Declaration;
 use cp_term::Term;
-use cp_variables::{FirstMisfit, Variables, identifier_of, no_more, second};
 use std::alloc::{AllocError, Global};
 
 /// The form must be the identifier of a wanted variable that was not mapped before.
-fn identifier_misfits(wanted: &Variables, before: &Taken, form: &Form, first: &mut FirstMisfit)
+fn identifier_misfits(wanted: &Variables, before: &NameSet, form: &Form, first: &mut FirstMisfit)
     ensures { first.new ≡ first_onto first.old
         (symbol_misfits (λ t. is_known (variable_named (map declaration_view wanted.now) t) && not (is_one_of t before.now)) (view form.now)) }
 {
@@ -63,7 +62,7 @@ fn one_value_misfits(
 fn maplet_entries_misfits(
     scope: Scope<'_>,
     wanted: &Variables,
-    before: &Taken,
+    before: &NameSet,
     place: Place,
     items: &[Form],
     first: &mut FirstMisfit,
@@ -84,7 +83,7 @@ fn maplet_entries_misfits(
 fn maplet_misfits(
     scope: Scope<'_>,
     wanted: &Variables,
-    before: &Taken,
+    before: &NameSet,
     form: &Form,
     first: &mut FirstMisfit,
 )
@@ -105,12 +104,12 @@ fn maplets_misfits(
     wanted: &Variables,
     maplets: &[Form],
     first: &mut FirstMisfit,
-) -> Result<Taken, AllocError>
+) -> Result<NameSet, AllocError>
     ensures misfits { OnOk result (first.new ≡ first_onto first.old
         (maplets_misfits (scope_view scope.entry) (map declaration_view wanted.now) [] (map view maplets.now))) }
     ensures mapped { IfOk result (λ names. names ≡ map identifier_of (map view maplets.now)) }
 {
-    let mut mapped = Taken::new(alloc);
+    let mut mapped = NameSet::new(alloc);
     for maplet in maplets {
         maplet_misfits(scope, wanted, &mapped, maplet, first);
         let identifier = identifier_of(alloc, maplet)?;
@@ -120,7 +119,7 @@ fn maplets_misfits(
 }
 
 /// Whether each of the wanted variables is among those that are mapped.
-fn are_mapped(wanted: &[Declaration], mapped: &Taken) -> bool
+fn are_mapped(wanted: &[Declaration], mapped: &NameSet) -> bool
     ensures { result ≡ are_mapped (map declaration_view wanted.now) mapped.now }
 {
     for declaration in wanted {
@@ -151,10 +150,10 @@ pub fn mapping_misfits(
 }
 
 /// The identifiers at the start of maplets.
-fn identifiers_of(alloc: Global, maplets: &[Form]) -> Result<Taken, AllocError>
+fn identifiers_of(alloc: Global, maplets: &[Form]) -> Result<NameSet, AllocError>
     ensures { IfOk result (λ names. names ≡ map identifier_of (map view maplets.now)) }
 {
-    let mut identifiers = Taken::new(alloc);
+    let mut identifiers = NameSet::new(alloc);
     for maplet in maplets {
         let identifier = identifier_of(alloc, maplet)?;
         identifiers.push(alloc, identifier)?;
@@ -177,7 +176,7 @@ fn value_mapped(
     alloc: Global,
     scope: Scope<'_>,
     maplets: &[Form],
-    identifiers: &Taken,
+    identifiers: &NameSet,
     identifier: &str,
 ) -> Result<Term, AllocError>
     ensures { IfOk result (λ t. identifiers.now ≡ map identifier_of (map view maplets.now)

@@ -5,28 +5,27 @@ ghost use Rattle.cp_sexpr.specs.View.{view};
 ghost use Rattle.cp_language.specs.Words.{encrypt, term_head};
 ghost use Rattle.cp_language.specs.Roles.{headed, last_form};
 ghost use Rattle.cp_report.specs.Misfits.{lacking};
-ghost use Rattle.cp_report.specs.Heads.{entries_of};
+ghost use Rattle.cp_report.specs.Heads.{forms_after_head};
 ghost use Rattle.cp_report.specs.Spelled.{is_local, local_misfits, sort_misfits, variable_misfits, variables_misfits, name_misfits, spread_misfits, last_key_misfits, term_misfits, value_misfits, atom_misfits};
 ghost use Rattle.cp_language.specs.Faults.{place_of};
 ghost use Rattle.cp_strand.specs.View.{sort_view};
 ghost use Rattle.cp_scope.specs.Terms.{variable_view};
 ghost use Rattle.cp_scope.specs.OwnFaults.{is_purpose, behind_purpose};
-ghost use Rattle.cp_variables.specs.FirstMisfit.{first_onto};
+ghost use Rattle.cp_spelled.specs.FirstMisfit.{first_onto};
 ghost use Rattle.cp_spelled.specs.Views.{scope_view};
-ghost use Rattle.cp_spelled.specs.Own.{wanted_sort_misfits, own_misfits, judged, headed_misfits, headed_judged};
+ghost use Rattle.cp_spelled.specs.Own.{wanted_sort_misfits, own_misfits, judged_in_report, headed_misfits, headed_judged};
 
 use crate::scope::{
     Scope, has_atom_sort, has_key_sort, has_sort, is_local, is_local_head, is_variable_of,
 };
+use crate::{FirstMisfit, has_head, lacking, local_misfits, no_more};
 use cp_base::Place;
-use cp_forms::{
-    HeadedList, TermHead, front_items, headed, items_behind, last_item, later_items, place_of,
-    term_head,
+use cp_scope::{
+    HeadedList, TermHead, Variable, front_items, headed, items_behind, last_item, later_items,
+    place_of, term_head,
 };
-use cp_scope::Variable;
 use cp_sexpr::Form;
 use cp_term::Sort;
-use cp_variables::{FirstMisfit, has_head, lacking, local_misfits, no_more};
 
 /// The term must have this sort.
 pub(crate) fn sort_misfits(scope: Scope<'_>, sort: Sort, form: &Form, first: &mut FirstMisfit)
@@ -38,7 +37,7 @@ pub(crate) fn sort_misfits(scope: Scope<'_>, sort: Sort, form: &Form, first: &mu
 /// Where a local may stand, a form with the head of a local must be one.
 fn stated_local_misfits(scope: Scope<'_>, form: &Form, first: &mut FirstMisfit)
     ensures { first.new ≡ first_onto first.old
-        (if is_local (scope_view scope.entry) (view form.now) then local_misfits (place_of (view form.now)) (entries_of (view form.now)) else []) }
+        (if is_local (scope_view scope.entry) (view form.now) then local_misfits (place_of (view form.now)) (forms_after_head (view form.now)) else []) }
 {
     if is_local(scope, form) {
         local_misfits(place_of(form), items_behind(form), first);
@@ -147,7 +146,7 @@ fn encryption_misfits(scope: Scope<'_>, place: Place, items: &[Form], first: &mu
 
 /// Notes where a list in a term does not fit, except inside its items. Returns the items that must be terms.
 fn own_misfits<'a>(scope: Scope<'_>, list: HeadedList<'a>, first: &mut FirstMisfit) -> &'a [Form]
-    ensures judged { map view result.now ≡ judged (term_head list.entry.head.now) (map view list.entry.items.now) }
+    ensures judged { map view result.now ≡ judged_in_report (term_head list.entry.head.now) (map view list.entry.items.now) }
     ensures misfits { first.new ≡ first_onto first.old
         (own_misfits (scope_view scope.entry) list.entry.place (term_head list.entry.head.now) (map view list.entry.items.now)) }
 {

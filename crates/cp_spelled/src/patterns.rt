@@ -3,16 +3,16 @@ ghost use Rattle.std.specs.Prelude.{◌≡◌, ◌≢◌, [], map, IfOk, OnOk, M
 ghost use Rattle.cp_sexpr.specs.View.{view};
 ghost use Rattle.cp_strand.specs.View.{declaration_view};
 ghost use Rattle.cp_report.specs.Spelled.{pattern_misfits, pattern_scope, pattern_of, variables_of_locals};
-ghost use Rattle.cp_variables.specs.FirstMisfit.{first_onto};
-ghost use Rattle.cp_variables.specs.LocalViews.{local_view};
+ghost use Rattle.cp_spelled.specs.FirstMisfit.{first_onto};
+ghost use Rattle.cp_spelled.specs.LocalViews.{local_view};
 
 use crate::misfits::term_misfits;
 use crate::scope::Scope;
 use crate::terms::{number_behind, term_in};
-use cp_forms::place_of;
+use crate::{FirstMisfit, Local, Locals, Variables, has_head, locals_in, locals_of};
+use cp_scope::place_of;
 use cp_sexpr::Form;
 use cp_term::{Locals as Numbers, Pattern, VarId};
-use cp_variables::{FirstMisfit, Local, Locals, Variables, has_head, locals_in, locals_of};
 use std::alloc::{AllocError, Global};
 
 /// Notes where a form is no pattern. Returns its locals.

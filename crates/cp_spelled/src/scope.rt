@@ -4,20 +4,19 @@ ghost use Rattle.cp_model.specs.Term.{skey_sort, akey_sort};
 ghost use Rattle.cp_model.specs.Same.{same_text};
 ghost use Rattle.cp_sexpr.specs.View.{view};
 ghost use Rattle.cp_language.specs.Roles.{headed};
-ghost use Rattle.cp_language.specs.Terms.{variable_named, is_sort, is_atom};
-ghost use Rattle.cp_report.specs.Heads.{entries_of};
-ghost use Rattle.cp_report.specs.Spelled.{is_local, local_by, variable_of_local, variable_in, sort_of_head, sort_by_shape, sort_in, is_of_sort};
-ghost use Rattle.cp_forms.specs.Heads.{term_head_view};
+ghost use Rattle.cp_language.specs.Terms.{variable_named, is_sort, admits_atom};
+ghost use Rattle.cp_report.specs.Heads.{forms_after_head};
+ghost use Rattle.cp_report.specs.Spelled.{is_local, local_by, variable_of_local, variable_in, sort_of_head, sort_by_shape, sort_in, is_found_of_sort};
+ghost use Rattle.cp_scope.specs.Heads.{term_head_view};
 ghost use Rattle.cp_strand.specs.View.{sort_view};
 ghost use Rattle.cp_scope.specs.Terms.{term_sort_view};
-ghost use Rattle.cp_variables.specs.LocalViews.{local_view};
+ghost use Rattle.cp_spelled.specs.LocalViews.{local_view};
 ghost use Rattle.cp_spelled.specs.Views.{scope_view};
 
-use cp_forms::{TermHead, headed, is_word, items_behind, symbol, term_head};
-use cp_scope::TermSort;
+use crate::{Local, Locals, Variables, is_any, is_same_sort, local_by};
+use cp_scope::{TermHead, TermSort, headed, is_word, items_behind, symbol, term_head};
 use cp_sexpr::Form;
 use cp_term::Sort;
-use cp_variables::{Local, Locals, Variables, is_any, is_same_sort, local_by};
 
 /// What may stand for a variable: the variables of a label form by their identifiers, and in a pattern its locals.
 #[derive(Clone, Copy)]
@@ -54,7 +53,7 @@ fn sort_of_local(local: Option<Local>) -> Option<Sort>
 /// The sort of the local that a form states.
 fn local_sort(scope: Scope<'_>, form: &Form) -> Option<Sort>
     ensures { option_map sort_view result ≡ option_map (λ x. x.sort)
-        (if is_local (scope_view scope.entry) (view form.now) then variable_of_local (scope_view scope.entry) (local_by (entries_of (view form.now))) else None) }
+        (if is_local (scope_view scope.entry) (view form.now) then variable_of_local (scope_view scope.entry) (local_by (forms_after_head (view form.now))) else None) }
 {
     if is_local(scope, form) {
         sort_of_local(local_by(items_behind(form)))
@@ -85,7 +84,7 @@ fn variable_sort(scope: Scope<'_>, form: &Form) -> Option<Sort>
 
 /// Whether a form stands for a variable of this sort.
 pub(crate) fn is_variable_of(scope: Scope<'_>, sort: Sort, form: &Form) -> bool
-    ensures { result ≡ is_of_sort (sort_view sort) (variable_in (scope_view scope.entry) (view form.now)) }
+    ensures { result ≡ is_found_of_sort (sort_view sort) (variable_in (scope_view scope.entry) (view form.now)) }
 {
     match variable_sort(scope, form) {
         Some(other) => is_same_sort(sort, other),
@@ -156,7 +155,7 @@ pub(crate) fn has_key_sort(scope: Scope<'_>, form: &Form) -> bool
 
 /// Whether a term has an atom sort; also `true` if its sort cannot be known.
 pub(crate) fn has_atom_sort(scope: Scope<'_>, form: &Form) -> bool
-    ensures { result ≡ is_atom (sort_in (scope_view scope.entry) (view form.now)) }
+    ensures { result ≡ admits_atom (sort_in (scope_view scope.entry) (view form.now)) }
 {
     match sort_in(scope, form) {
         None => true,

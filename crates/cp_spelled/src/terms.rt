@@ -8,13 +8,12 @@ ghost use Rattle.cp_report.specs.Skeletons.{term_or_tag};
 ghost use Rattle.cp_spelled.specs.Views.{scope_view};
 ghost use Rattle.cp_spelled.specs.Own.{headed_term};
 
+use crate::local_by;
 use crate::scope::{Scope, is_local_head};
-use cp_forms::{HeadedList, headed, term_head};
-use cp_scope::{Variable, applied, no_atom, no_term, variable_term};
+use cp_scope::{HeadedList, Variable, applied, headed, no_atom, no_term, term_head, variable_term};
 use cp_sexpr::Form;
 use cp_strand::Atom;
 use cp_term::{Term, tag};
-use cp_variables::local_by;
 use std::alloc::{AllocError, Global};
 
 /// The number that is this many places after another. The error is that there is no such number.

@@ -8,10 +8,10 @@ use Rattle.cp_language.specs.Faults.{place_of}
 use Rattle.cp_model.specs.Same.{same_text}
 use Rattle.cp_language.specs.Roles.{Headed, headed}
 use Rattle.cp_language.specs.Problems.{first_form, second_form}
-use Rattle.cp_report.specs.Misfits.{stands_before, lacking}
-use Rattle.cp_report.specs.Heads.{entries_of, optional_misfits, is_headed_by, has_head}
-use Rattle.cp_variables.specs.FirstMisfit.{first_onto}
-use Rattle.cp_forms.proofs.FirstOf.{first_then}
+use Rattle.cp_report.specs.Misfits.{place_before, lacking}
+use Rattle.cp_report.specs.Heads.{forms_after_head, optional_misfits, is_headed_by, has_head}
+use Rattle.cp_spelled.specs.FirstMisfit.{first_onto}
+use Rattle.cp_scope.proofs.FirstOf.{first_then}
 
 pub first-item : (fs : List Form) → item_at fs 0 ≡ first_form fs
 first-item [] = refl
@@ -23,7 +23,7 @@ second-item (f ∷ []) = refl
 second-item (f ∷ g ∷ fs) = refl
 
 -- what is asked of an item that is there
-pub item-asked : (inside : Place → List Form → List Place) (f : Form) (found : Option Form) (at : Place) (es : List Form) (o p : Option Place) → Some f ≡ found → at ≡ place_of f → es ≡ entries_of f
+pub item-asked : (inside : Place → List Form → List Place) (f : Form) (found : Option Form) (at : Place) (es : List Form) (o p : Option Place) → Some f ≡ found → at ≡ place_of f → es ≡ forms_after_head f
     → p ≡ first_onto o (inside at es) → p ≡ first_onto o (optional_misfits inside found)
 item-asked inside f found at es o p is e g h =
     h ∙ ap (λ x. first_onto o (inside x es)) e ∙ ap (λ x. first_onto o (inside (place_of f) x)) g ∙ ap (λ x. first_onto o (optional_misfits inside x)) is
@@ -32,10 +32,10 @@ pub item-missing : (inside : Place → List Form → List Place) (found : Option
 item-missing inside found o is = ap (λ x. first_onto o (optional_misfits inside x)) is
 
 -- an entry at least, and what is asked of all
-pub all-asked : (inside : List Form → List Place) (f : Form) (found : Option Form) (at : Place) (es : List Form) (o p q : Option Place) → Some f ≡ found → at ≡ place_of f → es ≡ entries_of f
+pub all-asked : (inside : List Form → List Place) (f : Form) (found : Option Form) (at : Place) (es : List Form) (o p q : Option Place) → Some f ≡ found → at ≡ place_of f → es ≡ forms_after_head f
     → p ≡ first_onto o (lacking 1 at es) → q ≡ first_onto p (inside es) → q ≡ first_onto o (optional_misfits (λ x fs. lacking 1 x fs ++ inside fs) found)
 all-asked inside f found at es o p q is e g h i =
-    item-asked (λ x fs. lacking 1 x fs ++ inside fs) f found at es o q is e g (first_then stands_before o p q (lacking 1 at es) (inside es) h i)
+    item-asked (λ x fs. lacking 1 x fs ++ inside fs) f found at es o q is e g (first_then place_before o p q (lacking 1 at es) (inside es) h i)
 
 -- one of two, by a test
 pub by-true : {A : Type 0} (b : Bool) (x y z : A) → b ≡ true → z ≡ x → z ≡ (if b then x else y)

@@ -8,7 +8,7 @@ use Rattle.cp_sexpr.specs.Syntax.{Form, symbol, string, number, list}
 use Rattle.cp_language.specs.Faults.{place_of, items_of}
 use Rattle.cp_language.specs.Problems.{number_of, Problem}
 use Rattle.cp_report.specs.Misfits.{entries_misfits, list_misfits}
-use Rattle.cp_report.specs.Heads.{entries_of, entries_or_none, optional_misfits}
+use Rattle.cp_report.specs.Heads.{forms_after_head, entries_or_none, optional_misfits}
 use Rattle.cp_report.specs.Spelled.{Scope}
 use Rattle.cp_report.specs.Skeletons.{strand_number_misfits, mapping_misfits, map_misfits, problem_variables, strands_mapped}
 use Rattle.cp_stated.proofs.NoMisfits.{holds}
@@ -41,4 +41,4 @@ module _ (strands : List SkeletonStrand) where
 
   pub strands_there : (p : Problem) (s : Scope) (o : Option Form) → optional_misfits (map_misfits p s strands) o ≡ [] → (n : ℕ) → IsIn n (strands_mapped (entries_or_none o)) → n < length strands
   strands_there p s None e n m = elim m [ ]
-  strands_there p s (Some f) e n m = in_entries p s (place_of f) (entries_of f) e n m
+  strands_there p s (Some f) e n m = in_entries p s (place_of f) (forms_after_head f) e n m

@@ -7,16 +7,16 @@ use Rattle.cp_model.specs.Term.{Term}
 use Rattle.cp_model.specs.Strand.{Event}
 use Rattle.cp_model.specs.Skeleton.{SkeletonStrand, term_event_at, IsNodeOf, Skeleton, Before, IsOrderPair}
 use Rattle.cp_model.specs.declared.node.OrderPair.{OrderPair}
-use Rattle.cp_model.specs.OrderTests.{reaches}
+use Rattle.cp_model.specs.OrderTests.{reaches_within}
 use Rattle.cp_model.proofs.LawOrder.{leads_before}
 use Rattle.cp_sexpr.specs.Syntax.{Form}
 use Rattle.cp_language.specs.Faults.{place_of}
-use Rattle.cp_language.specs.Problems.{is_known, on_one_strand, is_transmission, is_reception, between_strands, pair_of, pairs_in}
+use Rattle.cp_language.specs.Problems.{is_known, on_one_strand, is_some_transmission, is_some_reception, between_strands, pair_of, pairs_in}
 use Rattle.cp_language.proofs.BoundedSearch.{reaches_all}
 use Rattle.cp_report.specs.Misfits.{misfit_unless, list_misfits, entries_misfits, lacking}
-use Rattle.cp_report.specs.Heads.{entries_of, entries_or_none, optional_misfits}
+use Rattle.cp_report.specs.Heads.{forms_after_head, entries_or_none, optional_misfits}
 use Rattle.cp_report.specs.Skeletons.{node_misfits, has_pair, is_further_pair, pair_stated, pair_misfits, pairs_misfits, precedes_misfits, is_in_order}
-use Rattle.cp_wellformed.proofs.Bodies.{IsNextPair, AreBuilt, built_behind, is_sent, is_received, differ}
+use Rattle.cp_language.proofs.Bodies.{IsNextPair, AreBuilt, built_behind, is_sent, is_received, differ}
 use Rattle.cp_stated.proofs.NoMisfits.{none_of_unless, holds}
 
 module _ (strands : List SkeletonStrand) where
@@ -31,7 +31,7 @@ module _ (strands : List SkeletonStrand) where
 
   next_pair : (before : List OrderPair) (p : OrderPair) → is_further_pair strands before (Some p) ≡ true → IsNextPair strands before p × (on_one_strand p ≡ false)
   next_pair before p h =
-      let q = further_parts (is_transmission (term_event_at strands p.earlier)) (is_reception (term_event_at strands p.later)) (on_one_strand p) (has_pair before p) (reaches (length before) before p.later p.earlier) h in
+      let q = further_parts (is_some_transmission (term_event_at strands p.earlier)) (is_some_reception (term_event_at strands p.later)) (on_one_strand p) (has_pair before p) (reaches_within (length before) before p.later p.earlier) h in
       let a = is_sent (term_event_at strands p.earlier) q.0 in
       let c = is_received (term_event_at strands p.later) q.1 in
       (record { sent = a.0; received = c.0; transmission = a.1; reception = c.1; between = differ p.earlier.strand p.later.strand q.2; no_way_back = q.3 }, q.2)
@@ -53,7 +53,7 @@ module _ (strands : List SkeletonStrand) where
 
   pub order_built : (o : Option Form) → optional_misfits (precedes_misfits strands) o ≡ [] → AreBuilt strands [] (pairs_in (entries_or_none o))
   order_built None e = tt
-  order_built (Some f) e = pairs_built [] (entries_of f) (none_in_both (lacking 1 (place_of f) (entries_of f)) (pairs_misfits strands [] (entries_of f)) e).1
+  order_built (Some f) e = pairs_built [] (forms_after_head f) (none_in_both (lacking 1 (place_of f) (forms_after_head f)) (pairs_misfits strands [] (forms_after_head f)) e).1
 
 -- ---- pairs in the order
 
@@ -63,7 +63,7 @@ there (Some e) h = (e, refl)
 
 pub in_order : (k : Skeleton) → ((p : OrderPair) → IsIn p k.pairs → IsOrderPair k p) → (p : OrderPair) → is_in_order k.strands k.pairs p ≡ true → Before k p.earlier p.later
 in_order k pairs p h =
-    let first = and_parts (not (on_one_strand p) && is_known (term_event_at k.strands p.later)) (reaches (length k.pairs) k.pairs p.earlier p.later) h in
+    let first = and_parts (not (on_one_strand p) && is_known (term_event_at k.strands p.later)) (reaches_within (length k.pairs) k.pairs p.earlier p.later) h in
     let two = and_parts (not (on_one_strand p)) (is_known (term_event_at k.strands p.later)) first.0 in
     let apart : p.earlier.strand ≢ p.later.strand = differ p.earlier.strand p.later.strand (not-true (on_one_strand p) two.0) in
     let node : IsNodeOf k.strands p.later = there (term_event_at k.strands p.later) two.1 in

@@ -12,10 +12,10 @@ use Rattle.cp_language.specs.Faults.{place_of}
 use Rattle.cp_language.specs.Roles.{text_of_symbol}
 use Rattle.cp_language.specs.Problems.{role_named, is_known, first_form, number_of, Problem}
 use Rattle.cp_report.specs.Misfits.{symbol_misfits, entries_misfits}
-use Rattle.cp_report.specs.Heads.{entries_of, items_with, strand_heads}
+use Rattle.cp_report.specs.Heads.{forms_after_head, items_with, strand_heads}
 use Rattle.cp_report.specs.Spelled.{Scope, term_misfits}
-use Rattle.cp_report.specs.Skeletons.{scope_of, term_or_tag, height_misfits, prefix_misfits, instance_misfits, strand_misfits, is_instance, instance_with, instance_of_entries, strand_of, strands_of_label, strands_misfits}
-use Rattle.cp_wellformed.proofs.Strands.{role_listed, height_there}
+use Rattle.cp_report.specs.Skeletons.{scope_of, term_or_tag, height_misfits, prefix_misfits, instance_misfits, strand_misfits, states_instance, instance_with, instance_of_entries, strand_of, strands_of_label, strands_misfits}
+use Rattle.cp_language.proofs.Strands.{role_listed, height_there}
 use Rattle.cp_stated.proofs.NoMisfits.{none_of_unless, holds, none_of_each}
 
 -- The role is one of these, and has this height.
@@ -48,9 +48,9 @@ module _ (roles : List Role) (s : Scope) (role : Role) (height : ℕ) (terms : S
       let first = none_of_unless (front ++ height_misfits named h) (prefix_misfits s named (number_of h) at maplets) fits in
       by_role named h maplets (λ r found. role_listed roles (text_of_symbol name) r found) (none_in_both front (height_misfits named h) first.0).1 e
 
-  of_form : (f : Form) (b : Bool) → (if b then instance_misfits roles s (place_of f) (entries_of f) else entries_misfits (term_misfits s ∷ []) (place_of f) (entries_of f)) ≡ []
-      → (if b then instance_of_entries roles s (entries_of f) else listener (term_or_tag s (first_form (entries_of f)))) ≡ instance role height terms → IsOf roles role height
-  of_form f true fits e = of_entries (place_of f) (entries_of f) fits e
+  of_form : (f : Form) (b : Bool) → (if b then instance_misfits roles s (place_of f) (forms_after_head f) else entries_misfits (term_misfits s ∷ []) (place_of f) (forms_after_head f)) ≡ []
+      → (if b then instance_of_entries roles s (forms_after_head f) else listener (term_or_tag s (first_form (forms_after_head f)))) ≡ instance role height terms → IsOf roles role height
+  of_form f true fits e = of_entries (place_of f) (forms_after_head f) fits e
   of_form f false fits e = absurd (cc)
 
 pub strands_are_of : (p : Problem) (items : List Form) → strands_misfits p items ≡ [] → (s : ℕ) (role : Role) (height : ℕ) (terms : Substitution)
@@ -58,5 +58,5 @@ pub strands_are_of : (p : Problem) (items : List Form) → strands_misfits p ite
 strands_are_of p items fits s role height terms at =
     let roles = p.protocol.roles in
     let found = item_of_map (strand_of roles (scope_of items)) (items_with strand_heads items) s (instance role height terms) at in
-    of_form roles (scope_of items) role height terms found.0 (is_instance found.0)
+    of_form roles (scope_of items) role height terms found.0 (states_instance found.0)
     (none_of_each (strand_misfits roles (scope_of items)) (items_with strand_heads items) fits found.0 (at_place (items_with strand_heads items) s found.0 found.1)) found.2

@@ -16,7 +16,7 @@ use Rattle.cp_language.specs.Faults.{place_of}
 use Rattle.cp_language.specs.Roles.{list_items}
 use Rattle.cp_language.specs.Problems.{second_form}
 use Rattle.cp_report.specs.Misfits.{misfit_unless, unless_misfit, list_misfits, entries_misfits, lacking}
-use Rattle.cp_report.specs.Heads.{entries_of, entries_or_none, place_or, optional_misfits}
+use Rattle.cp_report.specs.Heads.{forms_after_head, entries_or_none, place_or, optional_misfits}
 use Rattle.cp_report.specs.Spelled.{Scope, atom_misfits}
 use Rattle.cp_report.specs.Skeletons.{node_misfits, has_atoms, has_uniques, assumption_misfits, carries_value, is_instance_there, may_be_origin, unique_of, second_place, unique_misfits, uniques_misfits}
 use Rattle.cp_stated.proofs.NoMisfits.{none_of_unless, holds}
@@ -42,8 +42,8 @@ all_given at item inside b e =
 pub inside_fits : (at : Place) (item : Option Form) (inside : List Form → List Place) (b : Bool) → inside [] ≡ [] → assumption_misfits at item (λ fs. inside fs) b ≡ [] → inside (entries_or_none item) ≡ []
 inside_fits at None inside b none e = none
 inside_fits at (Some f) inside b none e =
-    let first = none_of_unless (lacking 1 (place_of f) (entries_of f) ++ inside (entries_of f)) (misfit_unless b (place_of f)) e in
-    (none_in_both (lacking 1 (place_of f) (entries_of f)) (inside (entries_of f)) first.0).1
+    let first = none_of_unless (lacking 1 (place_of f) (forms_after_head f) ++ inside (forms_after_head f)) (misfit_unless b (place_of f)) e in
+    (none_in_both (lacking 1 (place_of f) (forms_after_head f)) (inside (forms_after_head f)) first.0).1
 
 -- ---- origins
 

@@ -8,10 +8,10 @@ use Rattle.cp_base.specs.declared.place.Place.{Place}
 use Rattle.cp_sexpr.specs.Syntax.{Form}
 use Rattle.cp_sexpr.specs.View.{view}
 use Rattle.cp_sexpr.specs.declared.form.Form as program
-use Rattle.cp_report.specs.Misfits.{stands_before, each_misfits}
+use Rattle.cp_report.specs.Misfits.{place_before, each_misfits}
 use Rattle.cp_report.specs.Heads.{has_head, items_with}
-use Rattle.cp_variables.specs.FirstMisfit.{first_onto}
-use Rattle.cp_forms.proofs.FirstOf.{first_onto-append}
+use Rattle.cp_spelled.specs.FirstMisfit.{first_onto}
+use Rattle.cp_scope.proofs.FirstOf.{first_onto-append}
 
 -- ---- each is asked with what those before it stand for
 
@@ -22,7 +22,7 @@ module _ {A : Type 0} (next : List A → Form → List A) (one : List A → Form
   gathered-taken goes f h e xs ys o p all g q i =
       let rest = map view (drop (k + 1) forms) in
       ap (λ zs. first_onto p (whole zs rest)) g ∙ ap (λ x. first_onto x (whole (next xs (view f)) rest)) q
-      ∙ sym (first_onto-append stands_before o (one xs (view f)) (whole (next xs (view f)) rest))
+      ∙ sym (first_onto-append place_before o (one xs (view f)) (whole (next xs (view f)) rest))
       ∙ sym (ap (first_onto o) (goes xs (view f) rest))
       ∙ sym (ap (λ fs. first_onto o (whole xs (map view fs))) (drop_read forms k f h e)) ∙ i
 
@@ -42,7 +42,7 @@ module _ (heads : List (List ℕ)) (forms : List program.Form) (k : ℕ) (f : pr
   pub headed-asked : (inside : Form → List Place) (b : Bool) → b ≡ has_head heads (view f) → b ≡ true → (o p all : Option Place) → p ≡ first_onto o (inside (view f))
       → first_onto o (each_misfits inside (items_with heads (map view (drop k forms)))) ≡ all → first_onto p (each_misfits inside rest) ≡ all
   headed-asked inside b t is o p all q i =
-      ap (λ x. first_onto x (each_misfits inside rest)) q ∙ sym (first_onto-append stands_before o (inside (view f)) (each_misfits inside rest))
+      ap (λ x. first_onto x (each_misfits inside rest)) q ∙ sym (first_onto-append place_before o (inside (view f)) (each_misfits inside rest))
       ∙ sym (ap (λ c. first_onto o (each_misfits inside (if c then view f ∷ rest else rest))) is)
       ∙ sym (ap (λ fs. first_onto o (each_misfits inside fs)) (by_head b t)) ∙ i
 

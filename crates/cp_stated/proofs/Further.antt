@@ -2,9 +2,9 @@
 use Rattle.std.proofs.Common.{◌≡◌, List, length, Bool, true, false, not, ◌&&◌, refl}
 use Rattle.std.specs.Prelude.{Some}
 use Rattle.cp_model.specs.Skeleton.{SkeletonStrand, term_event_at}
-use Rattle.cp_model.specs.OrderTests.{reaches}
+use Rattle.cp_model.specs.OrderTests.{reaches_within}
 use Rattle.cp_model.specs.declared.node.OrderPair.{OrderPair}
-use Rattle.cp_language.specs.Problems.{on_one_strand, is_transmission, is_reception}
+use Rattle.cp_language.specs.Problems.{on_one_strand, is_some_transmission, is_some_reception}
 use Rattle.cp_report.specs.Skeletons.{has_pair, is_further_pair}
 
 -- ---- the five tests
@@ -46,13 +46,13 @@ fifth false b c d e h i j k = absurd (cc)
 
 module _ (ks : List SkeletonStrand) (ps : List OrderPair) (p : OrderPair) where
   abbrev sends : Bool
-  sends = is_transmission (term_event_at ks p.earlier)
+  sends = is_some_transmission (term_event_at ks p.earlier)
 
   abbrev receives : Bool
-  receives = is_reception (term_event_at ks p.later)
+  receives = is_some_reception (term_event_at ks p.later)
 
   abbrev leads_back : Bool
-  leads_back = reaches (length ps) ps p.later p.earlier
+  leads_back = reaches_within (length ps) ps p.later p.earlier
 
   pub no-transmission : sends ≡ false → false ≡ is_further_pair ks ps (Some p)
   no-transmission = not_first sends receives (on_one_strand p) (has_pair ps p) leads_back

@@ -16,15 +16,15 @@ use Rattle.cp_language.specs.Problems.{Problem}
 use Rattle.cp_model.specs.Data.{StrandData, Declared, skeleton_of}
 use Rattle.cp_strand.specs.View.{strand_view}
 use Rattle.cp_skel.specs.View.{skeleton_view}
-use Rattle.cp_report.specs.Misfits.{stands_before, misfit_unless, lacking}
-use Rattle.cp_report.specs.Heads.{entries_of, entries_under, item_with, optional_misfits, place_or}
+use Rattle.cp_report.specs.Misfits.{place_before, misfit_unless, lacking}
+use Rattle.cp_report.specs.Heads.{forms_after_head, entries_under, item_with, optional_misfits, place_or}
 use Rattle.cp_report.specs.Spelled.{Scope}
-use Rattle.cp_report.specs.Skeletons.{scope_of, strands_of_label, precedes_misfits, pairs_under, has_atoms, atoms_misfits, atoms_under, assumption_misfits, values_misfits, has_uniques, uniques_misfits, uniques_under, all_uniques_misfits, map_misfits, problem_variables, strands_mapped, values_of_map, assumptions_under, from_problem_of, around_strands_misfits, skeleton_stated}
+use Rattle.cp_report.specs.Skeletons.{scope_of, strands_of_label, precedes_misfits, pairs_under, has_atoms, atoms_misfits, atoms_under, assumption_misfits, values_misfits, has_uniques, uniques_misfits, uniques_under, all_uniques_misfits, map_misfits, problem_variables, strands_mapped, values_of_map, assumptions_stated, from_problem_of, around_strands_misfits, skeleton_stated}
 use Rattle.cp_report.proofs.PrintedAssumptions.{all_atoms}
 use Rattle.cp_report.proofs.PrintedUniques.{all_uniques}
-use Rattle.cp_variables.specs.FirstMisfit.{first_onto, merged, onto_none}
-use Rattle.cp_forms.proofs.FirstOf.{first_onto-append}
-use Rattle.cp_variables.proofs.Firsts.{merged-unless}
+use Rattle.cp_spelled.specs.FirstMisfit.{first_onto, merged, onto_none}
+use Rattle.cp_scope.proofs.FirstOf.{first_onto-append}
+use Rattle.cp_spelled.proofs.Firsts.{merged-unless}
 use Rattle.cp_stated.specs.AssumptionEntries.{assumptions_misfits, uniques_item_misfits}
 use Rattle.cp_stated.specs.ProblemMap.{map_misfits_to, values_by, from_problem_to}
 use Rattle.cp_stated.proofs.FittingValues.{given_atoms, given_there}
@@ -67,8 +67,8 @@ assumption-read at w item inside o i j k b c e f g h l =
 
 pub three-parts : (o p q r : Option Place) (a b c d e f : List Place) → a ≡ d → b ≡ e → c ≡ f → p ≡ first_onto o a → q ≡ first_onto p b → r ≡ first_onto q c → r ≡ first_onto o (d ++ e ++ f)
 three-parts o p q r a b c d e f ad be cf g h i =
-    i ∙ ap (first_onto q) cf ∙ ap (λ x. first_onto x f) (h ∙ ap (first_onto p) be ∙ ap (λ x. first_onto x e) (g ∙ ap (first_onto o) ad) ∙ sym (first_onto-append stands_before o d e))
-    ∙ sym (first_onto-append stands_before o (d ++ e) f)
+    i ∙ ap (first_onto q) cf ∙ ap (λ x. first_onto x f) (h ∙ ap (first_onto p) be ∙ ap (λ x. first_onto x e) (g ∙ ap (first_onto o) ad) ∙ sym (first_onto-append place_before o d e))
+    ∙ sym (first_onto-append place_before o (d ++ e) f)
 
 pub around-parts : (p : Problem) (at : Place) (items : List Form) (strands : List SkeletonStrand) → strands ≡ strands_of_label p items → (o i j k : Option Place) (way : List Place)
     → way ≡ optional_misfits (map_misfits p (scope_of items) (strands_of_label p items)) (item_with (codes "map" ∷ []) items)
@@ -83,11 +83,11 @@ around-parts p at items strands same o i j k way is g h l =
     let f = optional_misfits (map_misfits p (scope_of items) ks) (item_with (codes "map" ∷ []) items) in
     let order : i ≡ first_onto o a = g ∙ ap (λ ss. first_onto o (optional_misfits (precedes_misfits ss) (item_with (codes "precedes" ∷ []) items))) same in
     let assumed : j ≡ first_onto i (b ++ c ++ d) = h ∙ ap (λ ss. first_onto i (assumptions_misfits at ss items)) same in
-    let apart : first_onto i (b ++ c ++ d) ≡ first_onto (first_onto (first_onto i b) c) d = first_onto-append stands_before i (b ++ c) d ∙ ap (λ x. first_onto x d) (first_onto-append stands_before i b c) in
+    let apart : first_onto i (b ++ c ++ d) ≡ first_onto (first_onto (first_onto i b) c) d = first_onto-append place_before i (b ++ c) d ∙ ap (λ x. first_onto x d) (first_onto-append place_before i b c) in
     let behind : first_onto (first_onto (first_onto i b) c) d ≡ first_onto o (a ++ b ++ c ++ d) =
-    ap (λ x. first_onto (first_onto (first_onto x b) c) d) order ∙ ap (λ x. first_onto (first_onto x c) d) (sym (first_onto-append stands_before o a b)) ∙ ap (λ x. first_onto x d) (sym (first_onto-append stands_before o (a ++ b) c))
-    ∙ sym (first_onto-append stands_before o (a ++ b ++ c) d) in
-    l ∙ ap (first_onto j) is ∙ ap (λ x. first_onto x f) (assumed ∙ apart ∙ behind) ∙ sym (first_onto-append stands_before o (a ++ b ++ c ++ d) f)
+    ap (λ x. first_onto (first_onto (first_onto x b) c) d) order ∙ ap (λ x. first_onto (first_onto x c) d) (sym (first_onto-append place_before o a b)) ∙ ap (λ x. first_onto x d) (sym (first_onto-append place_before o (a ++ b) c))
+    ∙ sym (first_onto-append place_before o (a ++ b ++ c) d) in
+    l ∙ ap (first_onto j) is ∙ ap (λ x. first_onto x f) (assumed ∙ apart ∙ behind) ∙ sym (first_onto-append place_before o (a ++ b ++ c ++ d) f)
 
 -- ---- the map
 
@@ -101,26 +101,26 @@ pub way-same : (p : Problem) (ks : List SkeletonStrand) (names : List Declaratio
     → optional_misfits (map_misfits_to ks names s strands) o ≡ optional_misfits (map_misfits p t others) o
 way-same p ks names s t strands others None e n scope same = refl
 way-same p ks names s t strands others (Some f) e n scope same =
-    map-same p ks names s strands (place_of f) (entries_of f) e n ∙ ap (λ x. map_misfits p x strands (place_of f) (entries_of f)) scope ∙ ap (λ x. map_misfits p t x (place_of f) (entries_of f)) same
+    map-same p ks names s strands (place_of f) (forms_after_head f) e n ∙ ap (λ x. map_misfits p x strands (place_of f) (forms_after_head f)) scope ∙ ap (λ x. map_misfits p t x (place_of f) (forms_after_head f)) same
 
 pub values-same : (p : Problem) (names : List Declaration) (s t : Scope) (fs : List Form) → names ≡ problem_variables p → s ≡ t → values_by names s fs ≡ values_of_map p t fs
 values-same p names s t [] n scope = refl
 values-same p names s t (f ∷ maplets) n scope = ap (λ x. values_by x s (f ∷ maplets)) n ∙ ap (λ x. values_by (problem_variables p) x (f ∷ maplets)) scope
 
 pub from-stated : (p : Problem) (items : List Form) (own : FromProblem) (ks : List SkeletonStrand) (ps : List OrderPair) (listed : Assumptions) (ts : List ℕ) (vs : List Term) (f : FromProblem)
-    → own ≡ p.skeleton.from_problem → ks ≡ strands_of_label p items → ps ≡ pairs_under items → listed ≡ assumptions_under items
+    → own ≡ p.skeleton.from_problem → ks ≡ strands_of_label p items → ps ≡ pairs_under items → listed ≡ assumptions_stated items
     → ts ≡ strands_mapped (entries_under (codes "map") items) → vs ≡ values_of_map p (scope_of items) (entries_under (codes "map") items)
     → f ≡ from_problem_to own ks ps listed ts vs → f ≡ from_problem_of p items
 from-stated p items own ks ps listed ts vs f e g h i j l m =
     m ∙ ap (λ x. from_problem_to x ks ps listed ts vs) e ∙ ap (λ x. from_problem_to p.skeleton.from_problem x ps listed ts vs) g
     ∙ ap (λ x. from_problem_to p.skeleton.from_problem (strands_of_label p items) x listed ts vs) h
     ∙ ap (λ x. from_problem_to p.skeleton.from_problem (strands_of_label p items) (pairs_under items) x ts vs) i
-    ∙ ap (λ x. from_problem_to p.skeleton.from_problem (strands_of_label p items) (pairs_under items) (assumptions_under items) x vs) j
-    ∙ ap (λ x. from_problem_to p.skeleton.from_problem (strands_of_label p items) (pairs_under items) (assumptions_under items) (strands_mapped (entries_under (codes "map") items)) x) l
+    ∙ ap (λ x. from_problem_to p.skeleton.from_problem (strands_of_label p items) (pairs_under items) (assumptions_stated items) x vs) j
+    ∙ ap (λ x. from_problem_to p.skeleton.from_problem (strands_of_label p items) (pairs_under items) (assumptions_stated items) (strands_mapped (entries_under (codes "map") items)) x) l
 
 -- ---- the skeleton of its parts
 
 pub parts_stated : (p : Problem) (items : List Form) (variables : List Declared) (strands : List StrandData) (order : List OrderPair) (assumptions : Assumptions) (from_problem : FromProblem)
-    → map strand_view strands ≡ strands_of_label p items → order ≡ pairs_under items → assumptions ≡ assumptions_under items → from_problem ≡ from_problem_of p items
+    → map strand_view strands ≡ strands_of_label p items → order ≡ pairs_under items → assumptions ≡ assumptions_stated items → from_problem ≡ from_problem_of p items
     → skeleton_view (skeleton_of variables strands order assumptions from_problem) ≡ skeleton_stated p items
 parts_stated p items variables strands order assumptions from_problem s o a f = λ i. record { strands = s i; pairs = o i; assumptions = a i; from_problem = f i }

@@ -12,7 +12,7 @@ use Rattle.cp_language.specs.Problems.{role_named, is_known, number_of}
 use Rattle.cp_report.specs.Misfits.{misfit, unless_misfit, symbol_misfits}
 use Rattle.cp_report.specs.Spelled.{Scope}
 use Rattle.cp_report.specs.Skeletons.{height_misfits, prefix_misfits, instance_misfits}
-use Rattle.cp_variables.specs.FirstMisfit.{first_onto}
+use Rattle.cp_spelled.specs.FirstMisfit.{first_onto}
 
 module _ (roles : List Role) (s : Scope) (at : Place) where
   pub few-entries : (fs : List program.Form) → length fs < 2 → misfit at ≡ instance_misfits roles s at (map view fs)

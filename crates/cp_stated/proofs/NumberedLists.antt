@@ -20,10 +20,10 @@ use Rattle.cp_language.specs.Faults.{place_of}
 use Rattle.cp_strand.specs.View.{sort_view, declaration_view, strand_view}
 use Rattle.cp_strand.specs.declared.protocol.Declaration as declared
 use Rattle.cp_skel.specs.Trees.{variables_view}
-use Rattle.cp_report.specs.Misfits.{stands_before, misfit, misfit_unless}
+use Rattle.cp_report.specs.Misfits.{place_before, misfit, misfit_unless}
 use Rattle.cp_report.specs.Skeletons.{declared_in_prefix, named_declarations, strand_number_misfits}
-use Rattle.cp_variables.specs.FirstMisfit.{first_onto}
-use Rattle.cp_forms.proofs.FirstOf.{first_onto-append}
+use Rattle.cp_spelled.specs.FirstMisfit.{first_onto}
+use Rattle.cp_scope.proofs.FirstOf.{first_onto-append}
 use Rattle.cp_stated.specs.ProblemMap.{strands_of_problem_misfits}
 
 -- ---- a strand for each of the problem's
@@ -39,7 +39,7 @@ module _ (problem : List StrandData) (strands : List SkeletonStrand) (at : Place
       → first_onto o (asked k) ≡ all → first_onto p (asked (k + 1)) ≡ all
   number-taken f h e g o p all q i =
       let next = next_of problem k g in
-      ap (λ x. first_onto x (asked (k + 1))) q ∙ sym (first_onto-append stands_before o (strand_number_misfits strands (view f)) (asked (k + 1)))
+      ap (λ x. first_onto x (asked (k + 1))) q ∙ sym (first_onto-append place_before o (strand_number_misfits strands (view f)) (asked (k + 1)))
       ∙ sym (ap (first_onto o) (both_read f h e (next.0 ∷ drop (k + 1) problem) next.2)) ∙ i
 
   pub number-too-many : (f : program.Form) → k < length items → f ≡ get_or items k f → length problem ≤ k → (o p all : Option Place) → p ≡ first_onto o (misfit (place_of (view f)))

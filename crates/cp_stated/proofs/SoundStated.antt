@@ -18,10 +18,10 @@ use Rattle.cp_skel.specs.Sound.{IsSound}
 use Rattle.cp_strand.specs.Declares.{DeclaresItsVariables}
 use Rattle.cp_report.specs.Heads.{item_with, entries_under, optional_misfits}
 use Rattle.cp_report.specs.Skeletons.{scope_of, strands_of_label, precedes_misfits, pairs_under, has_atoms, atoms_misfits, atoms_under, values_misfits, has_uniques, uniques_misfits, uniques_under, all_uniques_misfits, map_misfits, strands_mapped, values_of_map, map_by, is_in_order, strands_misfits, around_strands_misfits, skeleton_stated}
-use Rattle.cp_wellformed.proofs.Atoms.{given_there, non_given, penetrator_non_given}
-use Rattle.cp_wellformed.proofs.Uniques as wellformed
-use Rattle.cp_wellformed.proofs.NoCycle.{no_cycle, are_pairs}
-use Rattle.cp_wellformed.proofs.Bodies.{AreBuilt}
+use Rattle.cp_language.proofs.Atoms.{given_there, non_given, penetrator_non_given}
+use Rattle.cp_language.proofs.Uniques as wellformed
+use Rattle.cp_language.proofs.NoCycle.{no_cycle, are_pairs}
+use Rattle.cp_language.proofs.Bodies.{AreBuilt}
 use Rattle.cp_stated.proofs.NoMisfits.{none_in_five}
 use Rattle.cp_stated.proofs.FittingStrands.{strands_are_of}
 use Rattle.cp_stated.proofs.FittingOrder.{order_built, in_order}

@@ -2,17 +2,17 @@
 use Rattle.std.proofs.Common.{◌≡◌, List, [], ◌∷◌, Bool, true, false, refl, sym, ap, ◌∙◌}
 use Rattle.std.specs.Prelude.{Option, Some, None, is_none}
 use Rattle.cp_base.specs.declared.place.Place.{Place}
-use Rattle.cp_forms.proofs.FirstOf as first
-use Rattle.cp_report.specs.Misfits.{stands_before, unless_misfit}
-use Rattle.cp_variables.specs.FirstMisfit.{first_onto, merged, onto_none}
-use Rattle.cp_variables.proofs.Firsts.{merged-unless}
+use Rattle.cp_scope.proofs.FirstOf as first
+use Rattle.cp_report.specs.Misfits.{place_before, unless_misfit}
+use Rattle.cp_spelled.specs.FirstMisfit.{first_onto, merged, onto_none}
+use Rattle.cp_spelled.proofs.Firsts.{merged-unless}
 
 module _ (o i j k : Option Place) (b : Bool) (rs others : List Place) (found : i ≡ first_onto None rs) (test : b ≡ is_none i) (whole : k ≡ merged o j) where
   pub asked : b ≡ true → j ≡ first_onto i others → k ≡ first_onto o (unless_misfit rs others)
-  asked h e = merged-unless o i j k rs others found (first.onto_none-there stands_before i j others (sym test ∙ h) e) whole
+  asked h e = merged-unless o i j k rs others found (first.onto_none-there place_before i j others (sym test ∙ h) e) whole
 
   pub not-asked : b ≡ false → j ≡ i → k ≡ first_onto o (unless_misfit rs others)
-  not-asked h e = merged-unless o i j k rs others found (first.onto_none-not stands_before i j others (sym test ∙ h) e) whole
+  not-asked h e = merged-unless o i j k rs others found (first.onto_none-not place_before i j others (sym test ∙ h) e) whole
 
 -- What is merged where none was before is itself.
 pub by_itself : (j : Option Place) → j ≡ merged None j

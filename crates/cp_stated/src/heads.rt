@@ -4,9 +4,9 @@ ghost use Rattle.cp_sexpr.specs.View.{view};
 ghost use Rattle.cp_report.specs.Heads.{has_head, item_with, place_or, strand_heads};
 
 use cp_base::Place;
-use cp_forms::place_of;
+use cp_scope::place_of;
 use cp_sexpr::Form;
-use cp_variables::has_head;
+use cp_spelled::has_head;
 
 /// Whether a form has the head of an instance or of a listener.
 pub(crate) fn is_strand(form: &Form) -> bool

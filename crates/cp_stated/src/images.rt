@@ -13,7 +13,7 @@ use crate::nodes::is_there;
 use crate::uniques::has_unique;
 use crate::values::has_atom;
 use cp_load::is_on_one_strand;
-use cp_skel::{Assumptions, Atom, Leading, Node, OrderPair, Strand, UniqueAt, applied_atom};
+use cp_skel::{Assumptions, Atom, Node, OrderPair, Predecessors, Strand, UniqueAt, applied_atom};
 use cp_term::Term;
 use std::alloc::{AllocError, Global};
 
@@ -148,7 +148,7 @@ fn is_in_order(
     if !is_there(strands, pair.later) {
         return Ok(false);
     }
-    let leading = Leading::new(alloc, pairs, pair.later)?;
+    let leading = Predecessors::new(alloc, pairs, pair.later)?;
     Ok(leading.has(pair.earlier))
 }
 

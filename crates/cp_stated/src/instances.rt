@@ -9,19 +9,21 @@ ghost use Rattle.cp_report.specs.Misfits.{each_misfits, entries_misfits, symbol_
 ghost use Rattle.cp_report.specs.Heads.{items_with, strand_heads};
 ghost use Rattle.cp_report.specs.Spelled.{term_misfits};
 ghost use Rattle.cp_report.specs.Skeletons.{height_misfits, declared_in_prefix, prefix_misfits, instance_misfits, strand_misfits};
-ghost use Rattle.cp_variables.specs.FirstMisfit.{first_onto};
+ghost use Rattle.cp_spelled.specs.FirstMisfit.{first_onto};
 ghost use Rattle.cp_spelled.specs.Views.{scope_view};
 
 use crate::heads::is_strand;
 use crate::stated_strands::number_of;
 use cp_base::Place;
-use cp_forms::{items_behind, place_of, symbol_or_empty};
 use cp_roles::role_named;
+use cp_scope::{items_behind, place_of, symbol_or_empty};
 use cp_sexpr::Form;
 use cp_skel::{Declaration, Event, Role, occurs, prefix_of};
-use cp_spelled::{Scope, mapping_misfits, term_misfits};
+use cp_spelled::{
+    FirstMisfit, Scope, Variables, any_number_misfits, has_head, mapping_misfits, no_more,
+    term_misfits,
+};
 use cp_term::VarId;
-use cp_variables::{FirstMisfit, Variables, any_number_misfits, has_head, no_more};
 use std::alloc::{AllocError, Global};
 use std::rc::Rc;
 

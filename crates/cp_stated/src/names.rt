@@ -2,15 +2,15 @@
 ghost use Rattle.std.specs.Prelude.{◌≡◌, nat_lt, length, map, IfOk};
 ghost use Rattle.cp_strand.specs.View.{declaration_view};
 ghost use Rattle.cp_skel.specs.Trees.{variables_view};
-ghost use Rattle.cp_load.specs.Drafts.{draft_view};
+ghost use Rattle.cp_load.specs.UncheckedProblems.{unchecked_view};
 ghost use Rattle.cp_report.specs.Skeletons.{named_declarations, problem_variables};
 
 use cp_base::Text;
-use cp_load::Draft;
+use cp_load::UncheckedProblem;
 use cp_names::problem_names;
 use cp_skel::Declaration;
+use cp_spelled::Variables;
 use cp_term::{VarId, VarTable};
-use cp_variables::Variables;
 use std::alloc::{AllocError, Global};
 
 /// Whether the table has a variable with this number.
@@ -42,8 +42,8 @@ fn named_declarations(
 }
 
 /// The variables of a problem under their names in a report.
-pub fn problem_variables(alloc: Global, problem: &Draft) -> Result<Variables, AllocError>
-    ensures { IfOk result (λ v. map declaration_view v ≡ problem_variables (draft_view problem.now)) }
+pub fn problem_variables(alloc: Global, problem: &UncheckedProblem) -> Result<Variables, AllocError>
+    ensures { IfOk result (λ v. map declaration_view v ≡ problem_variables (unchecked_view problem.now)) }
 {
     let table = &problem.skeleton.variables;
     let names = problem_names(alloc, problem.declared, table)?;

@@ -6,14 +6,14 @@ ghost use Rattle.cp_language.specs.Problems.{is_known, option_node};
 ghost use Rattle.cp_strand.specs.View.{strand_view};
 ghost use Rattle.cp_report.specs.Misfits.{any_number_misfits, entries_misfits, list_misfits};
 ghost use Rattle.cp_report.specs.Skeletons.{node_misfits, node_or_first, there_misfits};
-ghost use Rattle.cp_variables.specs.FirstMisfit.{first_onto};
+ghost use Rattle.cp_spelled.specs.FirstMisfit.{first_onto};
 
 use cp_base::Place;
-use cp_forms::place_of;
 use cp_load::{node_direction, node_if_there, node_of};
+use cp_scope::place_of;
 use cp_sexpr::Form;
 use cp_skel::{Node, Strand};
-use cp_variables::{FirstMisfit, any_number_misfits, no_more, one_number_misfits};
+use cp_spelled::{FirstMisfit, any_number_misfits, no_more, one_number_misfits};
 
 /// The items of the list at this place must be two numbers.
 pub fn two_numbers_misfits(place: Place, items: &[Form], first: &mut FirstMisfit)

@@ -8,19 +8,19 @@ ghost use Rattle.cp_load.specs.Acyclic.{IsAcyclicIf};
 ghost use Rattle.cp_report.specs.Misfits.{entries_misfits, list_misfits};
 ghost use Rattle.cp_report.specs.Heads.{item_with, optional_misfits};
 ghost use Rattle.cp_report.specs.Skeletons.{node_misfits, has_pair, is_further_pair, pair_stated, pair_misfits, pairs_misfits, precedes_misfits, pairs_under};
-ghost use Rattle.cp_variables.specs.FirstMisfit.{first_onto};
+ghost use Rattle.cp_spelled.specs.FirstMisfit.{first_onto};
 
 use crate::heads::item_with;
 use crate::nodes::{node_misfits, one_node_misfits};
 use cp_base::Place;
-use cp_forms::{item_at, items_behind, list_items, place_of};
 use cp_load::{
     add_pair, add_pairs, closes_cycle, have_no_cycle, is_on_one_strand, is_reception,
     is_transmission, node_if_there, pair_of, pair_of_nodes,
 };
+use cp_scope::{item_at, items_behind, list_items, place_of};
 use cp_sexpr::Form;
 use cp_skel::{Node, OrderPair, Strand};
-use cp_variables::{FirstMisfit, entries_under, lacking};
+use cp_spelled::{FirstMisfit, entries_under, lacking};
 use std::alloc::{AllocError, Global};
 
 /// Whether the two nodes are the same.

@@ -5,19 +5,18 @@ ghost use Rattle.cp_strand.specs.View.{declaration_view, strand_view};
 ghost use Rattle.cp_report.specs.Misfits.{list_misfits};
 ghost use Rattle.cp_report.specs.Heads.{item_with, optional_misfits};
 ghost use Rattle.cp_report.specs.Skeletons.{strand_number_misfits, strands_mapped};
-ghost use Rattle.cp_variables.specs.FirstMisfit.{first_onto};
+ghost use Rattle.cp_spelled.specs.FirstMisfit.{first_onto};
 ghost use Rattle.cp_spelled.specs.Views.{scope_view};
 ghost use Rattle.cp_stated.specs.ProblemMap.{strands_of_problem_misfits, map_misfits_to, values_by};
 
 use crate::heads::item_with;
 use crate::stated_strands::number_of;
 use cp_base::Place;
-use cp_forms::{items_behind, list_items, place_of};
+use cp_scope::{items_behind, list_items, place_of};
 use cp_sexpr::Form;
 use cp_skel::Strand;
-use cp_spelled::{Scope, mapping_misfits, values_mapped};
+use cp_spelled::{FirstMisfit, Scope, Variables, mapping_misfits, values_mapped};
 use cp_term::Term;
-use cp_variables::{FirstMisfit, Variables};
 use std::alloc::{AllocError, Global};
 
 /// Whether there is a strand with this number.

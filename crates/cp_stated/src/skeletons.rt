@@ -5,8 +5,8 @@ ghost use Rattle.cp_sexpr.specs.View.{view};
 ghost use Rattle.cp_strand.specs.View.{declaration_view, strand_view};
 ghost use Rattle.cp_skel.specs.Trees.{variables_view};
 ghost use Rattle.cp_skel.specs.View.{skeleton_view};
-ghost use Rattle.cp_load.specs.Drafts.{draft_view};
-ghost use Rattle.cp_report.specs.Skeletons.{declarations_of_label, scope_of, assumptions_under, problem_variables, strands_of_label, from_problem_by, strands_misfits, around_strands_misfits, skeleton_stated};
+ghost use Rattle.cp_load.specs.UncheckedProblems.{unchecked_view};
+ghost use Rattle.cp_report.specs.Skeletons.{declarations_of_label, scope_of, assumptions_stated, problem_variables, strands_of_label, from_problem_by, strands_misfits, around_strands_misfits, skeleton_stated};
 ghost use Rattle.cp_spelled.specs.Views.{scope_view};
 ghost use Rattle.cp_stated.specs.ProblemMap.{from_problem_to};
 
@@ -15,12 +15,11 @@ use crate::order::pairs_under;
 use crate::problem_map::{strands_mapped, values_of_map};
 use crate::uniques::uniques_under;
 use crate::values::atoms_under;
-use cp_load::{Draft, table_of};
+use cp_load::{UncheckedProblem, table_of};
 use cp_sexpr::Form;
 use cp_skel::{Assumptions, FromProblem, Order, OrderPair, Skeleton, Strand};
-use cp_spelled::Scope;
+use cp_spelled::{Scope, Variables, entries_under};
 use cp_term::Term;
-use cp_variables::{Variables, entries_under};
 use std::alloc::{AllocError, Global};
 
 /// The assumptions that the items of a label form state.
@@ -30,7 +29,7 @@ fn assumptions_under(
     items: &[Form],
 ) -> Result<Assumptions, AllocError>
     requires { scope_view scope ≡ scope_of (map view items.now) }
-    ensures { IfOk result (λ a. a ≡ assumptions_under (map view items.now)) }
+    ensures { IfOk result (λ a. a ≡ assumptions_stated (map view items.now)) }
 {
     let non = atoms_under(alloc, scope, b"non-orig", items)?;
     let penetrator_non = atoms_under(alloc, scope, b"pen-non-orig", items)?;
@@ -60,18 +59,18 @@ fn from_problem_by(
 /// a report; the scope has the label's variables; the strands are those that the items state.
 pub fn skeleton_stated(
     alloc: Global,
-    problem: &Draft,
+    problem: &UncheckedProblem,
     names: &Variables,
     scope: Scope<'_>,
     strands: Vec<Strand>,
     items: &[Form],
 ) -> Result<Skeleton, AllocError>
-    requires names { map declaration_view names.now ≡ problem_variables (draft_view problem.now) }
+    requires names { map declaration_view names.now ≡ problem_variables (unchecked_view problem.now) }
     requires scope { scope_view scope ≡ scope_of (map view items.now) }
-    requires strands { map strand_view strands.items ≡ strands_of_label (draft_view problem.now) (map view items.now) }
-    requires strands_fit { strands_misfits (draft_view problem.now) (map view items.now) ≡ [] }
-    requires others_fit { (place : Place) × (around_strands_misfits (draft_view problem.now) place (map view items.now) ≡ []) }
-    ensures skeleton { IfOk result (λ k. skeleton_view k ≡ skeleton_stated (draft_view problem.now) (map view items.now)) }
+    requires strands { map strand_view strands.items ≡ strands_of_label (unchecked_view problem.now) (map view items.now) }
+    requires strands_fit { strands_misfits (unchecked_view problem.now) (map view items.now) ≡ [] }
+    requires others_fit { (place : Place) × (around_strands_misfits (unchecked_view problem.now) place (map view items.now) ≡ []) }
+    ensures skeleton { IfOk result (λ k. skeleton_view k ≡ skeleton_stated (unchecked_view problem.now) (map view items.now)) }
     ensures variables { IfOk result (λ k. variables_view k.variables ≡ declarations_of_label (map view items.now)) }
 {
     let entries = entries_under(items, b"map");

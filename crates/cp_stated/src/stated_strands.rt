@@ -11,13 +11,12 @@ ghost use Rattle.cp_report.specs.Skeletons.{instance_with, instance_of_entries, 
 ghost use Rattle.cp_spelled.specs.Views.{scope_view};
 
 use crate::heads::is_strand;
-use cp_forms::{item_at, items_behind, symbol_or_empty};
 use cp_roles::role_named;
+use cp_scope::{item_at, items_behind, symbol_or_empty};
 use cp_sexpr::Form;
 use cp_skel::{Instance, Role, Strand};
-use cp_spelled::{Scope, term_or_tag, values_mapped};
+use cp_spelled::{Scope, has_head, term_or_tag, values_mapped};
 use cp_term::tag;
-use cp_variables::has_head;
 use std::alloc::{AllocError, Global};
 use std::rc::Rc;
 

@@ -15,21 +15,19 @@ ghost use Rattle.cp_report.specs.Misfits.{lacking, entries_misfits, list_misfits
 ghost use Rattle.cp_report.specs.Heads.{optional_misfits, entries_or_none};
 ghost use Rattle.cp_report.specs.Spelled.{atom_misfits};
 ghost use Rattle.cp_report.specs.Skeletons.{scope_of, term_or_tag, node_misfits, carries_value, may_be_origin, unique_of, second_place, unique_misfits, uniques_misfits, has_uniques, uniques_under};
-ghost use Rattle.cp_variables.specs.FirstMisfit.{first_onto};
+ghost use Rattle.cp_spelled.specs.FirstMisfit.{first_onto};
 ghost use Rattle.cp_spelled.specs.Views.{scope_view};
 ghost use Rattle.cp_stated.specs.AssumptionEntries.{may_be_origin_on, uniques_item_misfits};
 
 use crate::heads::{item_with, place_or};
 use crate::nodes::{node_or_first, one_node_misfits};
 use cp_base::Place;
-use cp_forms::{item_at, items_behind, list_items, place_of};
 use cp_load::carries_under;
-use cp_scope::no_atom;
+use cp_scope::{item_at, items_behind, list_items, no_atom, place_of};
 use cp_sexpr::Form;
 use cp_skel::{Atom, Event, Instance, Node, Strand, StrandShape, UniqueAt, prefix_of};
-use cp_spelled::{Scope, atom_in, atom_misfits};
+use cp_spelled::{FirstMisfit, Scope, atom_in, atom_misfits, entries_under, lacking};
 use cp_term::Term;
-use cp_variables::{FirstMisfit, entries_under, lacking};
 use std::alloc::{AllocError, Global};
 
 /// Whether a unique value with its origin is one of these.

@@ -6,17 +6,16 @@ ghost use Rattle.cp_report.specs.Misfits.{lacking};
 ghost use Rattle.cp_report.specs.Heads.{optional_misfits, entries_or_none};
 ghost use Rattle.cp_report.specs.Spelled.{atom_in};
 ghost use Rattle.cp_report.specs.Skeletons.{scope_of, has_atoms, atoms_misfits, values_misfits, atoms_under};
-ghost use Rattle.cp_variables.specs.FirstMisfit.{first_onto};
+ghost use Rattle.cp_spelled.specs.FirstMisfit.{first_onto};
 ghost use Rattle.cp_spelled.specs.Views.{scope_view};
 ghost use Rattle.cp_stated.specs.AssumptionEntries.{atom_entry_misfits};
 
 use crate::heads::{item_with, place_or};
 use cp_base::Place;
-use cp_forms::{items_behind, place_of};
+use cp_scope::{items_behind, place_of};
 use cp_sexpr::Form;
 use cp_skel::Atom;
-use cp_spelled::{Scope, atom_in, atom_misfits};
-use cp_variables::{FirstMisfit, entries_under, lacking};
+use cp_spelled::{FirstMisfit, Scope, atom_in, atom_misfits, entries_under, lacking};
 use std::alloc::{AllocError, Global};
 
 /// Whether a value is one of these.

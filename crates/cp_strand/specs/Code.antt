@@ -5,7 +5,7 @@ use Rattle.std.proofs.Common.{inl, inr}
 use Rattle.cp_model.specs.Term.{AtomTerm, Term}
 use Rattle.cp_model.specs.Strand.{Declaration, Event, send, recv, Role, Protocol}
 use Rattle.cp_model.specs.Data.{InstanceData, StrandData, instance_data, listener_data}
-use Rattle.cp_term.specs.Code.{coded_atom, coded_term, coded_sort}
+use Rattle.cp_term.specs.Code.{coded_atom_term, coded_term, coded_sort}
 
 abbrev coded_declaration : Coded Declaration
 coded_declaration = code_by (List ℕ × _) (coded× (coded_list coded_ℕ) coded_sort) (λ d. (d.identifier, d.sort)) (λ p. record { identifier = p.0; sort = p.1 }) (λ d. refl)
@@ -26,7 +26,7 @@ abbrev coded_event : Coded (Event Term)
 coded_event = code_by (Term ⊎ Term) (coded⊎ coded_term coded_term) event_parts event_from event_back
 
 abbrev pub coded_atoms : Coded (List AtomTerm)
-coded_atoms = coded_list coded_atom
+coded_atoms = coded_list coded_atom_term
 
 abbrev pub coded_role : Coded Role
 coded_role =

@@ -6,5 +6,4 @@ pub mod Declares
 pub mod RoleParts
 pub mod Shapes
 pub mod Origins
-pub mod PrefixVariables
 pub mod Valued

@@ -2,7 +2,7 @@
 ghost use Rattle.std.specs.Prelude.{◌≡◌, IfOk};
 ghost use Rattle.std.specs.Option.{option_map};
 ghost use Rattle.cp_model.specs.Strand.{variables_of_prefix};
-ghost use Rattle.cp_strand.specs.PrefixVariables.{is_added};
+ghost use Rattle.cp_model.specs.PrefixVariables.{is_added};
 ghost use Rattle.cp_strand.specs.Valued.{term_or, valued};
 ghost use Rattle.cp_strand.specs.View.{sort_view};
 

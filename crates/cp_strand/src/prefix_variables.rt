@@ -3,7 +3,7 @@ ghost use Rattle.std.specs.Prelude.{◌≡◌, ◌&&◌, ◌==◌, map};
 ghost use Rattle.cp_model.specs.Term.{variables_of, variables_of_atom};
 ghost use Rattle.cp_model.specs.Strand.{variables_of_trace, prefix_of};
 ghost use Rattle.cp_model.specs.Same.{same_sort, has_variable, has_variables};
-ghost use Rattle.cp_strand.specs.PrefixVariables.{is_added};
+ghost use Rattle.cp_model.specs.PrefixVariables.{is_added};
 ghost use Rattle.cp_strand.specs.View.{sort_view, event_view};
 
 use crate::atom::Atom;

@@ -1,7 +1,7 @@
 -- Depths.
 use Rattle.std.proofs.Common.{◌≤◌, arith}
 use Rattle.cp_model.specs.Term.{Term, tag_term, atom_term, pair_term, enc_term}
-use Rattle.cp_term.specs.Positions.{depth_of}
+use Rattle.cp_model.specs.Positions.{depth_of}
 
 pub depth_positive : (t : Term) → 1 ≤ depth_of t
 depth_positive (tag_term bytes) = omega arith

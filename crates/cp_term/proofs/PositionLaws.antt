@@ -4,13 +4,13 @@ use Rattle.std.specs.Prelude.{◌↔◌, option_and_then}
 use Rattle.cp_lists.specs.Lists.{IsIn, here, there}
 use Rattle.cp_lists.proofs.Members.{in_append_left, in_append_right, in_append}
 use Rattle.cp_model.specs.Term.{Term, tag_term, atom_term, pair_term, enc_term, IsCarriedByTerm, itself_term, in_left_term, in_right_term, in_plaintext_term}
-use Rattle.cp_term.specs.Positions.{part_at, here_if, below, term_at, positions_where}
+use Rattle.cp_model.specs.Positions.{part_at, here_if, paths_below, term_at, positions_where}
 use Rattle.cp_term.specs.Preorder.{ComesBefore, AreInPreorder}
 use Rattle.cp_model.specs.Same.{same_term}
 use Rattle.cp_term.proofs.SameTerms.{same_Decides}
 use Rattle.cp_term.proofs.Listed.{in_here, is_here, is_below, in_below}
-use Rattle.cp_term.specs.declared.path.Step.{Step}
-use Rattle.cp_term.specs.declared.path.Step.TheVariants.{Left, Right, Plaintext}
+use Rattle.cp_model.specs.declared.step.Step.{Step}
+use Rattle.cp_model.specs.declared.step.Step.TheVariants.{Left, Right, Plaintext}
 
 -- A term that passes the test stands at the path.
 abbrev Stands : (Term → Bool) → Term → List Step → Type 0
@@ -20,7 +20,7 @@ stands_here : (test : Term → Bool) (t : Term) (path : List Step) → IsIn path
 stands_here test t path h = let e = in_here (test t) path h in (t, ap (term_at t) e.0, e.1)
 
 stands_below : (test : Term → Bool) (s : Step) (t part : Term) (path : List Step) → part_at s t ≡ Some part →
-    ((q : List Step) → IsIn q (positions_where test part) → Stands test part q) → IsIn path (below s (positions_where test part)) → Stands test t path
+    ((q : List Step) → IsIn q (positions_where test part) → Stands test part q) → IsIn path (paths_below s (positions_where test part)) → Stands test t path
 stands_below test s t part path at inner h =
     let e = in_below s (positions_where test part) path h in
     let u = inner e.0 e.2 in
@@ -33,11 +33,11 @@ stands test (pair_term a b) path h =
     ⊎_elim (stands_here test (pair_term a b) path)
     (λ r. ⊎_elim (stands_below test Left (pair_term a b) a path refl (λ q i. stands test a q i))
     (stands_below test Right (pair_term a b) b path refl (λ q i. stands test b q i))
-    (in_append (below Left (positions_where test a)) (below Right (positions_where test b)) r))
-    (in_append (here_if (test (pair_term a b))) (below Left (positions_where test a) ++ below Right (positions_where test b)) h)
+    (in_append (paths_below Left (positions_where test a)) (paths_below Right (positions_where test b)) r))
+    (in_append (here_if (test (pair_term a b))) (paths_below Left (positions_where test a) ++ paths_below Right (positions_where test b)) h)
 stands test (enc_term a k) path h =
     ⊎_elim (stands_here test (enc_term a k) path) (stands_below test Plaintext (enc_term a k) a path refl (λ q i. stands test a q i))
-    (in_append (here_if (test (enc_term a k))) (below Plaintext (positions_where test a)) h)
+    (in_append (here_if (test (enc_term a k))) (paths_below Plaintext (positions_where test a)) h)
 
 listed_here : (test : Term → Bool) (t u : Term) → Some t ≡ Some u → test u ≡ true → test t ≡ true
 listed_here test t u e h = let same : t ≡ u = cc in ap test same ∙ h
@@ -50,7 +50,7 @@ listed test (enc_term a k) [] u e h = in_append_left _ (is_here _ (listed_here t
 listed test (pair_term a b) (Left ∷ path) u e h =
     in_append_right (here_if (test (pair_term a b))) (in_append_left _ (is_below Left _ path (listed test a path u e h)))
 listed test (pair_term a b) (Right ∷ path) u e h =
-    in_append_right (here_if (test (pair_term a b))) (in_append_right (below Left (positions_where test a)) (is_below Right _ path (listed test b path u e h)))
+    in_append_right (here_if (test (pair_term a b))) (in_append_right (paths_below Left (positions_where test a)) (is_below Right _ path (listed test b path u e h)))
 listed test (enc_term a k) (Plaintext ∷ path) u e h =
     in_append_right (here_if (test (enc_term a k))) (is_below Plaintext _ path (listed test a path u e h))
 listed test (pair_term a b) (Plaintext ∷ path) u e h = cc
@@ -115,7 +115,7 @@ order_joined (p ∷ ps) qs i j h =
 behind_step : (s : Step) (p q : List Step) (t : List Step) → t ≡ s ∷ q → ComesBefore p q → ComesBefore (s ∷ p) t
 behind_step s p q t e h = subst (ComesBefore (s ∷ p)) (sym e) (inr (refl, h))
 
-order_below : (s : Step) (ps : List (List Step)) → AreInPreorder ps → AreInPreorder (below s ps)
+order_below : (s : Step) (ps : List (List Step)) → AreInPreorder ps → AreInPreorder (paths_below s ps)
 order_below s [] i = tt
 order_below s (p ∷ ps) i =
     (λ q m. let r = in_below s ps q m in behind_step s p r.0 q r.1 (i.0 r.0 r.2), order_below s ps i.1)
@@ -134,16 +134,16 @@ pub positions_ordered : (test : Term → Bool) (t : Term) → AreInPreorder (pos
 positions_ordered test (tag_term bytes) = order_here (test (tag_term bytes))
 positions_ordered test (atom_term a) = order_here (test (atom_term a))
 positions_ordered test (pair_term a b) =
-    order_joined (here_if (test (pair_term a b))) (below Left (positions_where test a) ++ below Right (positions_where test b)) (order_here _)
-    (order_joined (below Left (positions_where test a)) (below Right (positions_where test b))
+    order_joined (here_if (test (pair_term a b))) (paths_below Left (positions_where test a) ++ paths_below Right (positions_where test b)) (order_here _)
+    (order_joined (paths_below Left (positions_where test a)) (paths_below Right (positions_where test b))
     (order_below Left _ (positions_ordered test a)) (order_below Right _ (positions_ordered test b))
     (λ p q m n. let r = in_below Left _ p m in let s = in_below Right _ q n in left_of_right p q r.0 s.0 r.1 s.1))
     (λ p q m n. ⊎_elim
     (λ l. let r = in_below Left _ q l in first_of_all p q r.0 Left (in_here _ p m).0 r.1)
     (λ l. let r = in_below Right _ q l in first_of_all p q r.0 Right (in_here _ p m).0 r.1)
-    (in_append (below Left (positions_where test a)) (below Right (positions_where test b)) n))
+    (in_append (paths_below Left (positions_where test a)) (paths_below Right (positions_where test b)) n))
 positions_ordered test (enc_term a k) =
-    order_joined (here_if (test (enc_term a k))) (below Plaintext (positions_where test a)) (order_here _) (order_below Plaintext _ (positions_ordered test a))
+    order_joined (here_if (test (enc_term a k))) (paths_below Plaintext (positions_where test a)) (order_here _) (order_below Plaintext _ (positions_ordered test a))
     (λ p q m n. let r = in_below Plaintext _ q n in first_of_all p q r.0 Plaintext (in_here _ p m).0 r.1)
 
 pub paths_ordered : (part whole : Term) (paths : List (List Step)) → paths ≡ positions_where (same_term part) whole → AreInPreorder paths

@@ -47,20 +47,20 @@ key_back (asymmetric_term true (akey_variable n)) = refl
 key_back (asymmetric_term false (akey_variable n)) = refl
 key_back (asymmetric_term flag (pubk_term purpose a)) = refl
 
-pub atom_back : (a : AtomTerm) → atom_from (value_of_atom own_numbers a) ≡ a
-atom_back (text_variable n) = refl
-atom_back (datum_variable n) = refl
-atom_back (name_variable n) = refl
-atom_back (key_term k) = ap key_term (key_back k)
+pub atom_term_back : (a : AtomTerm) → atom_from (value_of_atom own_numbers a) ≡ a
+atom_term_back (text_variable n) = refl
+atom_term_back (datum_variable n) = refl
+atom_term_back (name_variable n) = refl
+atom_term_back (key_term k) = ap key_term (key_back k)
 
 pub term_back : (t : Term) → term_from (value_of own_numbers t) ≡ t
 term_back (tag_term bytes) = refl
-term_back (atom_term a) = ap atom_term (atom_back a)
+term_back (atom_term a) = ap atom_term (atom_term_back a)
 term_back (pair_term a b) = ap₂ pair_term (term_back a) (term_back b)
 term_back (enc_term a k) = ap₂ enc_term (term_back a) (key_back k)
 
-abbrev pub coded_atom : Coded AtomTerm
-coded_atom = code_by Atom coded_ground_atom (value_of_atom own_numbers) atom_from atom_back
+abbrev pub coded_atom_term : Coded AtomTerm
+coded_atom_term = code_by Atom coded_ground_atom (value_of_atom own_numbers) atom_from atom_term_back
 
 abbrev pub coded_term : Coded Term
 coded_term = code_by Message coded_message (value_of own_numbers) term_from term_back

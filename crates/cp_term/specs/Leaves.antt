@@ -3,7 +3,7 @@ use Rattle.cp_term.specs.declared.term.Node.{Node}
 use Rattle.cp_term.specs.declared.term.Node.TheVariants.{Pair, Encryption}
 
 -- The node has no parts.
-abbrev pub IsLeaf : Node → Type 0
-IsLeaf (Pair left right) = ⊥
-IsLeaf (Encryption body key) = ⊥
-IsLeaf _ = Unit {0}
+abbrev pub IsAtomicNode : Node → Type 0
+IsAtomicNode (Pair left right) = ⊥
+IsAtomicNode (Encryption body key) = ⊥
+IsAtomicNode _ = Unit {0}

@@ -5,7 +5,6 @@ pub mod Layer
 pub mod LayerFalls
 pub mod Leaves
 pub mod Patterns
-pub mod Positions
 pub mod Preorder
 pub mod Shapes
 pub mod Size

@@ -1,8 +1,8 @@
 -- The order of positions: a term comes before its parts, and a left part, with all below it, before the right one.
 use Rattle.std.specs.Prelude.{◌≡◌, ◌⊎◌, List, [], ◌∷◌}
 use Rattle.cp_lists.specs.Lists.{IsIn}
-use Rattle.cp_term.specs.declared.path.Step.{Step}
-use Rattle.cp_term.specs.declared.path.Step.TheVariants.{Left, Right}
+use Rattle.cp_model.specs.declared.step.Step.{Step}
+use Rattle.cp_model.specs.declared.step.Step.TheVariants.{Left, Right}
 
 -- One position comes before the other.
 abbrev pub ComesBefore : List Step → List Step → Type 0

@@ -17,6 +17,6 @@ HasTail (tag_term bytes) = ⊥
 HasTail (atom_term u) = ⊥
 
 -- From t the spine leads through these terms, pairs and encryptions, each the tail of the one before, to the rest.
-abbrev pub LeadsTo : List Term → Term → Term → Type 0
-LeadsTo [] t rest = t ≡ rest
-LeadsTo (f ∷ fs) t rest = (t ≡ f) × HasTail f × LeadsTo fs (tail_of f) rest
+abbrev pub SpineLeads : List Term → Term → Term → Type 0
+SpineLeads [] t rest = t ≡ rest
+SpineLeads (f ∷ fs) t rest = (t ≡ f) × HasTail f × SpineLeads fs (tail_of f) rest

@@ -2,10 +2,10 @@
 ghost use Rattle.std.specs.Prelude.{◌≡◌, ◌↔◌, Bool, true, List, Some, IsTrue};
 ghost use Rattle.cp_lists.specs.Lists.{IsIn};
 ghost use Rattle.cp_model.specs.Term.{Term, IsCarriedByTerm};
-ghost use Rattle.cp_term.specs.Positions.{term_at, positions_where};
+ghost use Rattle.cp_model.specs.Positions.{term_at, positions_where};
 ghost use Rattle.cp_term.specs.Preorder.{AreInPreorder};
 ghost use Rattle.cp_model.specs.Same.{same_term};
-ghost use Rattle.cp_term.specs.declared.path.Step.{Step};
+ghost use Rattle.cp_model.specs.declared.step.Step.{Step};
 
 /// A term carries exactly what stands at some position of it.
 #[tactic(auto, using(crate::proofs::PositionLaws::carried_position))]

@@ -16,10 +16,10 @@ mod term;
 mod variable;
 
 pub use cp_base::Text;
-pub use cp_model::Sort;
+pub use cp_model::{Sort, Step};
 pub use laws::{carried_at_a_position, positions_are_those_found, test_of_equality};
 pub use makers::{enc, invert, ltk, pair, pubk, tag, var};
-pub use path::{Path, Step};
+pub use path::Path;
 pub use pattern::{Locals, Pattern};
 pub use position::{at, carries, depth, paths_of};
 pub use shape::{Shape, is_of_sort};

@@ -1,18 +1,10 @@
 // Paths to the parts of a term.
 ghost use Rattle.std.specs.Prelude.{◌≡◌, [], ◌∷◌, ◌++◌, length, take, IfOk, OnOk, OnErr};
 
+use cp_model::Step;
 use smallvec::SmallVec;
 use std::alloc::{AllocError, Global};
 use std::marker::Model;
-
-/// One step of a path: to a part of a pair, or to the plaintext of an encryption.
-#[derive(Clone, Copy, Debug, Default, PartialEq, Eq)]
-pub enum Step {
-    #[default]
-    Left,
-    Right,
-    Plaintext,
-}
 
 /// A path into a term. Contracts see its steps, the first one first.
 pub struct Path {
@@ -21,7 +13,7 @@ pub struct Path {
 
 impl Model for Path {
     ghost use Rattle.std.specs.Prelude.{List};
-    ghost use Rattle.cp_term.specs.declared.path.Step.{Step as StepData};
+    ghost use Rattle.cp_model.specs.declared.step.Step.{Step as StepData};
 
     ghost Value = { List StepData };
 

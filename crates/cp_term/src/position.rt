@@ -3,13 +3,14 @@ ghost use Rattle.std.specs.Prelude.{◌≡◌, ◌↔◌, ◌++◌, min, List, S
 ghost use Rattle.std.specs.Option.{option_copied};
 ghost use Rattle.cp_model.specs.Term.{IsCarriedByTerm};
 ghost use Rattle.cp_lists.specs.Lists.{IsIn};
-ghost use Rattle.cp_term.specs.declared.path.Step.{Step as StepData};
+ghost use Rattle.cp_model.specs.declared.step.Step.{Step as StepData};
 ghost use Rattle.cp_term.specs.Preorder.{AreInPreorder};
-ghost use Rattle.cp_term.specs.Positions.{depth_of, term_at, here_if, behind, positions_where};
+ghost use Rattle.cp_model.specs.Positions.{depth_of, term_at, here_if, prefixed, positions_where};
 ghost use Rattle.cp_model.specs.Same.{same_term};
 
-use crate::path::{Path, Step};
+use crate::path::Path;
 use crate::term::{Node, Term};
+use cp_model::Step;
 use std::alloc::{AllocError, Global};
 
 /// Whether the whole carries the part: it is the part, or a part of its pair or its plaintext carries it.
@@ -53,7 +54,7 @@ pub fn at<'a>(whole: &'a Term, path: &Path) -> Option<&'a Term>
 /// Appends this path if the term is the part.
 fn add_here(term: &Term, part: &Term, here: &Path, found: &mut Vec<Path>) -> Result<(), AllocError>
     ensures { OnOk result (found.new.items
-        ≡ found.old.items ++ behind here.now (here_if (same_term part.now term.now))) }
+        ≡ found.old.items ++ prefixed here.now (here_if (same_term part.now term.now))) }
 {
     if part.same(term) {
         let path = here.copy()?;
@@ -70,7 +71,7 @@ fn add_paths(
     found: &mut Vec<Path>,
 ) -> Result<(), AllocError>
     ensures added { OnOk result (found.new.items
-        ≡ found.old.items ++ behind here.old (positions_where (same_term part.now) whole.now)) }
+        ≡ found.old.items ++ prefixed here.old (positions_where (same_term part.now) whole.now)) }
     ensures back { OnOk result (here.new ≡ here.old) }
 {
     let start = here.len();

@@ -1,14 +1,14 @@
 // Equality of terms.
 ghost use Rattle.std.specs.Prelude.{◌≡◌, ◌↔◌, IsTrue};
 ghost use Rattle.cp_term.specs.Layer.{term_of_node};
-ghost use Rattle.cp_term.specs.Leaves.{IsLeaf};
+ghost use Rattle.cp_term.specs.Leaves.{IsAtomicNode};
 
 use crate::term::{Node, Term};
 use cp_base::same_if_any;
 
 /// Whether a node without parts is the same as another node. Variables are compared by their numbers.
 fn same_leaf(leaf: &Node, other: &Node) -> bool
-    requires { IsLeaf leaf.now }
+    requires { IsAtomicNode leaf.now }
     ensures { IsTrue result ↔ (term_of_node leaf.now ≡ term_of_node other.now) }
 {
     match (leaf, other) {

@@ -1,6 +1,6 @@
 // What a term is made of, and of which sort it is.
 ghost use Rattle.std.specs.Prelude.{◌≡◌};
-ghost use Rattle.cp_term.specs.Shapes.{IsShapeOf};
+ghost use Rattle.cp_term.specs.Shapes.{HasShape};
 ghost use Rattle.cp_term.specs.Sorts.{is_of_sort};
 
 use crate::term::{Node, Term};
@@ -28,7 +28,7 @@ pub enum Shape<'a> {
 impl Term {
     /// What the term consists of.
     pub fn shape(&self) -> Shape<'_>
-        ensures { IsShapeOf result self.now }
+        ensures { HasShape result self.now }
     {
         match self.node() {
             Node::Tag(text) => Shape::Tag(text.as_str()),

@@ -1,6 +1,6 @@
 // Which of two faults is answered.
 use cp_base::{Code, Place, Refusal};
-use cp_forms::FirstFault;
+use cp_scope::FirstFault;
 
 fn at(line: u32, col: u32, code: Code) -> Refusal {
     Refusal {

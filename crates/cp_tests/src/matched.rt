@@ -1,7 +1,7 @@
 // Which terms a pattern matches, where a substitution gives its key.
 use crate::terms::{pattern, sealed, variable};
 use crate::unifiers::shared;
-use cp_match::matches;
+use cp_pattern::matches;
 use cp_term::{Sort, Term, enc};
 use cp_unify::{Subst, unify};
 use std::alloc::{AllocError, Global};

@@ -22,7 +22,7 @@ fn pairs() -> [OrderPair; 4] {
     ]
 }
 
-// A node, the nodes that lead to it by the four pairs, and some that do not.
+// A node, its predecessors by the four pairs, and some nodes that are none.
 const ROWS: &[((usize, usize), &[(usize, usize)], &[(usize, usize)])] = &[
     (
         (1, 2),
@@ -32,10 +32,10 @@ const ROWS: &[((usize, usize), &[(usize, usize)], &[(usize, usize)])] = &[
     ((1, 1), &[(1, 0), (1, 1), (0, 0)], &[(1, 2), (0, 1), (2, 0)]),
 ];
 
-/// Whether all of these nodes lead to the node, or none does, as wanted.
+/// Whether all of these nodes reach the node, or none does, as wanted.
 fn lead(order: &Order, nodes: &[(usize, usize)], to: Node, wanted: bool) -> bool {
     for &(strand, index) in nodes {
-        if order.leads_to(node(strand, index), to) != wanted {
+        if order.reaches(node(strand, index), to) != wanted {
             return false;
         }
     }
@@ -118,8 +118,6 @@ fn doubled(alloc: Global) -> Result<Order, AllocError> {
 fn many_ways_through_a_closed_order(rt: HostRuntime) -> Result<(), Fail> {
     let order = doubled(rt.alloc())?;
     assert!(rt; order.pairs().len() == 80);
-    assert!(rt;
-        order.leads_to(node(0, 0), node(40, 0)) && !order.leads_to(node(0, 0), node(50, 0))
-    );
+    assert!(rt; order.reaches(node(0, 0), node(40, 0)) && !order.reaches(node(0, 0), node(50, 0)));
     Ok(())
 }

@@ -5,25 +5,25 @@ use Rattle.cp_model.specs.Strand.{Role, Protocol}
 use Rattle.cp_model.specs.Skeleton.{IsSkeleton}
 use Rattle.cp_model.specs.PointOfView.{HasDeclaredVariables}
 use Rattle.cp_strand.specs.Declares.{DeclaresItsVariables}
-use Rattle.cp_guard.specs.Critical.{IsTest}
-use Rattle.cp_guard.specs.Guards.{Guards}
-use Rattle.cp_covering.specs.Children.{Child}
-use Rattle.cp_covering.specs.Cohort.{Question, IsCohort}
-use Rattle.cp_covering.proofs.SoundChildren.{sound_child}
+use Rattle.cp_theory.specs.Critical.{IsTest}
+use Rattle.cp_theory.specs.Guards.{Guards}
+use Rattle.cp_cohort.specs.CoveringChildren.{Child}
+use Rattle.cp_cohort.specs.Cohort.{GuardedTest, IsCohort}
+use Rattle.cp_cohort.proofs.SoundChildren.{sound_child}
 use Rattle.cp_escape.proofs.EscapeGuards.{first_is_in}
 use Rattle.cp_escape.proofs.Widened.{guards_still}
 use Rattle.cp_expansion.proofs.OnceMore.{declared_more}
 use Rattle.cp_expansion.specs.Expansion.{IsWidening, asked_under, AreWidened, has_most, none_widens, one_widens}
 
--- What the law of cohorts wants of a question.
-pub record IsWellAsked (protocol : Protocol) (q : Question) : Type 0 where
+-- What the law of cohorts wants of a guarded test.
+pub record IsWellAsked (protocol : Protocol) (q : GuardedTest) : Type 0 where
   pub skeleton : IsSkeleton protocol q.skeleton
   pub declared : HasDeclaredVariables q.variables q.skeleton
   pub test : IsTest q.skeleton q.node q.critical
   pub guards : Guards q.patterns q.skeleton q.node q.critical
 
 module _ (protocol : Protocol) (declares : (role : Role) → IsIn role protocol.roles → DeclaresItsVariables role) where
-  pub asked_on : (q : Question) (children : List Child) (c : Child) → IsWellAsked protocol q → IsCohort protocol q children → IsIn c children → (w : IsWidening q c) → IsWellAsked protocol (asked_under q c w.pattern)
+  pub asked_on : (q : GuardedTest) (children : List Child) (c : Child) → IsWellAsked protocol q → IsCohort protocol q children → IsIn c children → (w : IsWidening q c) → IsWellAsked protocol (asked_under q c w.pattern)
   asked_on q children c well is i w =
       let s = sound_child protocol q children well.skeleton declares well.declared well.test well.guards is c i in
       record {
@@ -33,8 +33,8 @@ module _ (protocol : Protocol) (declares : (role : Role) → IsIn role protocol.
         guards = guards_still q.skeleton c.skeleton q.node q.critical c.path w.pattern c.variables s.declared w.widens q.patterns well.guards;
       }
 
-  -- So does the last question, and the children are its cohort.
-  pub last_asked : {q last : Question} {children : List Child} → AreWidened protocol q last children → IsWellAsked protocol q → IsWellAsked protocol last × IsCohort protocol last children
+  -- So does the last test, and the children are its cohort.
+  pub last_asked : {q last : GuardedTest} {children : List Child} → AreWidened protocol q last children → IsWellAsked protocol q → IsWellAsked protocol last × IsCohort protocol last children
   last_asked (has_most most is) well = (well, is)
   last_asked (none_widens fewer is none) well = (well, is)
   last_asked (one_widens {q = q} {before = before} {c = c} fewer is first w rest) well = last_asked rest (asked_on q before c well is (first_is_in first) w)

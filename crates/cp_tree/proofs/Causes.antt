@@ -12,11 +12,11 @@ use Rattle.cp_model.specs.Tree.{Mark, shape, dead, seen, instance_of, limit_step
 use Rattle.cp_shapes.specs.Shapes.{IsLeast, IsInstanceWithin, IsShapeAt}
 use Rattle.cp_shapes.proofs.Instances.{same_item}
 use Rattle.cp_roots.specs.Roots.{Root}
-use Rattle.cp_general.specs.Generalisation.{IsMostGeneral, GeneralisesTo}
+use Rattle.cp_general.specs.Generalisation.{IsMaximallyGeneral, GeneralisesTo}
 use Rattle.cp_tree.specs.Candidates.{IsCandidate, skeletons_of, IsLabelAt}
-use Rattle.cp_tree.specs.Made.{Made, made_of_root, made_of_generalisation, Way, way_of, MayPointTo}
-use Rattle.cp_tree.specs.Searched.{mark_by, is_dead, is_seen, is_realised, is_generalised, above_bound, at_limit, is_tested, IsMarkedAmong, as_shape, as_instance, IsTreeFrom}
-use Rattle.cp_tree.specs.Edges.{IsLeaf}
+use Rattle.cp_tree.specs.Made.{Made, made_of_root, made_of_generalisation, LabelLink, link_of, MayPointTo}
+use Rattle.cp_tree.specs.Searched.{mark_by_children, is_dead, is_seen, is_realised, is_generalised, above_bound, at_limit, is_tested, IsMarkedAmong, as_shape, as_instance, IsTreeFrom}
+use Rattle.cp_tree.specs.Edges.{IsLeafLabel}
 use Rattle.cp_tree.specs.Marked.{IsShapeAmong, IsDeadRoot, IsSeenInLeast, IsGeneralised}
 use Rattle.cp_tree.proofs.Picked.{item_of, skeleton_at_place, place_of_item, place_before}
 use Rattle.cp_tree.proofs.CandidatesEmbed.{as_labels, as_candidates, one_label}
@@ -26,16 +26,16 @@ use Rattle.cp_tree.proofs.SoundLabels.{made, SettledHere, settled_here, BecomesH
 use Rattle.cp_tree.proofs.MadeChildren.{IsLabelOfMade, given_labels}
 use Rattle.cp_tree.proofs.ReachedLimits.{count_reached}
 
-leaf_of : (l : Label) → l.test ≡ None → l.children ≡ [] → IsLeaf l
+leaf_of : (l : Label) → l.test ≡ None → l.children ≡ [] → IsLeafLabel l
 leaf_of l t c = record { unexpanded = t; no_children = c }
 
-none_by_children : (children : List ℕ) → mark_by children ≡ Some dead → children ≡ []
+none_by_children : (children : List ℕ) → mark_by_children children ≡ Some dead → children ≡ []
 none_by_children [] e = refl
 none_by_children (n ∷ ns) e = absurd (cc)
 
 module _ (protocol : Protocol) (variables : List Declaration) (limits : Limits) (roots : List Root) (tree : Tree) (from : IsTreeFrom protocol variables limits roots tree) where
-  abbrev ways : List Way
-  ways = map way_of tree.labels
+  abbrev links : List LabelLink
+  links = map link_of tree.labels
 
   abbrev Here : ℕ → ℕ → Made → Label → List Made → Type 0
   Here = BecomesHere protocol variables limits roots tree from
@@ -50,7 +50,7 @@ module _ (protocol : Protocol) (variables : List Declaration) (limits : Limits) 
   here_is = becomes_here protocol variables limits roots tree from
 
   -- A label with another mark than that of its children is a leaf.
-  leaf_by : (i before : ℕ) (m : Made) (l : Label) (gives : List Made) (mark : Mark) → Here i before m l gives → l.mark ≡ Some mark → (dead ≡ mark → ⊥) → IsLeaf l
+  leaf_by : (i before : ℕ) (m : Made) (l : Label) (gives : List Made) (mark : Mark) → Here i before m l gives → l.mark ≡ Some mark → (dead ≡ mark → ⊥) → IsLeafLabel l
   leaf_by i before m l gives mark (is_dead d) e ne = leaf_of l refl refl
   leaf_by i before m l gives mark (is_seen d u s) e ne = leaf_of l refl refl
   leaf_by i before m l gives mark (is_realised d n a y s) e ne = leaf_of l refl refl
@@ -59,7 +59,7 @@ module _ (protocol : Protocol) (variables : List Declaration) (limits : Limits) 
   leaf_by i before m l gives mark (at_limit d n u r b q) e ne = leaf_of l refl refl
   leaf_by i before m l gives mark (is_tested {children = children} d n u r b c x s) e ne = absurd (ne (only_dead children mark e))
 
-  leaf : (i : ℕ) (l : Label) (mark : Mark) → item_at tree.labels i ≡ Some l → l.mark ≡ Some mark → (dead ≡ mark → ⊥) → IsLeaf l
+  leaf : (i : ℕ) (l : Label) (mark : Mark) → item_at tree.labels i ≡ Some l → l.mark ≡ Some mark → (dead ≡ mark → ⊥) → IsLeafLabel l
   leaf i l mark at e ne = let s = settled i l at in leaf_by i s.expanded_before s.so l s.gives mark (here_is i l s) e ne
 
   -- ---- shapes and instances
@@ -81,11 +81,11 @@ module _ (protocol : Protocol) (variables : List Declaration) (limits : Limits) 
   pub shape_cause : (i : ℕ) (l : Label) → item_at tree.labels i ≡ Some l → l.mark ≡ Some shape → IsShapeAmong tree.labels i l
   shape_cause i l at e =
       let s = settled i l at in
-      let r = shape_says protocol limits ways from.candidates i s.expanded_before s.so l s.gives (here_is i l s) e in
+      let r = shape_says protocol limits links from.candidates i s.expanded_before s.so l s.gives (here_is i l s) e in
       let same : s.so.skeleton ≡ l.skeleton = sym (skeleton_here protocol variables limits roots tree from i l s) in
       record {
         realised = subst AllDerivable same r.realised;
-        most_general = subst IsMostGeneral same r.most_general;
+        most_general = subst IsMaximallyGeneral same r.most_general;
         leaf = leaf i l shape at e (λ q. cc);
         no_instance = λ j m au candidate within. instance_of_none r.place i j m r.at r.is_shape au candidate within;
       }
@@ -101,10 +101,10 @@ module _ (protocol : Protocol) (variables : List Declaration) (limits : Limits) 
   pub instance_cause : (i n : ℕ) (l : Label) → item_at tree.labels i ≡ Some l → l.mark ≡ Some (instance_of n) → (m : Label) × (item_at tree.labels n ≡ Some m) × (m.mark ≡ Some shape) × Embeds m.skeleton l.skeleton
   instance_cause i n l at e =
       let s = settled i l at in
-      let r = instance_says protocol limits ways from.candidates i s.expanded_before s.so l s.gives n (here_is i l s) e in
+      let r = instance_says protocol limits links from.candidates i s.expanded_before s.so l s.gives n (here_is i l s) e in
       let c = item_of IsCandidate (λ (x : Label). x.skeleton) tree.labels from.candidates from.are_candidates r.of_place n r.of_label in
       let t = settled n c.item c.at in
-      let mark : c.item.mark ≡ Some shape = candidate_shape protocol limits ways from.candidates n t.expanded_before t.so tree.labels from.are_candidates r.of_place c.item t.gives (here_is n c.item t) c.is_so r.of_label r.least.holds.0 in
+      let mark : c.item.mark ≡ Some shape = candidate_shape protocol limits links from.candidates n t.expanded_before t.so tree.labels from.are_candidates r.of_place c.item t.gives (here_is n c.item t) c.is_so r.of_label r.least.holds.0 in
       let embeds = r.least.holds.1.embeds in
       let first : embeds.first ≡ c.item.skeleton = same_item (skeletons_of from.candidates) r.of_place embeds.first c.item.skeleton embeds.at_first (place_skeleton r.of_place n c.item r.of_label c.at) in
       let second : embeds.second ≡ l.skeleton = same_item (skeletons_of from.candidates) r.place embeds.second l.skeleton embeds.at_second (place_skeleton r.place i l r.at at) in
@@ -112,16 +112,16 @@ module _ (protocol : Protocol) (variables : List Declaration) (limits : Limits) 
 
   -- ---- seen
 
-  least_says : (i before : ℕ) (m : Made) (l : Label) (gives : List Made) (n : ℕ) → Here i before m l gives → l.mark ≡ Some (seen n) → IsLeast (MayPointTo ways i) n
+  least_says : (i before : ℕ) (m : Made) (l : Label) (gives : List Made) (n : ℕ) → Here i before m l gives → l.mark ≡ Some (seen n) → IsLeast (MayPointTo links i) n
   least_says i before m l gives n (is_dead d) e = absurd (cc)
-  least_says i before m l gives n (is_seen {n = o} d u s) e = let same : o ≡ n = cc in subst (IsLeast (MayPointTo ways i)) same s
-  least_says i before m l gives n (is_realised {mark = mark} d o a y s) e = absurd (o n (seen_says protocol limits ways from.candidates i before m (record l { mark = mark }) gives n (is_realised d o a y s) e))
+  least_says i before m l gives n (is_seen {n = o} d u s) e = let same : o ≡ n = cc in subst (IsLeast (MayPointTo links i)) same s
+  least_says i before m l gives n (is_realised {mark = mark} d o a y s) e = absurd (o n (seen_says protocol limits links from.candidates i before m (record l { mark = mark }) gives n (is_realised d o a y s) e))
   least_says i before m l gives n (is_generalised d o a w) e = absurd (cc)
   least_says i before m l gives n (above_bound d o u r b) e = absurd (cc)
   least_says i before m l gives n (at_limit d o u r b q) e = absurd (cc)
   least_says i before m l gives n (is_tested {children = children} d o u r b c x s) e = absurd (let f = only_dead children (seen n) e in cc)
 
-  pub seen_cause : (i n : ℕ) (l : Label) → item_at tree.labels i ≡ Some l → l.mark ≡ Some (seen n) → IsLeast (MayPointTo ways i) n × IsLeaf l
+  pub seen_cause : (i n : ℕ) (l : Label) → item_at tree.labels i ≡ Some l → l.mark ≡ Some (seen n) → IsLeast (MayPointTo links i) n × IsLeafLabel l
   seen_cause i n l at e = let s = settled i l at in (least_says i s.expanded_before s.so l s.gives n (here_is i l s) e, leaf i l (seen n) at e (λ q. cc))
 
   -- ---- dead
@@ -133,7 +133,7 @@ module _ (protocol : Protocol) (variables : List Declaration) (limits : Limits) 
       let r = item_of_map (made_of_root variables) roots i m front in
       record { root = r.0; at = r.1; dead = ap (λ (x : Made). x.dead) r.2 ∙ d })
       (λ (listed : IsIn m from.children).
-      let f = made_from protocol limits ways (IsMarkedAmong from.candidates) 0 0 (made protocol variables limits roots tree from) tree.labels from.children from.settled m listed in
+      let f = made_from protocol limits links (IsMarkedAmong from.candidates) 0 0 (made protocol variables limits roots tree from) tree.labels from.children from.settled m listed in
       absurd (let e : false ≡ true = sym f.is_made.made_lives ∙ d in cc))
       (front_or_behind (map (made_of_root variables) roots) from.children i m at)
 
@@ -158,7 +158,7 @@ module _ (protocol : Protocol) (variables : List Declaration) (limits : Limits) 
   abbrev SeenOrDead : ℕ → Label → Type 0
   SeenOrDead i l = IsSeenInLeast tree.labels i l ⊎ ((l.mark ≡ Some dead) × IsDeadRoot roots i)
 
-  seen_by : (i before : ℕ) (m : Made) (l : Label) (gives : List Made) (n : ℕ) → Here i before m l gives → MayPointTo ways i n → (m.dead ≡ true → IsDeadRoot roots i) → SeenOrDead i l
+  seen_by : (i before : ℕ) (m : Made) (l : Label) (gives : List Made) (n : ℕ) → Here i before m l gives → MayPointTo links i n → (m.dead ≡ true → IsDeadRoot roots i) → SeenOrDead i l
   seen_by i before m l gives n (is_dead d) p root = inr (refl, root d)
   seen_by i before m l gives n (is_seen {n = o} d u s) p root = inl (record { number = o; mark = refl; least = s })
   seen_by i before m l gives n (is_realised d o a y t) p root = absurd (o n p)
@@ -167,7 +167,7 @@ module _ (protocol : Protocol) (variables : List Declaration) (limits : Limits) 
   seen_by i before m l gives n (at_limit d o u r b q) p root = absurd (o n p)
   seen_by i before m l gives n (is_tested d o u r b c x t) p root = absurd (o n p)
 
-  pub seen_where_it_may : (i n : ℕ) (l : Label) → item_at tree.labels i ≡ Some l → MayPointTo ways i n → SeenOrDead i l
+  pub seen_where_it_may : (i n : ℕ) (l : Label) → item_at tree.labels i ≡ Some l → MayPointTo links i n → SeenOrDead i l
   seen_where_it_may i n l at may = let s = settled i l at in seen_by i s.expanded_before s.so l s.gives n (here_is i l s) may (λ d. dead_from_start i s.so s.at_made d)
 
   -- ---- generalised labels
@@ -220,14 +220,14 @@ module _ (protocol : Protocol) (variables : List Declaration) (limits : Limits) 
 
   -- ---- limits
 
-  pub strands_cause : (i : ℕ) (l : Label) → item_at tree.labels i ≡ Some l → l.mark ≡ Some limit_strands → IsUnrealised l.skeleton × (limits.strands < length l.skeleton.strands) × IsLeaf l
+  pub strands_cause : (i : ℕ) (l : Label) → item_at tree.labels i ≡ Some l → l.mark ≡ Some limit_strands → IsUnrealised l.skeleton × (limits.strands < length l.skeleton.strands) × IsLeafLabel l
   strands_cause i l at e =
       let s = settled i l at in
-      let r = strands_says protocol limits ways from.candidates i s.expanded_before s.so l s.gives (here_is i l s) e in
+      let r = strands_says protocol limits links from.candidates i s.expanded_before s.so l s.gives (here_is i l s) e in
       (r.0, r.1, leaf i l limit_strands at e (λ q. cc))
 
-  pub steps_cause : (i : ℕ) (l : Label) → item_at tree.labels i ≡ Some l → l.mark ≡ Some limit_steps → IsUnrealised l.skeleton × (length l.skeleton.strands ≤ limits.strands) × (expanded_count tree.labels ≡ limits.steps) × IsLeaf l
+  pub steps_cause : (i : ℕ) (l : Label) → item_at tree.labels i ≡ Some l → l.mark ≡ Some limit_steps → IsUnrealised l.skeleton × (length l.skeleton.strands ≤ limits.strands) × (expanded_count tree.labels ≡ limits.steps) × IsLeafLabel l
   steps_cause i l at e =
       let s = settled i l at in
-      let r = steps_says protocol limits ways from.candidates i s.expanded_before s.so l s.gives (here_is i l s) e in
+      let r = steps_says protocol limits links from.candidates i s.expanded_before s.so l s.gives (here_is i l s) e in
       (r.unrealised, r.within, count_reached protocol variables limits roots tree from i l at e, leaf i l limit_steps at e (λ q. cc))

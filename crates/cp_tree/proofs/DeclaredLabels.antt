@@ -10,18 +10,18 @@ use Rattle.cp_model.specs.Problem.{variables_of_skeleton, IsDeclared}
 use Rattle.cp_model.specs.PointOfView.{HasDeclaredVariables}
 use Rattle.cp_model.specs.Tree.{Pattern, Test, Label, Tree, Limits}
 use Rattle.cp_model.proofs.OccurringVariables.{term_with}
-use Rattle.cp_completeness.specs.Normal.{variables_of_terms}
+use Rattle.cp_theory.specs.Normal.{variables_of_terms}
 use Rattle.cp_strand.specs.Declares.{DeclaresItsVariables}
-use Rattle.cp_guard.specs.Critical.{used_variables}
-use Rattle.cp_guard.specs.Matches.{IsFreeIn}
+use Rattle.cp_theory.specs.Critical.{used_variables}
+use Rattle.cp_theory.specs.Matches.{IsFreeIn}
 use Rattle.cp_roots.specs.Roots.{Root}
 use Rattle.cp_roots.specs.Sound.{AreSound}
-use Rattle.cp_covering.specs.Children.{Child}
-use Rattle.cp_covering.specs.Cohort.{Question, IsCohort}
-use Rattle.cp_covering.specs.Way.{DeclaresMore}
-use Rattle.cp_covering.proofs.SoundChildren.{more_itself, more_then, sound_child}
-use Rattle.cp_expansion.specs.Expansion.{question_about, Expansion, IsExpansionOf, AreWidened, has_most, none_widens, one_widens}
-use Rattle.cp_tree.specs.Made.{Made, made_of_root, way_of}
+use Rattle.cp_cohort.specs.CoveringChildren.{Child}
+use Rattle.cp_cohort.specs.Cohort.{GuardedTest, IsCohort}
+use Rattle.cp_cohort.specs.Way.{DeclaresMore}
+use Rattle.cp_cohort.proofs.SoundChildren.{more_itself, more_then, sound_child}
+use Rattle.cp_expansion.specs.Expansion.{guarded_test_about, Expansion, IsExpansionOf, AreWidened, has_most, none_widens, one_widens}
+use Rattle.cp_tree.specs.Made.{Made, made_of_root, link_of}
 use Rattle.cp_tree.specs.Searched.{IsMarkedAmong, Becomes, is_dead, is_seen, is_realised, is_generalised, above_bound, at_limit, is_tested, IsTreeFrom}
 use Rattle.cp_tree.specs.Sound.{IsSoundMade, ExpandsSoundly}
 use Rattle.cp_tree.specs.Declared.{DeclaresItsOwn}
@@ -41,10 +41,10 @@ used_declared ds k x h i =
 -- ---- what is asked of a skeleton last has the variables of what is asked first
 
 module _ (protocol : Protocol) (declares : (role : Role) → IsIn role protocol.roles → DeclaresItsVariables role) where
-  child_more : (q : Question) (children : List Child) (c : Child) → IsWellAsked protocol q → IsCohort protocol q children → IsIn c children → DeclaresMore q.variables c.variables
+  child_more : (q : GuardedTest) (children : List Child) (c : Child) → IsWellAsked protocol q → IsCohort protocol q children → IsIn c children → DeclaresMore q.variables c.variables
   child_more q children c well is i = (sound_child protocol q children well.skeleton declares well.declared well.test well.guards is c i).more
 
-  last_more : {q last : Question} {children : List Child} → AreWidened protocol q last children → IsWellAsked protocol q → DeclaresMore q.variables last.variables
+  last_more : {q last : GuardedTest} {children : List Child} → AreWidened protocol q last children → IsWellAsked protocol q → DeclaresMore q.variables last.variables
   last_more (has_most {q = q} most is) well = more_itself q.variables
   last_more (none_widens {q = q} fewer is none) well = more_itself q.variables
   last_more (one_widens {q = q} {last = last} {before = before} {c = c} fewer is first w rest) well =
@@ -67,13 +67,13 @@ module _ (protocol : Protocol) (declares : (role : Role) → IsIn role protocol.
         declared = last.0.declared;
         critical = λ x i. used_declared e.variables m.skeleton x last.0.declared (last.0.guards.used_by_critical x i);
         patterns = λ p x i free. used_declared e.variables m.skeleton x last.0.declared (last.0.guards.used_by_patterns p x i free);
-        children = λ c i. child_more (question_about e.variables m.skeleton e.test e.patterns) e.children c last.0 last.1 i;
+        children = λ c i. child_more (guarded_test_about e.variables m.skeleton e.test e.patterns) e.children c last.0 last.1 i;
       }
 
   module _ (variables : List Declaration) (limits : Limits) (roots : List Root) (tree : Tree) (from : IsTreeFrom protocol variables limits roots tree) (k : Skeleton) (sound : AreSound protocol k roots)
       (declared : (i : ℕ) (root : Root) → item_at roots i ≡ Some root → HasDeclaredVariables variables root.skeleton) (expands : ExpandsSoundly protocol k) where
     -- What is made from a label declares what that does.
-    more_made : (number : ℕ) (so m : Made) → IsMadeOfChild protocol limits (map way_of tree.labels) (IsMarkedAmong from.candidates) number so m ⊎ IsMadeOfGeneralisation protocol limits (map way_of tree.labels) (IsMarkedAmong from.candidates) number so m
+    more_made : (number : ℕ) (so m : Made) → IsMadeOfChild protocol limits (map link_of tree.labels) (IsMarkedAmong from.candidates) number so m ⊎ IsMadeOfGeneralisation protocol limits (map link_of tree.labels) (IsMarkedAmong from.candidates) number so m
         → IsSoundLabel protocol k so → DeclaresMore variables so.variables → DeclaresMore variables m.variables
     more_made number so m (inl c) parent_sound parent_more =
         let d = expansion_declares k so c.expansion (where_unrealised protocol k so parent_sound c.unrealised) c.is_expansion in
@@ -90,7 +90,7 @@ module _ (protocol : Protocol) (declares : (role : Role) → IsIn role protocol.
         let r = item_of_map (made_of_root variables) roots i m front in
         subst (λ (x : Made). DeclaresMore variables x.variables) r.2 (more_itself variables))
         (λ (listed : IsIn m from.children).
-        let f = made_from protocol limits (map way_of tree.labels) (IsMarkedAmong from.candidates) 0 0 (made protocol variables limits roots tree from) tree.labels from.children from.settled m listed in
+        let f = made_from protocol limits (map link_of tree.labels) (IsMarkedAmong from.candidates) 0 0 (made protocol variables limits roots tree from) tree.labels from.children from.settled m listed in
         let number : f.number ≡ f.place = (let w = f.number_is in omega (arith, w)) in
         let parent : m.parent ≡ Some f.place = f.is_made.parent ∙ ap Some number in
         let before : f.place < i = comes_behind protocol variables limits roots tree from f.place i m at parent in
@@ -107,7 +107,7 @@ module _ (protocol : Protocol) (declares : (role : Role) → IsIn role protocol.
       patterns = λ p x i free. let none : IsIn p [] = subst (λ (ps : List Pattern). IsIn p ps) no_pattern i in elim none [ ];
     }
 
-    declares_by : (i before : ℕ) (m : Made) (l : Label) (gives : List Made) → Becomes protocol limits (map way_of tree.labels) (IsMarkedAmong from.candidates) i before m l gives → IsSoundLabel protocol k m → DeclaresMore variables m.variables → DeclaresItsOwn variables l
+    declares_by : (i before : ℕ) (m : Made) (l : Label) (gives : List Made) → Becomes protocol limits (map link_of tree.labels) (IsMarkedAmong from.candidates) i before m l gives → IsSoundLabel protocol k m → DeclaresMore variables m.variables → DeclaresItsOwn variables l
     declares_by i before m _ _ (is_dead d) s more = declares_leaf m _ more (label_declared protocol k m s) refl refl refl refl
     declares_by i before m _ _ (is_seen lives lists least) s more = declares_leaf m _ more (label_declared protocol k m s) refl refl refl refl
     declares_by i before m _ _ (is_realised lives new derivable own mark) s more = declares_leaf m _ more (label_declared protocol k m s) refl refl refl refl

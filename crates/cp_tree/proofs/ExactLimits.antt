@@ -5,7 +5,7 @@ use Rattle.cp_model.specs.Strand.{Declaration, Protocol}
 use Rattle.cp_model.specs.Derivable.{IsUnrealised}
 use Rattle.cp_model.specs.Tree.{Mark, dead, seen, limit_steps, limit_strands, Outcome, at_step_limit, at_strand_limit, Label, Tree, Limits, ReachedSteps, ReachedStrands}
 use Rattle.cp_roots.specs.Roots.{Root}
-use Rattle.cp_tree.specs.Made.{Made, Way, way_of}
+use Rattle.cp_tree.specs.Made.{Made, LabelLink, link_of}
 use Rattle.cp_tree.specs.Searched.{Becomes, is_dead, is_seen, is_realised, is_generalised, above_bound, at_limit, is_tested, IsMarkedAmong, IsMarked, HasOutcome, some_at_step_limit, some_at_strand_limit, none_at_limit, IsTreeFrom}
 use Rattle.cp_tree.proofs.MarksSay.{not_both}
 use Rattle.cp_tree.proofs.SoundLabels.{settled_here, becomes_here}
@@ -13,9 +13,9 @@ use Rattle.cp_tree.proofs.ReachedLimits.{reached_steps, reached_strands}
 
 -- ---- the mark of a label that is open
 
-module _ (protocol : Protocol) (limits : Limits) (ways : List Way) (marks : ℕ → Option Mark → Type 0) (i before : ℕ) (m : Made) where
+module _ (protocol : Protocol) (limits : Limits) (links : List LabelLink) (marks : ℕ → Option Mark → Type 0) (i before : ℕ) (m : Made) where
   -- One within the bound that was not expanded is at the step limit.
-  steps_by : (l : Label) (gives : List Made) → Becomes protocol limits ways marks i before m l gives → IsUnrealised l.skeleton → ((n : ℕ) → l.mark ≢ Some (seen n)) → l.mark ≢ Some dead
+  steps_by : (l : Label) (gives : List Made) → Becomes protocol limits links marks i before m l gives → IsUnrealised l.skeleton → ((n : ℕ) → l.mark ≢ Some (seen n)) → l.mark ≢ Some dead
       → l.test ≡ None → length l.skeleton.strands ≤ limits.strands → l.mark ≡ Some limit_steps
   steps_by l gives (is_dead d) u not_seen not_dead t w = absurd (not_dead refl)
   steps_by l gives (is_seen {n = n} d r s) u not_seen not_dead t w = absurd (not_seen n refl)
@@ -26,7 +26,7 @@ module _ (protocol : Protocol) (limits : Limits) (ways : List Way) (marks : ℕ 
   steps_by l gives (is_tested d n r q b c x s) u not_seen not_dead t w = absurd (cc)
 
   -- One with more strands than the bound is at that bound.
-  strands_by : (l : Label) (gives : List Made) → Becomes protocol limits ways marks i before m l gives → IsUnrealised l.skeleton → ((n : ℕ) → l.mark ≢ Some (seen n)) → l.mark ≢ Some dead
+  strands_by : (l : Label) (gives : List Made) → Becomes protocol limits links marks i before m l gives → IsUnrealised l.skeleton → ((n : ℕ) → l.mark ≢ Some (seen n)) → l.mark ≢ Some dead
       → limits.strands < length l.skeleton.strands → l.mark ≡ Some limit_strands
   strands_by l gives (is_dead d) u not_seen not_dead w = absurd (not_dead refl)
   strands_by l gives (is_seen {n = n} d r s) u not_seen not_dead w = absurd (not_seen n refl)
@@ -51,21 +51,21 @@ strands_marked labels outcome (none_at_limit none no_strands) = (λ e. absurd (c
 -- ---- the limits of a tree
 
 module _ (protocol : Protocol) (variables : List Declaration) (limits : Limits) (roots : List Root) (tree : Tree) (from : IsTreeFrom protocol variables limits roots tree) where
-  abbrev ways : List Way
-  ways = map way_of tree.labels
+  abbrev links : List LabelLink
+  links = map link_of tree.labels
 
   marked_steps : ReachedSteps limits tree → IsMarked tree.labels limit_steps
   marked_steps r =
       let p = place_of r.left.listed in
       let s = settled_here protocol variables limits roots tree from p.0 r.label p.1 in
-      let mark = steps_by protocol limits ways (IsMarkedAmong from.candidates) p.0 s.expanded_before s.so r.label s.gives (becomes_here protocol variables limits roots tree from p.0 r.label s) r.left.unrealised r.left.not_seen r.left.not_dead r.unexpanded r.within in
+      let mark = steps_by protocol limits links (IsMarkedAmong from.candidates) p.0 s.expanded_before s.so r.label s.gives (becomes_here protocol variables limits roots tree from p.0 r.label s) r.left.unrealised r.left.not_seen r.left.not_dead r.unexpanded r.within in
       (r.label, r.left.listed, mark)
 
   marked_strands : ReachedStrands limits tree → (IsMarked tree.labels limit_steps → ⊥) × IsMarked tree.labels limit_strands
   marked_strands r =
       let p = place_of r.left.listed in
       let s = settled_here protocol variables limits roots tree from p.0 r.label p.1 in
-      let mark = strands_by protocol limits ways (IsMarkedAmong from.candidates) p.0 s.expanded_before s.so r.label s.gives (becomes_here protocol variables limits roots tree from p.0 r.label s) r.left.unrealised r.left.not_seen r.left.not_dead r.above in
+      let mark = strands_by protocol limits links (IsMarkedAmong from.candidates) p.0 s.expanded_before s.so r.label s.gives (becomes_here protocol variables limits roots tree from p.0 r.label s) r.left.unrealised r.left.not_seen r.left.not_dead r.above in
       (λ m. r.no_step_limit m.0 m.1 m.2, (r.label, r.left.listed, mark))
 
   pub exact_steps : (tree.outcome ≡ at_step_limit) ↔ ReachedSteps limits tree

@@ -11,15 +11,15 @@ use Rattle.cp_model.specs.declared.node.OrderPair.{OrderPair}
 use Rattle.cp_model.specs.Skeleton.{SkeletonStrand, listener, Assumptions, term_event_at, Before, Skeleton}
 use Rattle.cp_model.specs.Derivable.{IsOnInstance, DerivableAt, a_tag, an_atom, paired, left_of, right_of, encrypted, decrypted}
 use Rattle.cp_model.specs.Derivable as derivable
-use Rattle.cp_model.specs.Order.{LeadsTo, on_strand, over_pair}
+use Rattle.cp_model.specs.Order.{ReachesAlong, on_strand, over_pair}
 use Rattle.cp_model.proofs.LawOrder.{before_leads}
 use Rattle.cp_skel.specs.Deletion.{LeavesOut, all_left, is_gone, is_left, as_it_is}
-use Rattle.cp_answers.specs.Example.{shared, locked, reception, sent_before}
-use Rattle.cp_answers.proofs.Heard.{no_instance, IsUnlocked}
+use Rattle.cp_theory.specs.EncryptionExamples.{shared, locked, reception, sent_before}
+use Rattle.cp_theory.proofs.HeardEncryption.{no_instance, IsUnlocked}
 use Rattle.cp_roots.specs.Roots.{in_report_order}
 use Rattle.cp_general.specs.Fit.{IsFit}
-use Rattle.cp_general.specs.Steps.{Deletes, IsPairOfOrder, Drops}
-use Rattle.cp_general.specs.Generalisation.{IsMostGeneral}
+use Rattle.cp_general.specs.Steps.{Deletes, IsPairOfOrder, Weakens}
+use Rattle.cp_general.specs.Generalisation.{IsMaximallyGeneral}
 
 -- ---- what cannot be derived where nothing is sent before
 
@@ -84,11 +84,11 @@ only_pair p is =
     ap (λ (n : Node). record { earlier = n; later = p.later }) earlier ∙ ap (λ (n : Node). record { earlier = node_at 1 0; later = n }) later
 
 -- Without pairs the order keeps to strands.
-keeps_strand : {pairs : List OrderPair} → ((q : OrderPair) → IsIn q pairs → ⊥) → {x y : Node} → LeadsTo pairs x y → x.strand ≡ y.strand
+keeps_strand : {pairs : List OrderPair} → ((q : OrderPair) → IsIn q pairs → ⊥) → {x y : Node} → ReachesAlong pairs x y → x.strand ≡ y.strand
 keeps_strand none (on_strand after) = after.0
 keeps_strand none (over_pair {p = p} listed before leads) = absurd (none p listed)
 
-drops_none : (p : OrderPair) (h : Skeleton) → Drops p sent h → IsFit h → ⊥
+drops_none : (p : OrderPair) (h : Skeleton) → Weakens p sent h → IsFit h → ⊥
 drops_none p h without fit =
     let strands : h.strands ≡ sent.strands = ap (λ (k : Skeleton). k.strands) without.same in
     let assumptions : h.assumptions ≡ sent.assumptions = ap (λ (k : Skeleton). k.assumptions) without.same in
@@ -100,5 +100,5 @@ drops_none p h without fit =
     cc) in
     not_fit h secret on_listener (ap (λ (ss : List SkeletonStrand). term_event_at ss reception) strands) fit
 
-pub sent_is_most_general : IsMostGeneral sent
+pub sent_is_most_general : IsMaximallyGeneral sent
 sent_is_most_general = record { deletes_none = deletes_none; drops_none = drops_none }

@@ -13,21 +13,21 @@ use Rattle.cp_model.specs.Realisation.{AllDerivable}
 use Rattle.cp_model.specs.Homomorphism.{Embeds}
 use Rattle.cp_model.specs.Tree.{Mark, shape, limit_steps, limit_strands, Label}
 use Rattle.cp_derive.specs.Unrealised.{IsUnrealisedAt, ListsUnrealised}
-use Rattle.cp_guard.specs.Above.{encryptions_above}
-use Rattle.cp_guard.proofs.AllAbove.{nothing_above}
-use Rattle.cp_answers.specs.Example.{locked, locker, protocol, heard, reception, sent_before}
-use Rattle.cp_answers.proofs.Heard.{no_instance, unlocked}
+use Rattle.cp_theory.specs.Above.{encryptions_above}
+use Rattle.cp_theory.proofs.AllAbove.{nothing_above}
+use Rattle.cp_theory.specs.EncryptionExamples.{locked, locker, protocol, heard, reception, sent_before}
+use Rattle.cp_theory.proofs.HeardEncryption.{no_instance, unlocked}
 use Rattle.cp_shapes.specs.Shapes.{EmbedsAt, IsShapeAt}
 use Rattle.cp_roots.specs.Roots.{in_report_order}
-use Rattle.cp_covering.specs.Children.{Child}
-use Rattle.cp_covering.specs.GatheredLists.{nothing_given, none_left, left_out}
-use Rattle.cp_covering.specs.Example.{asked, one_child}
-use Rattle.cp_covering.proofs.OneChild.{is_cohort}
+use Rattle.cp_cohort.specs.CoveringChildren.{Child}
+use Rattle.cp_cohort.specs.GatheredLists.{nothing_given, none_left, left_out}
+use Rattle.cp_cohort.specs.Example.{asked, one_child}
+use Rattle.cp_cohort.proofs.OneChild.{is_cohort}
 use Rattle.cp_escape.specs.Escape.{IsFirstWith, in_front, further, IsEscape}
 use Rattle.cp_expansion.specs.ChosenTest.{IsTestOf, last_listener}
 use Rattle.cp_expansion.specs.Expansion.{IsWidening, Expansion, IsExpansionOf, none_widens}
 use Rattle.cp_tree.specs.Candidates.{IsCandidate, Candidate}
-use Rattle.cp_tree.specs.Made.{Made, made_of_root, made_of_child, Way, way_of, IsNew}
+use Rattle.cp_tree.specs.Made.{Made, made_of_root, made_of_child, LabelLink, link_of, IsNew}
 use Rattle.cp_tree.specs.Searched.{Becomes, is_realised, is_tested, all_settled, then_settled, IsMarkedAmong, as_shape, IsMarked, none_at_limit, IsTreeFrom}
 use Rattle.cp_tree.specs.Example.{heard_root, heard_test, heard_label, sent_label, heard_tree, one_step_limits}
 use Rattle.cp_tree.proofs.MarksSay.{not_both}
@@ -119,10 +119,10 @@ derivable_at (suc (suc s)) i t at = absurd (cc)
 sent_realised : AllDerivable sent
 sent_realised n t at = derivable_at n.strand n.index t at
 
-abbrev ways : List Way
-ways = map way_of heard_tree.labels
+abbrev links : List LabelLink
+links = map link_of heard_tree.labels
 
-first_is_new : IsNew ways 0
+first_is_new : IsNew links 0
 first_is_new n m = let l : n < 0 = m.earlier in omega (arith, l)
 
 -- The strand that sends goes to no listener.
@@ -132,7 +132,7 @@ embeds_nowhere k l from to e =
     let g = h.1.homomorphism.instances 1 locker 1 _ refl in
     no_instance (h.0.strands 1) locker g.to_height g.to_terms g.on_instance
 
-behind_first : (n : ℕ) → n < 1 → EmbedsAt (map (λ (w : Way). w.skeleton) ways) 1 n → ⊥
+behind_first : (n : ℕ) → n < 1 → EmbedsAt (map (λ (w : LabelLink). w.skeleton) links) 1 n → ⊥
 behind_first zero l e =
     let first : Some sent ≡ Some e.first = e.at_first in
     let second : Some heard ≡ Some e.second = e.at_second in
@@ -141,7 +141,7 @@ behind_first zero l e =
     embeds_nowhere e.first e.second from to e.embeds
 behind_first (suc n) l e = omega (arith, l)
 
-second_is_new : IsNew ways 1
+second_is_new : IsNew links 1
 second_is_new n m = behind_first n m.earlier m.embeds_back
 
 -- ---- marks
@@ -161,10 +161,10 @@ only_candidate = record { within = omega arith; no_instance = λ n i. other_plac
 abbrev sent_made : Made
 sent_made = made_of_child 0 one_child
 
-expands : Becomes protocol one_step_limits ways (IsMarkedAmong candidates) 0 0 (made_of_root locker.variables heard_root) heard_label (sent_made ∷ [])
+expands : Becomes protocol one_step_limits links (IsMarkedAmong candidates) 0 0 (made_of_root locker.variables heard_root) heard_label (sent_made ∷ [])
 expands = is_tested {nodes = reception ∷ []} {e = expansion} {children = 1 ∷ []} refl first_is_new lists_reception heard_unrealised (omega arith) (omega arith) is_expansion refl
 
-stays : Becomes protocol one_step_limits ways (IsMarkedAmong candidates) 1 1 sent_made sent_label []
+stays : Becomes protocol one_step_limits links (IsMarkedAmong candidates) 1 1 sent_made sent_label []
 stays = is_realised {mark = Some shape} refl second_is_new sent_realised sent_is_most_general (as_shape {p = 0} (record { candidate = record { number = 1; skeleton = sent }; at = refl; number = refl }) only_candidate)
 
 sent_is_candidate : IsCandidate sent_label

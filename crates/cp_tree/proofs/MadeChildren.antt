@@ -6,7 +6,7 @@ use Rattle.cp_lists.proofs.Items.{place_of, at_place, map_of_item, item_further}
 use Rattle.cp_model.specs.Strand.{Declaration, Protocol}
 use Rattle.cp_model.specs.Tree.{Label, Tree, Limits}
 use Rattle.cp_roots.specs.Roots.{Root}
-use Rattle.cp_tree.specs.Made.{Made, made_of_root, way_of, IsEdge, to_child}
+use Rattle.cp_tree.specs.Made.{Made, made_of_root, link_of, IsEdge, to_child}
 use Rattle.cp_tree.specs.Searched.{IsMarkedAmong, IsTreeFrom}
 use Rattle.cp_tree.proofs.Numbered.{number_of, number_there}
 use Rattle.cp_tree.proofs.Settled.{IsMadeFrom, made_of}
@@ -49,9 +49,9 @@ module _ (protocol : Protocol) (variables : List Declaration) (limits : Limits) 
       let at : item_at s.gives n.0 ≡ Some n.1 = n.2 in
       let number : (length roots + s.offset) + n.0 ≡ j = sym n.3 in
       let h = made_label protocol variables limits roots tree from j n.1 (subst (λ (a : ℕ). item_at MadeHere a ≡ Some n.1) number (given_at i n.0 l n.1 s at)) in
-      let c : IsMadeFrom protocol limits (map way_of tree.labels) (IsMarkedAmong from.candidates) i s.so n.1 =
-      made_of protocol limits (map way_of tree.labels) (IsMarkedAmong from.candidates) i s.expanded_before s.so l s.gives n.1 (becomes_here protocol variables limits roots tree from i l s) (at_place s.gives n.0 n.1 at) in
+      let c : IsMadeFrom protocol limits (map link_of tree.labels) (IsMarkedAmong from.candidates) i s.so n.1 =
+      made_of protocol limits (map link_of tree.labels) (IsMarkedAmong from.candidates) i s.expanded_before s.so l s.gives n.1 (becomes_here protocol variables limits roots tree from i l s) (at_place s.gives n.0 n.1 at) in
       (h.label, h.at, parent_here protocol variables limits roots tree from j h.label h.settled ∙ ap (λ (x : Made). x.parent) h.same ∙ c.parent)
 
-  pub edge_to_child : (i j : ℕ) (l : Label) (s : Settled i l) → IsIn j l.children → IsEdge (map way_of tree.labels) i j
-  edge_to_child i j l s p = let c = child_label i j l s p in to_child (map_of_item way_of tree.labels j c.0 c.1) c.2
+  pub edge_to_child : (i j : ℕ) (l : Label) (s : Settled i l) → IsIn j l.children → IsEdge (map link_of tree.labels) i j
+  edge_to_child i j l s p = let c = child_label i j l s p in to_child (map_of_item link_of tree.labels j c.0 c.1) c.2

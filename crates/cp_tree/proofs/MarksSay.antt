@@ -5,36 +5,36 @@ use Rattle.cp_model.specs.Skeleton.{Skeleton}
 use Rattle.cp_model.specs.Derivable.{IsUnrealised}
 use Rattle.cp_model.specs.Realisation.{AllDerivable}
 use Rattle.cp_model.specs.Tree.{Mark, shape, dead, seen, instance_of, limit_steps, limit_strands, Label, Limits}
-use Rattle.cp_general.specs.Generalisation.{IsMostGeneral}
-use Rattle.cp_shapes.specs.Shapes.{IsLeast, IsInstanceWithin, IsShapeAt, IsShapeOf}
+use Rattle.cp_general.specs.Generalisation.{IsMaximallyGeneral}
+use Rattle.cp_shapes.specs.Shapes.{IsLeast, IsInstanceWithin, IsShapeAt, IsInstanceOfShape}
 use Rattle.cp_tree.specs.Candidates.{Candidate, IsCandidate, AreCandidates, skeletons_of, IsLabelAt}
-use Rattle.cp_tree.specs.Made.{Made, Way, MayPointTo}
-use Rattle.cp_tree.specs.Searched.{mark_by, Becomes, is_dead, is_seen, is_realised, is_generalised, above_bound, at_limit, is_tested, IsMarkedAmong, as_shape, as_instance}
+use Rattle.cp_tree.specs.Made.{Made, LabelLink, MayPointTo}
+use Rattle.cp_tree.specs.Searched.{mark_by_children, Becomes, is_dead, is_seen, is_realised, is_generalised, above_bound, at_limit, is_tested, IsMarkedAmong, as_shape, as_instance}
 use Rattle.cp_tree.proofs.Picked.{one_place}
 
 -- A label is not marked by its children but where it has none, as dead.
-pub only_dead : (children : List ℕ) (mark : Mark) → mark_by children ≡ Some mark → dead ≡ mark
+pub only_dead : (children : List ℕ) (mark : Mark) → mark_by_children children ≡ Some mark → dead ≡ mark
 only_dead [] mark e = cc
 only_dead (n ∷ ns) mark e = absurd (cc)
 
 pub not_both : (k : Skeleton) → IsUnrealised k → AllDerivable k → ⊥
 not_both k u all = u.underivable (all u.node u.message u.reception)
 
-module _ (protocol : Protocol) (limits : Limits) (ways : List Way) (cs : List Candidate) (i before : ℕ) (m : Made) where
+module _ (protocol : Protocol) (limits : Limits) (links : List LabelLink) (cs : List Candidate) (i before : ℕ) (m : Made) where
   abbrev Here : Label → List Made → Type 0
-  Here = Becomes protocol limits ways (IsMarkedAmong cs) i before m
+  Here = Becomes protocol limits links (IsMarkedAmong cs) i before m
 
   -- ---- a shape
 
   pub record IsMarkedShape : Type 0 where
     pub lives : m.dead ≡ false
     pub realised : AllDerivable m.skeleton
-    pub most_general : IsMostGeneral m.skeleton
+    pub most_general : IsMaximallyGeneral m.skeleton
     pub place : ℕ
     pub at : IsLabelAt cs place i
     pub is_shape : IsShapeAt (skeletons_of cs) place
 
-  shape_among : (mark : Option Mark) → IsMarkedAmong cs i mark → mark ≡ Some shape → m.dead ≡ false → AllDerivable m.skeleton → IsMostGeneral m.skeleton → IsMarkedShape
+  shape_among : (mark : Option Mark) → IsMarkedAmong cs i mark → mark ≡ Some shape → m.dead ≡ false → AllDerivable m.skeleton → IsMaximallyGeneral m.skeleton → IsMarkedShape
   shape_among mark (as_shape {p = p} a s) e d all most = record { lives = d; realised = all; most_general = most; place = p; at = a; is_shape = s }
   shape_among mark (as_instance a l b) e d all most = absurd (cc)
 
@@ -54,7 +54,7 @@ module _ (protocol : Protocol) (limits : Limits) (ways : List Way) (cs : List Ca
     pub place : ℕ
     pub at : IsLabelAt cs place i
     pub of_place : ℕ
-    pub least : IsLeast (IsShapeOf (skeletons_of cs) place) of_place
+    pub least : IsLeast (IsInstanceOfShape (skeletons_of cs) place) of_place
     pub of_label : IsLabelAt cs of_place n
 
   instance_among : (n : ℕ) (mark : Option Mark) → IsMarkedAmong cs i mark → mark ≡ Some (instance_of n) → m.dead ≡ false → IsMarkedInstance n
@@ -78,9 +78,9 @@ module _ (protocol : Protocol) (limits : Limits) (ways : List Way) (cs : List Ca
   not_seen_among n mark (as_shape a s) e = cc
   not_seen_among n mark (as_instance a l b) e = cc
 
-  pub seen_says : (l : Label) (gives : List Made) (n : ℕ) → Here l gives → l.mark ≡ Some (seen n) → MayPointTo ways i n
+  pub seen_says : (l : Label) (gives : List Made) (n : ℕ) → Here l gives → l.mark ≡ Some (seen n) → MayPointTo links i n
   seen_says l gives n (is_dead d) e = absurd (cc)
-  seen_says l gives n (is_seen {n = o} d u s) e = let same : o ≡ n = cc in subst (MayPointTo ways i) same s.holds
+  seen_says l gives n (is_seen {n = o} d u s) e = let same : o ≡ n = cc in subst (MayPointTo links i) same s.holds
   seen_says l gives n (is_realised {mark = mark} d o a y s) e = absurd (not_seen_among n mark s e)
   seen_says l gives n (is_generalised d o a w) e = absurd (cc)
   seen_says l gives n (above_bound d o u r b) e = absurd (cc)

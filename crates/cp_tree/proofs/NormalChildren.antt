@@ -6,53 +6,53 @@ use Rattle.cp_model.specs.Skeleton.{Skeleton}
 use Rattle.cp_model.specs.Strand.{Declaration, Role, Protocol}
 use Rattle.cp_model.specs.Term.{Term}
 use Rattle.cp_model.specs.Tree.{Operation}
-use Rattle.cp_term.specs.declared.path.Step.{Step}
-use Rattle.cp_skel.specs.Events.{Occurrence}
+use Rattle.cp_model.specs.declared.step.Step.{Step}
+use Rattle.cp_skel.specs.Events.{LocatedEvent}
 use Rattle.cp_normal.specs.NormalForms.{IsNormal}
 use Rattle.cp_normal.specs.Exact.{HasForms}
 use Rattle.cp_normal.specs.Formed.{Formed}
 use Rattle.cp_normal.proofs.FormsOf.{are_normal_forms}
-use Rattle.cp_settle.specs.Releases.{Release, Tried}
-use Rattle.cp_settle.specs.Stages.{Choice, form_of, Stage, on_the_way, normal, Settles, released_inside, branching, normalising, settled, Branches, no_choices, never_matches, matches_by, EachSettles, no_forms, next_form}
-use Rattle.cp_covering.specs.Children.{Child, child}
-use Rattle.cp_covering.specs.Cohort.{Question, Contracts, AreContracted, DisplacesEvent, DisplacesStrand, AddsAt, AddsEvent, Listens, AreListeners, IsCohort, is_before, is_displaced, is_added, of_listener, of_node, of_role, is_inside, is_critical, cyclic}
-use Rattle.cp_covering.specs.Cohort as cohort
-use Rattle.cp_covering.proofs.Listed.{given}
+use Rattle.cp_cohort.specs.Releases.{Release, PartialSolution}
+use Rattle.cp_cohort.specs.Stages.{Choice, with_form_of, Stage, on_the_way, normal, SolvesRelease, released_inside, branching, normalising, settled, Branches, no_choices, never_matches, matches_by, EachSolvesRelease, no_forms, next_form}
+use Rattle.cp_cohort.specs.CoveringChildren.{Child, child}
+use Rattle.cp_cohort.specs.Cohort.{GuardedTest, Contracts, AreContracted, DisplacesEvent, DisplacesStrand, AddsAt, AddsEvent, Listens, AreListeners, IsCohort, is_before, is_displaced, is_added, of_listener, of_node, of_role, is_inside, is_critical, cyclic}
+use Rattle.cp_cohort.specs.Cohort as cohort
+use Rattle.cp_cohort.proofs.Listed.{given}
 
--- What is tried is normal where it is known to be.
-abbrev IsNormalAt : Stage → Tried → Type 0
+-- The partial solution is normal where it is known to be.
+abbrev IsNormalAt : Stage → PartialSolution → Type 0
 IsNormalAt on_the_way x = Unit {0}
 IsNormalAt normal x = IsNormal x.skeleton
 
 module _ (r : Release) where
   mutual
-    settles_normal : {stage : Stage} {x : Tried} {ys : List Tried} → Settles r stage x ys → IsNormalAt stage x → (y : Tried) → IsIn y ys → IsNormal y.skeleton
+    settles_normal : {stage : Stage} {x : PartialSolution} {ys : List PartialSolution} → SolvesRelease r stage x ys → IsNormalAt stage x → (y : PartialSolution) → IsIn y ys → IsNormal y.skeleton
     settles_normal (released_inside inside) n y i = absurd (not_in_none i)
     settles_normal (branching outside o branches) n y i = branches_normal branches y i
     settles_normal (normalising {x = x} {forms = forms} both are each) n y i =
-        each_normal each (λ z j. let m = from_map (form_of x) forms j in
-        subst (λ (w : Tried). IsNormal w.skeleton) m.2 (are_normal_forms are.exact m.0.skeleton (into_map (λ (f : Formed). f.skeleton) m.1)).normal) y i
+        each_normal each (λ z j. let m = from_map (with_form_of x) forms j in
+        subst (λ (w : PartialSolution). IsNormal w.skeleton) m.2 (are_normal_forms are.exact m.0.skeleton (into_map (λ (f : Formed). f.skeleton) m.1)).normal) y i
     settles_normal (settled {x = x} both) n y here = n
     settles_normal (settled {x = x} both) n y (there i) = absurd (not_in_none i)
 
-    branches_normal : {x : Tried} {cs : List Choice} {ys : List Tried} → Branches r x cs ys → (y : Tried) → IsIn y ys → IsNormal y.skeleton
+    branches_normal : {x : PartialSolution} {cs : List Choice} {ys : List PartialSolution} → Branches r x cs ys → (y : PartialSolution) → IsIn y ys → IsNormal y.skeleton
     branches_normal no_choices y i = absurd (not_in_none i)
     branches_normal (never_matches never rest) y i = branches_normal rest y i
     branches_normal (matches_by {ys = ys} {zs = zs} m same first rest) y i =
         ⊎_elim (λ j. settles_normal first tt y j) (λ j. branches_normal rest y j) (in_append ys zs i)
 
-    each_normal : {xs ys : List Tried} → EachSettles r xs ys → ((x : Tried) → IsIn x xs → IsNormal x.skeleton) → (y : Tried) → IsIn y ys → IsNormal y.skeleton
+    each_normal : {xs ys : List PartialSolution} → EachSolvesRelease r xs ys → ((x : PartialSolution) → IsIn x xs → IsNormal x.skeleton) → (y : PartialSolution) → IsIn y ys → IsNormal y.skeleton
     each_normal no_forms all y i = absurd (not_in_none i)
     each_normal (next_form {x = x} {xs = xs} {ys = ys} {zs = zs} one rest) all y i =
         ⊎_elim (λ j. settles_normal one (all x here) y j) (λ j. each_normal rest (λ z m. all z (there m)) y j) (in_append ys zs i)
 
-module _ (q : Question) where
+module _ (q : GuardedTest) where
   forms_normal : (variables : List Declaration) (operation : Operation) (path : List Step) (l : Skeleton) (rs : List Skeleton) → HasForms l rs → (d : Child) → IsIn d (map (child variables operation path) rs) → IsNormal d.skeleton
   forms_normal variables operation path l rs forms d i =
       let m = from_map (child variables operation path) rs i in
       subst (λ (c : Child). IsNormal c.skeleton) m.2 (are_normal_forms forms m.0 m.1).normal
 
-  contracts_normal : (o : Occurrence) (path : List Step) (children : List Child) → Contracts q o path children → (d : Child) → IsIn d children → IsNormal d.skeleton
+  contracts_normal : (o : LocatedEvent) (path : List Step) (children : List Child) → Contracts q o path children → (d : Child) → IsIn d children → IsNormal d.skeleton
   contracts_normal o path children (is_inside inside) d i = absurd (not_in_none i)
   contracts_normal o path children (is_critical at) d i = absurd (not_in_none i)
   contracts_normal o path children (cohort.never_equal at never) d i = absurd (not_in_none i)
@@ -68,7 +68,7 @@ module _ (q : Question) where
   releases_normal variables operation r grown children (cyclic before) d i = absurd (not_in_none i)
   releases_normal variables operation r grown children (cohort.never_equal ev at never) d i = absurd (not_in_none i)
   releases_normal variables operation r grown children (cohort.unified {settled = ends} none ev at m same settles) d i =
-      let o = from_map (λ (x : Tried). child x.variables operation r.path x.skeleton) ends i in
+      let o = from_map (λ (x : PartialSolution). child x.variables operation r.path x.skeleton) ends i in
       subst (λ (c : Child). IsNormal c.skeleton) o.2 (settles_normal r settles tt o.0 o.1)
 
   displaced_event : (s : ℕ) (role : Role) (height j : ℕ) (children : List Child) → DisplacesEvent q s role height j children → (d : Child) → IsIn d children → IsNormal d.skeleton

@@ -12,19 +12,19 @@ use Rattle.cp_model.specs.Homomorphism.{Embeds, Covers, IsCompleteList}
 use Rattle.cp_model.specs.Problem.{numbers_from}
 use Rattle.cp_model.specs.PointOfView.{HasDeclaredVariables}
 use Rattle.cp_model.specs.Tree.{Mark, dead, Label, Tree, Limits}
-use Rattle.cp_answers.specs.NoneLeftOut.{LeavesNoneOut}
-use Rattle.cp_answers.specs.Lawful.{PassesOn, with_label, skeletons_at, IsLeft, at_shape, at_step_bound, at_strand_bound, IsLawful}
-use Rattle.cp_answers.proofs.LabelDescents.{passes_on_to_embedding}
-use Rattle.cp_answers.proofs.FactorsThroughMaps.{left_out_factors}
-use Rattle.cp_answers.proofs.NoneLeftOut.{empty_where_it_stands_nowhere}
+use Rattle.cp_theory.specs.NoneLeftOut.{IsComplete}
+use Rattle.cp_theory.specs.Lawful.{PassesOn, with_label, skeletons_at, IsLeft, at_shape, at_step_bound, at_strand_bound, IsLawful}
+use Rattle.cp_theory.proofs.LabelDescents.{passes_on_to_embedding}
+use Rattle.cp_theory.proofs.FactorsThroughMaps.{left_out_factors}
+use Rattle.cp_theory.proofs.NoneLeftOut.{empty_where_it_stands_nowhere}
 use Rattle.cp_shapes.specs.Shapes.{EmbedsAt}
 use Rattle.cp_shapes.proofs.Instances.{same_item}
 use Rattle.cp_roots.specs.Roots.{Root, in_report_order}
 use Rattle.cp_roots.specs.Sound.{AreSound, StandsThroughRoot}
-use Rattle.cp_covering.specs.Children.{Child}
+use Rattle.cp_cohort.specs.CoveringChildren.{Child}
 use Rattle.cp_general.proofs.SoundGeneralisations.{embeds_back}
-use Rattle.cp_tree.specs.Made.{Made, made_of_root, made_of_child, made_of_generalisation, Way, way_of}
-use Rattle.cp_tree.specs.Searched.{mark_by, is_dead, is_seen, is_realised, is_generalised, above_bound, at_limit, is_tested, IsMarkedAmong, as_shape, as_instance, IsTreeFrom}
+use Rattle.cp_tree.specs.Made.{Made, made_of_root, made_of_child, made_of_generalisation, LabelLink, link_of}
+use Rattle.cp_tree.specs.Searched.{mark_by_children, is_dead, is_seen, is_realised, is_generalised, above_bound, at_limit, is_tested, IsMarkedAmong, as_shape, as_instance, IsTreeFrom}
 use Rattle.cp_tree.specs.Sound.{ExpandsSoundly}
 use Rattle.cp_tree.proofs.Numbered.{number_there}
 use Rattle.cp_tree.proofs.CandidatesEmbed.{as_labels}
@@ -49,7 +49,7 @@ skeleton_among labels [] n l p at = absurd (not_in_none p)
 skeleton_among labels (m ∷ ns) n l p at =
     ⊎_elim (λ (e : n ≡ m). with_first labels n m ns l e at) (λ (i : IsIn n ns). with_behind (item_at labels m) (skeletons_at labels ns) l.skeleton (skeleton_among labels ns n l i at)) (head_or_behind p)
 
-edges_of_expanded : (ns : List ℕ) → edge_by (mark_by ns) ns ≡ ns
+edges_of_expanded : (ns : List ℕ) → edge_by (mark_by_children ns) ns ≡ ns
 edges_of_expanded [] = refl
 edges_of_expanded (n ∷ ns) = refl
 
@@ -58,11 +58,11 @@ module _ (protocol : Protocol) (variables : List Declaration) (limits : Limits) 
   abbrev ks : List Skeleton
   ks = map (λ (l : Label). l.skeleton) tree.labels
 
-  abbrev ways : List Way
-  ways = map way_of tree.labels
+  abbrev links : List LabelLink
+  links = map link_of tree.labels
 
-  skeletons_of_ways : map (λ (w : Way). w.skeleton) ways ≡ ks
-  skeletons_of_ways = sym (map_then way_of (λ (w : Way). w.skeleton) (λ (l : Label). l.skeleton) (λ l. refl) tree.labels)
+  skeletons_of_links : map (λ (w : LabelLink). w.skeleton) links ≡ ks
+  skeletons_of_links = sym (map_then link_of (λ (w : LabelLink). w.skeleton) (λ (l : Label). l.skeleton) (λ l. refl) tree.labels)
 
   sound_here : (i : ℕ) (l : Label) → item_at tree.labels i ≡ Some l → (s : SettledHere protocol variables limits roots tree from i l) → IsSoundLabel protocol k s.so
   sound_here = label_sound protocol variables limits roots tree from k sound declared expands
@@ -126,7 +126,7 @@ module _ (protocol : Protocol) (variables : List Declaration) (limits : Limits) 
   by_becoming : (i before : ℕ) (m : Made) (l : Label) (gives : List Made) → BecomesHere protocol variables limits roots tree from i before m l gives → IsSoundLabel protocol k m → item_at ks i ≡ Some m.skeleton
       → ((n : ℕ) → EmbedsAt ks n i → PassesOn protocol k m.skeleton (skeletons_at tree.labels (n ∷ []))) → ((x : Made) → IsIn x gives → IsLabelOfMade protocol variables limits roots tree from l.children x) → LeftOrPasses l
   by_becoming i before m l gives (is_dead d) s at to labelled = inr (λ b f h is stands apart factors. absurd (label_nowhere protocol k m s d b h is stands apart))
-  by_becoming i before m l gives (is_seen {n = n} d u least) s at to labelled = inr (to n (subst (λ (xs : List Skeleton). EmbedsAt xs n i) skeletons_of_ways least.holds.embeds))
+  by_becoming i before m l gives (is_seen {n = n} d u least) s at to labelled = inr (to n (subst (λ (xs : List Skeleton). EmbedsAt xs n i) skeletons_of_links least.holds.embeds))
   by_becoming i before m l gives (is_realised {mark = mark} d n a y marked) s at to labelled = by_mark_among i m mark marked to
   by_becoming i before m l gives (is_generalised {g = g} {child = child} d n a w) s at to labelled =
       inr (to child (generalised_embeds i m g child at (embeds_back w) (labelled (made_of_generalisation i m.variables g) here)))
@@ -154,7 +154,7 @@ module _ (protocol : Protocol) (variables : List Declaration) (limits : Limits) 
 
   -- ---- dead labels
 
-  no_children : (cs : List Child) (ns : List ℕ) → length ns ≡ length cs → mark_by ns ≡ Some dead → map (λ (c : Child). in_report_order c.skeleton) cs ≡ []
+  no_children : (cs : List Child) (ns : List ℕ) → length ns ≡ length cs → mark_by_children ns ≡ Some dead → map (λ (c : Child). in_report_order c.skeleton) cs ≡ []
   no_children [] ns e dead_by = refl
   no_children (c ∷ cs) [] e dead_by = absurd (omega (arith, e))
   no_children (c ∷ cs) (n ∷ ns) e dead_by = absurd (cc)
@@ -172,7 +172,7 @@ module _ (protocol : Protocol) (variables : List Declaration) (limits : Limits) 
   dead_by_becoming i before m l gives (above_bound d n u r b) s e = absurd (cc)
   dead_by_becoming i before m l gives (at_limit d n u r b q) s e = absurd (cc)
   dead_by_becoming i before m l gives (is_tested {e = x} {children = children} d n u r b c y w) s e =
-      empty_where_it_stands_nowhere protocol m.skeleton (subst (LeavesNoneOut protocol m.skeleton) (no_children x.children children w e) (expands m x (where_unrealised protocol k m s r) d r y).leaves_none_out)
+      empty_where_it_stands_nowhere protocol m.skeleton (subst (IsComplete protocol m.skeleton) (no_children x.children children w e) (expands m x (where_unrealised protocol k m s r) d r y).leaves_none_out)
 
   -- A label that is dead stands apart nowhere.
   pub dead_nowhere : (i : ℕ) (l : Label) → item_at tree.labels i ≡ Some l → l.mark ≡ Some dead → (b : Bundle) (h : Standing) → IsBundle protocol b → StandsIn l.skeleton b h → StandsApart l.skeleton h → ⊥

@@ -9,15 +9,15 @@ use Rattle.cp_model.specs.Problem.{numbers_from}
 use Rattle.cp_model.specs.Tree.{Mark, Label, Tree, Limits, is_expanded}
 use Rattle.cp_model.proofs.Numbers.{numbers_length}
 use Rattle.cp_roots.specs.Roots.{Root}
-use Rattle.cp_tree.specs.Made.{Made, made_of_root, Way, way_of}
-use Rattle.cp_tree.specs.Searched.{AreSettled, all_settled, then_settled, IsMarkedAmong, children_of, IsTreeFrom}
+use Rattle.cp_tree.specs.Made.{Made, made_of_root, LabelLink, link_of}
+use Rattle.cp_tree.specs.Searched.{AreResolved, all_settled, then_settled, IsMarkedAmong, children_of, IsTreeFrom}
 use Rattle.cp_tree.specs.Placed.{IsLabelOfRoot, RootsAreFirst}
 use Rattle.cp_tree.proofs.Numbered.{numbers_append, number_there}
 use Rattle.cp_tree.proofs.Settled.{IsOfMade, of_made, unexpanded, made_of}
 use Rattle.cp_tree.proofs.SoundLabels.{made, SettledHere, settled_here, of_made_here, parent_here, made_label}
 use Rattle.cp_tree.proofs.MadeChildren.{child_label}
 
-module _ (protocol : Protocol) (limits : Limits) (ways : List Way) (marks : ℕ → Option Mark → Type 0) where
+module _ (protocol : Protocol) (limits : Limits) (links : List LabelLink) (marks : ℕ → Option Mark → Type 0) where
   -- A label of which something made is the child with this number.
   record HasChild (i n : ℕ) (labels : List Label) (x : Made) : Type 0 where
     place : ℕ
@@ -31,11 +31,11 @@ module _ (protocol : Protocol) (limits : Limits) (ways : List Way) (marks : ℕ 
   child_later : (i n : ℕ) (l : Label) (labels : List Label) (x : Made) → HasChild (suc i) n labels x → HasChild i n (l ∷ labels) x
   child_later i n l labels x h = record { place = suc h.place; label = h.label; at = h.at; listed = h.listed; number = h.number; number_is = (let w = h.number_is in omega (arith, w)); parent = h.parent }
 
-  has_child : (i before n : ℕ) (made : List Made) (labels : List Label) (given : List Made) → AreSettled protocol limits ways marks i before made labels given → children_of labels ≡ numbers_from n given
+  has_child : (i before n : ℕ) (made : List Made) (labels : List Label) (given : List Made) → AreResolved protocol limits links marks i before made labels given → children_of labels ≡ numbers_from n given
       → (q : ℕ) (x : Made) → item_at given q ≡ Some x → HasChild i (n + q) labels x
   has_child i before n made labels given all_settled e q x at = absurd (cc)
   has_child i before n made labels given (then_settled {m = m} {l = l} {made = ms} {labels = ls} {from_this = fs} {from_others = gs} b s) e q x at =
-      let parts = same_parts l.children (numbers_from n fs) (children_of ls) (numbers_from (n + length fs) gs) ((of_made protocol limits ways marks i before m l fs b).count ∙ sym (numbers_length n fs)) (e ∙ numbers_append n (n + length fs) fs gs refl) in
+      let parts = same_parts l.children (numbers_from n fs) (children_of ls) (numbers_from (n + length fs) gs) ((of_made protocol limits links marks i before m l fs b).count ∙ sym (numbers_length n fs)) (e ∙ numbers_append n (n + length fs) fs gs refl) in
       let first : l.children ≡ numbers_from n fs = parts.0 in
       let rest : children_of ls ≡ numbers_from (n + length fs) gs = parts.1 in
       ⊎_elim
@@ -46,7 +46,7 @@ module _ (protocol : Protocol) (limits : Limits) (ways : List Way) (marks : ℕ 
         listed = subst (λ (ns : List ℕ). IsIn (n + q) ns) (sym first) (number_there n q fs x front);
         number = i;
         number_is = omega arith;
-        parent = (made_of protocol limits ways marks i before m l fs x b (at_place fs q x front)).parent;
+        parent = (made_of protocol limits links marks i before m l fs x b (at_place fs q x front)).parent;
       })
       (λ (r : (p : ℕ) × (q ≡ length fs + p) × (item_at gs p ≡ Some x)).
       let place : (n + length fs) + r.0 ≡ n + q = (let w = r.1 in omega (arith, w)) in
@@ -54,17 +54,17 @@ module _ (protocol : Protocol) (limits : Limits) (ways : List Way) (marks : ℕ 
       (item_in_parts fs gs q x at)
 
 module _ (protocol : Protocol) (variables : List Declaration) (limits : Limits) (roots : List Root) (tree : Tree) (from : IsTreeFrom protocol variables limits roots tree) where
-  abbrev ways : List Way
-  ways = map way_of tree.labels
+  abbrev links : List LabelLink
+  links = map link_of tree.labels
 
   pub label_of_root : (i : ℕ) (root : Root) (l : Label) (s : SettledHere protocol variables limits roots tree from i l) → s.so ≡ made_of_root variables root → IsLabelOfRoot variables root l
   label_of_root i root l s same =
-      let is : IsOfMade protocol limits ways (IsMarkedAmong from.candidates) s.expanded_before s.so l s.gives = of_made_here protocol variables limits roots tree from i l s in
+      let is : IsOfMade protocol limits links (IsMarkedAmong from.candidates) s.expanded_before s.so l s.gives = of_made_here protocol variables limits roots tree from i l s in
       record {
         no_parent = is.parent ∙ ap (λ (m : Made). m.parent) same;
         operation = is.operation ∙ ap (λ (m : Made). m.operation) same;
         skeleton = is.skeleton ∙ ap (λ (m : Made). m.skeleton) same;
-        declared = λ e. (unexpanded protocol limits ways (IsMarkedAmong from.candidates) s.expanded_before s.so l s.gives is e).variables ∙ ap (λ (m : Made). m.variables) same;
+        declared = λ e. (unexpanded protocol limits links (IsMarkedAmong from.candidates) s.expanded_before s.so l s.gives is e).variables ∙ ap (λ (m : Made). m.variables) same;
       }
 
   pub roots_are_first : RootsAreFirst variables roots tree.labels
@@ -84,7 +84,7 @@ module _ (protocol : Protocol) (variables : List Declaration) (limits : Limits) 
       let none : x.parent ≡ None = ap (λ (m : Made). m.parent) (sym r.2) in
       absurd (let e : None ≡ Some i = sym none ∙ parent in cc))
       (λ (r : (q : ℕ) × (j ≡ length (map (made_of_root variables) roots) + q) × (item_at from.children q ≡ Some x)).
-      let h = has_child protocol limits ways (IsMarkedAmong from.candidates) 0 0 (length roots) (made protocol variables limits roots tree from) tree.labels from.children from.settled from.numbers r.0 x r.2 in
+      let h = has_child protocol limits links (IsMarkedAmong from.candidates) 0 0 (length roots) (made protocol variables limits roots tree from) tree.labels from.children from.settled from.numbers r.0 x r.2 in
       let both : Some h.number ≡ Some i = sym h.parent ∙ parent in
       let place : h.place ≡ i = (let a : h.number ≡ i = cc in let b = h.number_is in omega (arith, a, b)) in
       let labels_same : Some h.label ≡ Some l = sym h.at ∙ (ap (item_at tree.labels) place ∙ at) in

@@ -6,14 +6,14 @@ use Rattle.cp_model.specs.Strand.{Declaration, Protocol}
 use Rattle.cp_model.specs.Derivable.{IsUnrealised}
 use Rattle.cp_model.specs.Tree.{Mark, limit_steps, limit_strands, Label, Tree, Limits, is_expanded, expanded_count, IsOpen, ReachedSteps, ReachedStrands}
 use Rattle.cp_roots.specs.Roots.{Root}
-use Rattle.cp_tree.specs.Made.{Made, way_of, Way}
-use Rattle.cp_tree.specs.Searched.{Becomes, is_dead, is_seen, is_realised, is_generalised, above_bound, at_limit, is_tested, AreSettled, all_settled, then_settled, IsMarkedAmong, IsMarked, IsTreeFrom}
+use Rattle.cp_tree.specs.Made.{Made, link_of, LabelLink}
+use Rattle.cp_tree.specs.Searched.{Becomes, is_dead, is_seen, is_realised, is_generalised, above_bound, at_limit, is_tested, AreResolved, all_settled, then_settled, IsMarkedAmong, IsMarked, IsTreeFrom}
 use Rattle.cp_tree.proofs.MarksSay.{steps_says, strands_says}
 use Rattle.cp_tree.proofs.SoundLabels.{made, settled_here, becomes_here}
 
-module _ (protocol : Protocol) (limits : Limits) (ways : List Way) (marks : ℕ → Option Mark → Type 0) where
+module _ (protocol : Protocol) (limits : Limits) (links : List LabelLink) (marks : ℕ → Option Mark → Type 0) where
   -- A label is expanded only where fewer were than the step limit says.
-  counts_within : (i before : ℕ) (m : Made) (l : Label) (gives : List Made) → Becomes protocol limits ways marks i before m l gives → before ≤ limits.steps → before + is_expanded l.test ≤ limits.steps
+  counts_within : (i before : ℕ) (m : Made) (l : Label) (gives : List Made) → Becomes protocol limits links marks i before m l gives → before ≤ limits.steps → before + is_expanded l.test ≤ limits.steps
   counts_within i before m l gives (is_dead d) b = omega (arith, b)
   counts_within i before m l gives (is_seen d u s) b = omega (arith, b)
   counts_within i before m l gives (is_realised d n a y s) b = omega (arith, b)
@@ -23,7 +23,7 @@ module _ (protocol : Protocol) (limits : Limits) (ways : List Way) (marks : ℕ 
   counts_within i before m l gives (is_tested d n u r c x y s) b = omega (arith, x)
 
   -- So no more are.
-  pub all_within : (i before : ℕ) (so : List Made) (labels : List Label) (given : List Made) → AreSettled protocol limits ways marks i before so labels given → before ≤ limits.steps → before + expanded_count labels ≤ limits.steps
+  pub all_within : (i before : ℕ) (so : List Made) (labels : List Label) (given : List Made) → AreResolved protocol limits links marks i before so labels given → before ≤ limits.steps → before + expanded_count labels ≤ limits.steps
   all_within i before so labels given all_settled b = omega (arith, b)
   all_within i before so labels given (then_settled {m = m} {l = l} {made = ms} {labels = ls} {from_this = fs} {from_others = gs} h s) b =
       let r = all_within (suc i) (before + is_expanded l.test) ms ls gs s (counts_within i before m l fs h b) in
@@ -31,7 +31,7 @@ module _ (protocol : Protocol) (limits : Limits) (ways : List Way) (marks : ℕ 
 
   -- ---- a label that was expanded
 
-  counted_before : (i before : ℕ) (m : Made) (l : Label) (gives : List Made) → Becomes protocol limits ways marks i before m l gives → (l.test ≡ None → ⊥) → before < limits.steps
+  counted_before : (i before : ℕ) (m : Made) (l : Label) (gives : List Made) → Becomes protocol limits links marks i before m l gives → (l.test ≡ None → ⊥) → before < limits.steps
   counted_before i before m l gives (is_dead d) t = absurd (t refl)
   counted_before i before m l gives (is_seen d u s) t = absurd (t refl)
   counted_before i before m l gives (is_realised d n a y s) t = absurd (t refl)
@@ -60,22 +60,22 @@ module _ (protocol : Protocol) (variables : List Declaration) (limits : Limits) 
   pub steps_within : expanded_count tree.labels ≤ limits.steps
   steps_within =
       let none : 0 ≤ limits.steps = omega arith in
-      let r = all_within protocol limits (map way_of tree.labels) (IsMarkedAmong from.candidates) 0 0 (made protocol variables limits roots tree from) tree.labels from.children from.settled none in
+      let r = all_within protocol limits (map link_of tree.labels) (IsMarkedAmong from.candidates) 0 0 (made protocol variables limits roots tree from) tree.labels from.children from.settled none in
       omega (arith, r)
 
   abbrev MadeHere : List Made
   MadeHere = made protocol variables limits roots tree from
 
-  abbrev ways : List Way
-  ways = map way_of tree.labels
+  abbrev links : List LabelLink
+  links = map link_of tree.labels
 
   -- A label that was expanded comes before each at the step limit.
   pub expanded_first : (i j : ℕ) (l m : Label) → item_at tree.labels i ≡ Some l → item_at tree.labels j ≡ Some m → (l.test ≡ None → ⊥) → m.mark ≡ Some limit_steps → i < j
   expanded_first i j l m at au tested e =
       let s = settled_here protocol variables limits roots tree from i l at in
       let t = settled_here protocol variables limits roots tree from j m au in
-      let r = steps_says protocol limits ways from.candidates j t.expanded_before t.so m t.gives (becomes_here protocol variables limits roots tree from j m t) e in
-      let fewer : s.expanded_before < limits.steps = counted_before protocol limits ways (IsMarkedAmong from.candidates) i s.expanded_before s.so l s.gives (becomes_here protocol variables limits roots tree from i l s) tested in
+      let r = steps_says protocol limits links from.candidates j t.expanded_before t.so m t.gives (becomes_here protocol variables limits roots tree from j m t) e in
+      let fewer : s.expanded_before < limits.steps = counted_before protocol limits links (IsMarkedAmong from.candidates) i s.expanded_before s.so l s.gives (becomes_here protocol variables limits roots tree from i l s) tested in
       let all : t.expanded_before ≡ limits.steps = r.reached in
       let a : s.expanded_before ≡ 0 + expanded_count (take i tree.labels) = s.counted in
       let b : t.expanded_before ≡ 0 + expanded_count (take j tree.labels) = t.counted in
@@ -91,7 +91,7 @@ module _ (protocol : Protocol) (variables : List Declaration) (limits : Limits) 
   pub count_reached : (i : ℕ) (l : Label) → item_at tree.labels i ≡ Some l → l.mark ≡ Some limit_steps → expanded_count tree.labels ≡ limits.steps
   count_reached i l at e =
       let s = settled_here protocol variables limits roots tree from i l at in
-      let r = steps_says protocol limits ways from.candidates i s.expanded_before s.so l s.gives (becomes_here protocol variables limits roots tree from i l s) e in
+      let r = steps_says protocol limits links from.candidates i s.expanded_before s.so l s.gives (becomes_here protocol variables limits roots tree from i l s) e in
       let most : expanded_count tree.labels ≤ limits.steps = steps_within in
       let first : expanded_count (take i tree.labels) ≤ expanded_count tree.labels = first_count i tree.labels in
       let count : s.expanded_before ≡ 0 + expanded_count (take i tree.labels) = s.counted in
@@ -102,7 +102,7 @@ module _ (protocol : Protocol) (variables : List Declaration) (limits : Limits) 
   reached_steps h =
       let p = place_of h.1 in
       let s = settled_here protocol variables limits roots tree from p.0 h.0 p.1 in
-      let r = steps_says protocol limits ways from.candidates p.0 s.expanded_before s.so h.0 s.gives (becomes_here protocol variables limits roots tree from p.0 h.0 s) h.2 in
+      let r = steps_says protocol limits links from.candidates p.0 s.expanded_before s.so h.0 s.gives (becomes_here protocol variables limits roots tree from p.0 h.0 s) h.2 in
       record {
         expanded = count_reached p.0 h.0 p.1 h.2;
         label = h.0;
@@ -115,7 +115,7 @@ module _ (protocol : Protocol) (variables : List Declaration) (limits : Limits) 
   reached_strands none h =
       let p = place_of h.1 in
       let s = settled_here protocol variables limits roots tree from p.0 h.0 p.1 in
-      let r = strands_says protocol limits (map way_of tree.labels) from.candidates p.0 s.expanded_before s.so h.0 s.gives (becomes_here protocol variables limits roots tree from p.0 h.0 s) h.2 in
+      let r = strands_says protocol limits (map link_of tree.labels) from.candidates p.0 s.expanded_before s.so h.0 s.gives (becomes_here protocol variables limits roots tree from p.0 h.0 s) h.2 in
       record {
         no_step_limit = λ l listed e. none (l, listed, e);
         label = h.0;

@@ -12,14 +12,14 @@ use Rattle.cp_model.specs.Derivable.{IsUnrealised}
 use Rattle.cp_model.specs.Problem.{numbers_from}
 use Rattle.cp_model.specs.Tree.{Mark, dead, seen, limit_steps, limit_strands, Label, Limits, is_expanded, expanded_count}
 use Rattle.cp_model.proofs.Numbers.{numbers_length}
-use Rattle.cp_covering.specs.Children.{Child}
+use Rattle.cp_cohort.specs.CoveringChildren.{Child}
 use Rattle.cp_expansion.specs.Expansion.{Expansion, IsExpansionOf}
 use Rattle.cp_general.specs.Generalisation.{GeneralisesTo}
-use Rattle.cp_tree.specs.Made.{Made, made_of_child, made_of_generalisation, Way}
-use Rattle.cp_tree.specs.Searched.{leaf, Becomes, is_dead, is_seen, is_realised, is_generalised, above_bound, at_limit, is_tested, AreSettled, all_settled, then_settled, children_of}
+use Rattle.cp_tree.specs.Made.{Made, made_of_child, made_of_generalisation, LabelLink}
+use Rattle.cp_tree.specs.Searched.{leaf, Becomes, is_dead, is_seen, is_realised, is_generalised, above_bound, at_limit, is_tested, AreResolved, all_settled, then_settled, children_of}
 use Rattle.cp_tree.proofs.Numbered.{numbers_append}
 
-module _ (protocol : Protocol) (limits : Limits) (ways : List Way) (marks : ℕ → Option Mark → Type 0) where
+module _ (protocol : Protocol) (limits : Limits) (links : List LabelLink) (marks : ℕ → Option Mark → Type 0) where
   -- ---- what becomes of one
 
   -- A label that is not expanded has the variables with which it was made, and no escape set.
@@ -46,7 +46,7 @@ module _ (protocol : Protocol) (limits : Limits) (ways : List Way) (marks : ℕ 
   unexpanded_of_made : (before : ℕ) (m : Made) (nodes : List Node) (mark : Option Mark) (children : List ℕ) (gives : List Made) → length children ≡ length gives → IsOfMade before m (record (leaf m nodes mark) { children = children }) gives
   unexpanded_of_made before m nodes mark children gives e = record { parent = refl; operation = refl; skeleton = refl; count = e; way = inl (record { test = refl; escape = refl; variables = refl }) }
 
-  pub of_made : (i before : ℕ) (m : Made) (l : Label) (gives : List Made) → Becomes protocol limits ways marks i before m l gives → IsOfMade before m l gives
+  pub of_made : (i before : ℕ) (m : Made) (l : Label) (gives : List Made) → Becomes protocol limits links marks i before m l gives → IsOfMade before m l gives
   of_made i before m l gives (is_dead d) = unexpanded_of_made before m [] (Some dead) [] [] refl
   of_made i before m l gives (is_seen {nodes = nodes} {n = n} d u s) = unexpanded_of_made before m nodes (Some (seen n)) [] [] refl
   of_made i before m l gives (is_realised {mark = mark} d n a y s) = unexpanded_of_made before m [] mark [] [] refl
@@ -88,7 +88,7 @@ module _ (protocol : Protocol) (limits : Limits) (ways : List Way) (marks : ℕ 
   from_generalisation : (i : ℕ) (m x : Made) → m.dead ≡ false → IsMadeOfGeneralisation i m x → IsMadeFrom i m x
   from_generalisation i m x d c = record { lives = d; parent = ap (λ (y : Made). y.parent) (sym c.is_made); made_lives = ap (λ (y : Made). y.dead) (sym c.is_made); way = inr c }
 
-  pub made_of : (i before : ℕ) (m : Made) (l : Label) (gives : List Made) (x : Made) → Becomes protocol limits ways marks i before m l gives → IsIn x gives → IsMadeFrom i m x
+  pub made_of : (i before : ℕ) (m : Made) (l : Label) (gives : List Made) (x : Made) → Becomes protocol limits links marks i before m l gives → IsIn x gives → IsMadeFrom i m x
   made_of i before m l gives x (is_dead d) p = absurd (not_in_none p)
   made_of i before m l gives x (is_seen d u s) p = absurd (not_in_none p)
   made_of i before m l gives x (is_realised d n a y s) p = absurd (not_in_none p)
@@ -111,12 +111,12 @@ module _ (protocol : Protocol) (limits : Limits) (ways : List Way) (marks : ℕ 
     pub expanded_before : ℕ
     pub counted : expanded_before ≡ before + expanded_count (take place labels)
     pub gives : List Made
-    pub becomes : Becomes protocol limits ways marks number expanded_before so l gives
+    pub becomes : Becomes protocol limits links marks number expanded_before so l gives
     pub offset : ℕ
     pub numbers : l.children ≡ numbers_from (n + offset) gives
     pub behind : (q : ℕ) (x : Made) → item_at gives q ≡ Some x → item_at given (offset + q) ≡ Some x
 
-  pub settled_at : (i before n : ℕ) (made : List Made) (labels : List Label) (given : List Made) → AreSettled protocol limits ways marks i before made labels given → children_of labels ≡ numbers_from n given
+  pub settled_at : (i before n : ℕ) (made : List Made) (labels : List Label) (given : List Made) → AreResolved protocol limits links marks i before made labels given → children_of labels ≡ numbers_from n given
       → (place : ℕ) (l : Label) → item_at labels place ≡ Some l → IsSettledAt i before n made labels given place l
   settled_at i before n made labels given all_settled e place l at = absurd (cc)
   settled_at i before n made labels given (then_settled {m = m} {l = x} {made = ms} {labels = ls} {from_this = fs} {from_others = gs} b s) e zero l at =
@@ -133,7 +133,7 @@ module _ (protocol : Protocol) (limits : Limits) (ways : List Way) (marks : ℕ 
         expanded_before = before;
         counted = omega arith;
         gives = fs;
-        becomes = subst (λ (y : Label). Becomes protocol limits ways marks i before m y fs) same b;
+        becomes = subst (λ (y : Label). Becomes protocol limits links marks i before m y fs) same b;
         offset = 0;
         numbers = ap (λ (y : Label). y.children) (sym same) ∙ first ∙ ap (λ (a : ℕ). numbers_from a fs) none;
         behind = there_first;
@@ -159,7 +159,7 @@ module _ (protocol : Protocol) (limits : Limits) (ways : List Way) (marks : ℕ 
       }
 
   -- There is a label for each that was made.
-  pub label_of_made : (i before : ℕ) (made : List Made) (labels : List Label) (given : List Made) → AreSettled protocol limits ways marks i before made labels given → (place : ℕ) (m : Made) → item_at made place ≡ Some m → (l : Label) × (item_at labels place ≡ Some l)
+  pub label_of_made : (i before : ℕ) (made : List Made) (labels : List Label) (given : List Made) → AreResolved protocol limits links marks i before made labels given → (place : ℕ) (m : Made) → item_at made place ≡ Some m → (l : Label) × (item_at labels place ≡ Some l)
   label_of_made i before made labels given all_settled place m at = absurd (cc)
   label_of_made i before made labels given (then_settled {l = x} b s) zero m at = (x, refl)
   label_of_made i before made labels given (then_settled {l = x} {made = ms} {labels = ls} {from_others = gs} b s) (suc place) m at = label_of_made (suc i) (before + is_expanded x.test) ms ls gs s place m at
@@ -176,7 +176,7 @@ module _ (protocol : Protocol) (limits : Limits) (ways : List Way) (marks : ℕ 
   from_later : (i : ℕ) (m : Made) (ms : List Made) (x : Made) → IsMadeFromOne (suc i) ms x → IsMadeFromOne i (m ∷ ms) x
   from_later i m ms x r = record { place = suc r.place; so = r.so; at_made = r.at_made; number = r.number; number_is = (let w = r.number_is in omega (arith, w)); is_made = r.is_made }
 
-  pub made_from : (i before : ℕ) (made : List Made) (labels : List Label) (given : List Made) → AreSettled protocol limits ways marks i before made labels given → (x : Made) → IsIn x given → IsMadeFromOne i made x
+  pub made_from : (i before : ℕ) (made : List Made) (labels : List Label) (given : List Made) → AreResolved protocol limits links marks i before made labels given → (x : Made) → IsIn x given → IsMadeFromOne i made x
   made_from i before made labels given all_settled x p = absurd (not_in_none p)
   made_from i before made labels given (then_settled {m = m} {l = l} {made = ms} {labels = ls} {from_this = fs} {from_others = gs} b s) x p =
       ⊎_elim

@@ -14,21 +14,21 @@ use Rattle.cp_model.specs.PointOfView.{HasDeclaredVariables, IsPointOfView}
 use Rattle.cp_model.specs.Tree.{Pattern}
 use Rattle.cp_strand.specs.Declares.{DeclaresItsVariables}
 use Rattle.cp_normal.proofs.FormSkeletons.{normal_keeps_assumptions}
-use Rattle.cp_guard.specs.Critical.{IsTest}
-use Rattle.cp_guard.specs.Guards.{Guards}
-use Rattle.cp_answers.specs.NoneLeftOut.{GoesOn, LeavesNoneOut}
-use Rattle.cp_answers.proofs.NoneLeftOut.{covering_leaves_none_out}
+use Rattle.cp_theory.specs.Critical.{IsTest}
+use Rattle.cp_theory.specs.Guards.{Guards}
+use Rattle.cp_theory.specs.NoneLeftOut.{GoesOn, IsComplete}
+use Rattle.cp_theory.proofs.NoneLeftOut.{covering_leaves_none_out}
 use Rattle.cp_roots.specs.Roots.{in_report_order}
 use Rattle.cp_roots.proofs.InReportOrder.{skeleton_listed, assumptions_listed, carries_listed, stated_listed, stands_listed, apart_listed, declared_listed}
-use Rattle.cp_covering.specs.Children.{Child}
-use Rattle.cp_covering.specs.Cohort.{Question, IsCohort}
-use Rattle.cp_covering.specs.Sound.{IsSoundChild}
-use Rattle.cp_covering.proofs.CohortCovers.{cohort_covers}
-use Rattle.cp_covering.proofs.SoundChildren.{sound_child}
-use Rattle.cp_covering.specs.GatheredLists.{terms_onto}
+use Rattle.cp_cohort.specs.CoveringChildren.{Child}
+use Rattle.cp_cohort.specs.Cohort.{GuardedTest, IsCohort}
+use Rattle.cp_cohort.specs.Sound.{IsSoundChild}
+use Rattle.cp_cohort.proofs.CohortCovers.{cohort_covers}
+use Rattle.cp_cohort.proofs.SoundChildren.{sound_child}
+use Rattle.cp_cohort.specs.GatheredLists.{terms_onto}
 use Rattle.cp_escape.specs.Escape.{IsEscape}
 use Rattle.cp_escape.proofs.EscapeGuards.{escape_guards}
-use Rattle.cp_expansion.specs.Expansion.{question_about, Expansion, IsExpansionOf}
+use Rattle.cp_expansion.specs.Expansion.{guarded_test_about, Expansion, IsExpansionOf}
 use Rattle.cp_tree.specs.Made.{Made, made_of_child}
 use Rattle.cp_tree.specs.Sound.{IsSoundMade, ExpandsSoundly}
 use Rattle.cp_expansion.proofs.TestsAreTests.{is_test}
@@ -41,7 +41,7 @@ escape_set_guards variables k n c ps declared test is =
     escape_guards k n c (terms_onto [] is.encryptions) ps (record { sent = is.sent; before = is.before; encryptions = is.encryptions; each = is.each; once = refl }) is.once variables declared test
 
 -- What is asked first of what is sound is well asked.
-pub well_asked : (protocol : Protocol) (problem : Skeleton) (m : Made) (e : Expansion) → IsSoundMade protocol problem m → (is : IsExpansionOf protocol m.variables m.skeleton e) → IsWellAsked protocol (question_about m.variables m.skeleton e.test is.escape)
+pub well_asked : (protocol : Protocol) (problem : Skeleton) (m : Made) (e : Expansion) → IsSoundMade protocol problem m → (is : IsExpansionOf protocol m.variables m.skeleton e) → IsWellAsked protocol (guarded_test_about m.variables m.skeleton e.test is.escape)
 well_asked protocol problem m e sound is =
     let test : IsTest m.skeleton e.test.node e.test.critical = is_test m.skeleton e.test.node e.test.critical is.test in
     record { skeleton = sound.skeleton; declared = sound.declared; test = test; guards = escape_set_guards m.variables m.skeleton e.test.node e.test.critical is.escape sound.declared test is.is_escape }
@@ -63,7 +63,7 @@ goes_on_listed k children b h g =
     }
 
 module _ (protocol : Protocol) (variables : List Declaration) (problem : Skeleton) (declares : (role : Role) → IsIn role protocol.roles → DeclaresItsVariables role) (own : IsPointOfView variables problem) where
-  child_is_sound : (q : Question) (children : List Child) → IsWellAsked protocol q → IsCohort protocol q children → (m : Made) → m.skeleton ≡ q.skeleton → IsSoundMade protocol problem m → (i : ℕ) (c : Child) → IsIn c children → IsSoundMade protocol problem (made_of_child i c)
+  child_is_sound : (q : GuardedTest) (children : List Child) → IsWellAsked protocol q → IsCohort protocol q children → (m : Made) → m.skeleton ≡ q.skeleton → IsSoundMade protocol problem m → (i : ℕ) (c : Child) → IsIn c children → IsSoundMade protocol problem (made_of_child i c)
   child_is_sound q children well is m same sound i c listed =
       let s : IsSoundChild protocol q c = sound_child protocol q children well.skeleton declares well.declared well.test well.guards is c listed in
       let k = s.keeps variables problem own (subst (λ (x : Skeleton). CarriesHomomorphism problem x) same sound.from_problem) in
@@ -77,7 +77,7 @@ module _ (protocol : Protocol) (variables : List Declaration) (problem : Skeleto
         nowhere = λ d. absurd (let e : false ≡ true = d in cc);
       }
 
-  none_left_out : (q : Question) (children : List Child) → IsWellAsked protocol q → IsCohort protocol q children → LeavesNoneOut protocol q.skeleton (map (λ (c : Child). c.skeleton) children)
+  none_left_out : (q : GuardedTest) (children : List Child) → IsWellAsked protocol q → IsCohort protocol q children → IsComplete protocol q.skeleton (map (λ (c : Child). c.skeleton) children)
   none_left_out q children well is =
       covering_leaves_none_out protocol q.skeleton q.node q.critical q.patterns (map (λ (d : Child). d.skeleton) children) well.skeleton well.test well.guards (cohort_covers protocol q children well.skeleton declares well.declared well.test well.guards is)
 
@@ -85,7 +85,7 @@ module _ (protocol : Protocol) (variables : List Declaration) (problem : Skeleto
   expands_soundly m e sound lives unrealised is =
       let well = well_asked protocol problem m e sound is in
       let last = last_asked protocol declares is.widened well in
-      let q : Question = question_about e.variables m.skeleton e.test e.patterns in
+      let q : GuardedTest = guarded_test_about e.variables m.skeleton e.test e.patterns in
       record {
         children = λ i c listed. child_is_sound q e.children last.0 last.1 m refl sound i c listed;
         leaves_none_out = λ b h bundle stands apart. goes_on_listed m.skeleton e.children b h (none_left_out q e.children last.0 last.1 b h bundle stands apart);

@@ -8,7 +8,7 @@ use Rattle.cp_model.specs.PointOfView.{HasDeclaredVariables}
 use Rattle.cp_model.specs.Tree.{Label, Tree, Limits}
 use Rattle.cp_roots.specs.Roots.{Root}
 use Rattle.cp_roots.specs.Sound.{AreSound}
-use Rattle.cp_tree.specs.Made.{Made, made_of_root, way_of}
+use Rattle.cp_tree.specs.Made.{Made, made_of_root, link_of}
 use Rattle.cp_tree.specs.Searched.{IsMarkedAmong, Becomes, IsTreeFrom}
 use Rattle.cp_tree.specs.Sound.{IsSoundMade, ExpandsSoundly}
 use Rattle.cp_tree.proofs.Settled.{IsOfMade, of_made, IsMadeOfChild, IsMadeOfGeneralisation, IsSettledAt, settled_at, label_of_made, made_from}
@@ -32,14 +32,14 @@ module _ (protocol : Protocol) (variables : List Declaration) (limits : Limits) 
   made = map (made_of_root variables) roots ++ from.children
 
   abbrev pub SettledHere : ℕ → Label → Type 0
-  SettledHere = IsSettledAt protocol limits (map way_of tree.labels) (IsMarkedAmong from.candidates) 0 0 (length roots) made tree.labels from.children
+  SettledHere = IsSettledAt protocol limits (map link_of tree.labels) (IsMarkedAmong from.candidates) 0 0 (length roots) made tree.labels from.children
 
   -- What became of label number i.
   pub settled_here : (i : ℕ) (l : Label) → item_at tree.labels i ≡ Some l → SettledHere i l
-  settled_here i l at = settled_at protocol limits (map way_of tree.labels) (IsMarkedAmong from.candidates) 0 0 (length roots) made tree.labels from.children from.settled from.numbers i l at
+  settled_here i l at = settled_at protocol limits (map link_of tree.labels) (IsMarkedAmong from.candidates) 0 0 (length roots) made tree.labels from.children from.settled from.numbers i l at
 
   pub label_here : (i : ℕ) (m : Made) → item_at made i ≡ Some m → (l : Label) × (item_at tree.labels i ≡ Some l)
-  label_here i m at = label_of_made protocol limits (map way_of tree.labels) (IsMarkedAmong from.candidates) 0 0 made tree.labels from.children from.settled i m at
+  label_here i m at = label_of_made protocol limits (map link_of tree.labels) (IsMarkedAmong from.candidates) 0 0 made tree.labels from.children from.settled i m at
 
   -- What was made so at a number is what the label there was made as.
   pub same_made : (i : ℕ) (l : Label) (m : Made) (s : SettledHere i l) → item_at made i ≡ Some m → s.so ≡ m
@@ -60,13 +60,13 @@ module _ (protocol : Protocol) (variables : List Declaration) (limits : Limits) 
 
   -- What the label at its number became.
   abbrev pub BecomesHere : ℕ → ℕ → Made → Label → List Made → Type 0
-  BecomesHere = Becomes protocol limits (map way_of tree.labels) (IsMarkedAmong from.candidates)
+  BecomesHere = Becomes protocol limits (map link_of tree.labels) (IsMarkedAmong from.candidates)
 
   pub becomes_here : (i : ℕ) (l : Label) (s : SettledHere i l) → BecomesHere i s.expanded_before s.so l s.gives
   becomes_here i l s = let same : s.number ≡ i = (let w = s.number_is in omega (arith, w)) in subst (λ (n : ℕ). BecomesHere n s.expanded_before s.so l s.gives) same s.becomes
 
-  pub of_made_here : (i : ℕ) (l : Label) (s : SettledHere i l) → IsOfMade protocol limits (map way_of tree.labels) (IsMarkedAmong from.candidates) s.expanded_before s.so l s.gives
-  of_made_here i l s = of_made protocol limits (map way_of tree.labels) (IsMarkedAmong from.candidates) i s.expanded_before s.so l s.gives (becomes_here i l s)
+  pub of_made_here : (i : ℕ) (l : Label) (s : SettledHere i l) → IsOfMade protocol limits (map link_of tree.labels) (IsMarkedAmong from.candidates) s.expanded_before s.so l s.gives
+  of_made_here i l s = of_made protocol limits (map link_of tree.labels) (IsMarkedAmong from.candidates) i s.expanded_before s.so l s.gives (becomes_here i l s)
 
   pub skeleton_here : (i : ℕ) (l : Label) (s : SettledHere i l) → l.skeleton ≡ s.so.skeleton
   skeleton_here i l s = (of_made_here i l s).skeleton
@@ -82,7 +82,7 @@ module _ (protocol : Protocol) (variables : List Declaration) (limits : Limits) 
 
   module _ (k : Skeleton) (sound : AreSound protocol k roots) (declared : (i : ℕ) (root : Root) → item_at roots i ≡ Some root → HasDeclaredVariables variables root.skeleton) (expands : ExpandsSoundly protocol k) where
     -- So is what is made from a label that is sound, or was made by generalising.
-    made_is_sound : (number : ℕ) (so m : Made) → so.dead ≡ false → IsMadeOfChild protocol limits (map way_of tree.labels) (IsMarkedAmong from.candidates) number so m ⊎ IsMadeOfGeneralisation protocol limits (map way_of tree.labels) (IsMarkedAmong from.candidates) number so m
+    made_is_sound : (number : ℕ) (so m : Made) → so.dead ≡ false → IsMadeOfChild protocol limits (map link_of tree.labels) (IsMarkedAmong from.candidates) number so m ⊎ IsMadeOfGeneralisation protocol limits (map link_of tree.labels) (IsMarkedAmong from.candidates) number so m
         → IsSoundLabel protocol k so → IsSoundLabel protocol k m
     made_is_sound number so m lives (inl c) s =
         inl (subst (IsSoundMade protocol k) c.is_made ((expands so c.expansion (where_unrealised protocol k so s c.unrealised) lives c.unrealised c.is_expansion).children number c.child c.listed))
@@ -97,7 +97,7 @@ module _ (protocol : Protocol) (variables : List Declaration) (limits : Limits) 
         let r = item_of_map (made_of_root variables) roots i m front in
         inl (subst (IsSoundMade protocol k) r.2 (root_is_sound protocol variables k roots sound declared i r.0 r.1)))
         (λ (listed : IsIn m from.children).
-        let f = made_from protocol limits (map way_of tree.labels) (IsMarkedAmong from.candidates) 0 0 made tree.labels from.children from.settled m listed in
+        let f = made_from protocol limits (map link_of tree.labels) (IsMarkedAmong from.candidates) 0 0 made tree.labels from.children from.settled m listed in
         let number : f.number ≡ f.place = (let w = f.number_is in omega (arith, w)) in
         let parent : m.parent ≡ Some f.place = f.is_made.parent ∙ ap Some number in
         let before : f.place < i = comes_behind f.place i m at parent in

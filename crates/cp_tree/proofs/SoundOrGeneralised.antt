@@ -7,7 +7,7 @@ use Rattle.cp_model.specs.Standing.{Standing, StandsIn, StandsApart}
 use Rattle.cp_model.specs.Derivable.{IsUnrealised}
 use Rattle.cp_model.specs.Realisation.{KeepsAssumptions, AllDerivable}
 use Rattle.cp_model.specs.PointOfView.{HasDeclaredVariables}
-use Rattle.cp_general.specs.Generalisation.{IsMostGeneral, GeneralisesTo}
+use Rattle.cp_general.specs.Generalisation.{IsMaximallyGeneral, GeneralisesTo}
 use Rattle.cp_general.proofs.SoundGeneralisations.{is_fit, is_most_general, is_skeleton, keeps_assumptions, are_declared}
 use Rattle.cp_tree.specs.Made.{Made, made_of_generalisation}
 use Rattle.cp_tree.specs.Sound.{IsSoundMade, GeneralisesSoundly}
@@ -51,7 +51,7 @@ module _ (protocol : Protocol) (k : Skeleton) where
 
   pub where_further : (m : Made) (h : Skeleton) → IsSoundLabel m → GeneralisesTo m.skeleton h → IsSoundMade protocol k m
   where_further m h (inl s) to = s
-  where_further m h (inr g) to = absurd (not_further (subst (λ (x : Made). IsMostGeneral x.skeleton) g.is_made (is_most_general g.generalises)) to)
+  where_further m h (inr g) to = absurd (not_further (subst (λ (x : Made). IsMaximallyGeneral x.skeleton) g.is_made (is_most_general g.generalises)) to)
 
   -- Where generalising is sound it is sound itself.
   pub itself_sound : GeneralisesSoundly protocol k → (m : Made) → IsSoundLabel m → IsSoundMade protocol k m

@@ -5,10 +5,10 @@ use Rattle.cp_lists.proofs.Items.{map_of_item, item_of_map, there_or_none}
 use Rattle.cp_lists.proofs.Members.{in_cases, not_in_none}
 use Rattle.cp_model.specs.Strand.{Declaration, Protocol}
 use Rattle.cp_model.specs.Tree.{Mark, shape, dead, seen, instance_of, limit_steps, limit_strands, Label, Tree, Limits}
-use Rattle.cp_answers.specs.Lawful.{IsEdgeOf}
+use Rattle.cp_theory.specs.Lawful.{IsEdgeOf}
 use Rattle.cp_roots.specs.Roots.{Root}
 use Rattle.cp_tree.specs.Candidates.{IsCandidate}
-use Rattle.cp_tree.specs.Made.{Way, way_of, seen_in_of, IsEdge, to_seen, MayPointTo}
+use Rattle.cp_tree.specs.Made.{LabelLink, link_of, seen_in_of, IsEdge, to_seen, MayPointTo}
 use Rattle.cp_tree.specs.Searched.{IsTreeFrom}
 use Rattle.cp_tree.specs.Edges.{edge_by, edges_from, edges}
 use Rattle.cp_tree.proofs.Acyclic.{no_cycle}
@@ -44,7 +44,7 @@ edge_from labels i j p =
     (λ (e : item_at labels i ≡ None). absurd (not_in_none (subst (λ (o : Option Label). IsIn j (edges_from o)) e p)))
     (there_or_none (item_at labels i))
 
--- ---- ways
+-- ---- links
 
 seen_mark : (mark : Option Mark) (n : ℕ) → seen_in_of mark ≡ Some n → mark ≡ Some (seen n)
 seen_mark None n e = absurd (cc)
@@ -60,23 +60,23 @@ first_edge i j (one_step e) = (j, e)
 first_edge i j (more_steps {y = k} e s) = (k, e)
 
 module _ (protocol : Protocol) (variables : List Declaration) (limits : Limits) (roots : List Root) (tree : Tree) (from : IsTreeFrom protocol variables limits roots tree) where
-  abbrev ways : List Way
-  ways = map way_of tree.labels
+  abbrev links : List LabelLink
+  links = map link_of tree.labels
 
-  pub parents_before : (i j : ℕ) (w : Way) → item_at ways j ≡ Some w → w.parent ≡ Some i → i < j
+  pub parents_before : (i j : ℕ) (w : LabelLink) → item_at links j ≡ Some w → w.parent ≡ Some i → i < j
   parents_before i j w at e =
-      let l = item_of_map way_of tree.labels j w at in
-      from.parents_first i j l.0 l.1 (ap (λ (v : Way). v.parent) l.2 ∙ e)
+      let l = item_of_map link_of tree.labels j w at in
+      from.parents_first i j l.0 l.1 (ap (λ (v : LabelLink). v.parent) l.2 ∙ e)
 
-  pub seen_may : (i n : ℕ) (l : Label) → item_at tree.labels i ≡ Some l → l.mark ≡ Some (seen n) → MayPointTo ways i n
+  pub seen_may : (i n : ℕ) (l : Label) → item_at tree.labels i ≡ Some l → l.mark ≡ Some (seen n) → MayPointTo links i n
   seen_may i n l at e =
       let s = settled_here protocol variables limits roots tree from i l at in
-      seen_says protocol limits ways from.candidates i s.expanded_before s.so l s.gives n (becomes_here protocol variables limits roots tree from i l s) e
+      seen_says protocol limits links from.candidates i s.expanded_before s.so l s.gives n (becomes_here protocol variables limits roots tree from i l s) e
 
-  points_where_it_may : (i n : ℕ) (w : Way) → item_at ways i ≡ Some w → w.seen_in ≡ Some n → MayPointTo ways i n
+  points_where_it_may : (i n : ℕ) (w : LabelLink) → item_at links i ≡ Some w → w.seen_in ≡ Some n → MayPointTo links i n
   points_where_it_may i n w at e =
-      let l = item_of_map way_of tree.labels i w at in
-      seen_may i n l.0 l.1 (seen_mark l.0.mark n (ap (λ (v : Way). v.seen_in) l.2 ∙ e))
+      let l = item_of_map link_of tree.labels i w at in
+      seen_may i n l.0 l.1 (seen_mark l.0.mark n (ap (λ (v : LabelLink). v.seen_in) l.2 ∙ e))
 
   -- ---- instances
 
@@ -84,29 +84,29 @@ module _ (protocol : Protocol) (variables : List Declaration) (limits : Limits) 
   no_edge_from_shape : (i n j : ℕ) (l : Label) → item_at tree.labels i ≡ Some l → l.mark ≡ Some (instance_of n) → IsEdgeOf (edges tree.labels) n j → ⊥
   no_edge_from_shape i n j l at e p =
       let s = settled_here protocol variables limits roots tree from i l at in
-      let m = instance_says protocol limits ways from.candidates i s.expanded_before s.so l s.gives n (becomes_here protocol variables limits roots tree from i l s) e in
+      let m = instance_says protocol limits links from.candidates i s.expanded_before s.so l s.gives n (becomes_here protocol variables limits roots tree from i l s) e in
       let c = item_of IsCandidate (λ (x : Label). x.skeleton) tree.labels from.candidates from.are_candidates m.of_place n m.of_label in
       let t = settled_here protocol variables limits roots tree from n c.item c.at in
       let mark : c.item.mark ≡ Some shape =
-      candidate_shape protocol limits ways from.candidates n t.expanded_before t.so tree.labels from.are_candidates m.of_place c.item t.gives (becomes_here protocol variables limits roots tree from n c.item t) c.is_so m.of_label m.least.holds.0 in
+      candidate_shape protocol limits links from.candidates n t.expanded_before t.so tree.labels from.are_candidates m.of_place c.item t.gives (becomes_here protocol variables limits roots tree from n c.item t) c.is_so m.of_label m.least.holds.0 in
       let here : IsIn j (edge_by c.item.mark c.item.children) = subst (λ (o : Option Label). IsIn j (edges_from o)) c.at p in
       let none : IsIn j (edge_by c.item.mark []) = subst (λ (ns : List ℕ). IsIn j (edge_by c.item.mark ns)) c.is_so.own here in
       not_in_none (subst (λ (o : Option Mark). IsIn j (edge_by o [])) mark none)
 
   -- An edge from which another leads on is to a child, or to a label in which one is seen.
-  edge_kept : (i j k : ℕ) → IsEdgeOf (edges tree.labels) i j → IsEdgeOf (edges tree.labels) j k → IsEdge ways i j
+  edge_kept : (i j k : ℕ) → IsEdgeOf (edges tree.labels) i j → IsEdgeOf (edges tree.labels) j k → IsEdge links i j
   edge_kept i j k e f =
       let h = edge_from tree.labels i j e in
       ⊎_elim
       (λ (c : IsIn j h.label.children). edge_to_child protocol variables limits roots tree from i j h.label (settled_here protocol variables limits roots tree from i h.label h.at) c)
       (⊎_elim
-      (λ (s : h.label.mark ≡ Some (seen j)). to_seen (map_of_item way_of tree.labels i h.label h.at) (ap seen_in_of s))
+      (λ (s : h.label.mark ≡ Some (seen j)). to_seen (map_of_item link_of tree.labels i h.label h.at) (ap seen_in_of s))
       (λ (s : h.label.mark ≡ Some (instance_of j)). absurd (no_edge_from_shape i j k h.label h.at s f)))
       h.kind
 
-  way_kept : (i j k : ℕ) → Steps (IsEdgeOf (edges tree.labels)) i j → IsEdgeOf (edges tree.labels) j k → Steps (IsEdge ways) i j
+  way_kept : (i j k : ℕ) → Steps (IsEdgeOf (edges tree.labels)) i j → IsEdgeOf (edges tree.labels) j k → Steps (IsEdge links) i j
   way_kept i j k (one_step e) f = one_step (edge_kept i j k e f)
   way_kept i j k (more_steps {y = m} e s) f = let g = first_edge m j s in more_steps (edge_kept i m g.0 e g.1) (way_kept m j k s f)
 
   pub edges_have_no_cycle : (i : ℕ) → Steps (IsEdgeOf (edges tree.labels)) i i → ⊥
-  edges_have_no_cycle i s = let g = first_edge i i s in no_cycle ways parents_before points_where_it_may i (way_kept i i g.0 s g.1)
+  edges_have_no_cycle i s = let g = first_edge i i s in no_cycle links parents_before points_where_it_may i (way_kept i i g.0 s g.1)

@@ -9,13 +9,13 @@ use Rattle.cp_model.specs.Stated.{KeepsStated}
 use Rattle.cp_model.specs.Homomorphism.{CarriesHomomorphism, Embeds}
 use Rattle.cp_model.specs.PointOfView.{HasDeclaredVariables}
 use Rattle.cp_model.specs.Tree.{shape, Label, Tree, Limits}
-use Rattle.cp_soundness.proofs.Realised.{realised}
+use Rattle.cp_theory.proofs.Realised.{realised}
 use Rattle.cp_shapes.specs.Shapes.{EmbedsAt}
 use Rattle.cp_shapes.proofs.Instances.{shapes_apart}
 use Rattle.cp_roots.specs.Roots.{Root}
 use Rattle.cp_roots.specs.Sound.{AreSound}
 use Rattle.cp_tree.specs.Candidates.{skeletons_of}
-use Rattle.cp_tree.specs.Made.{way_of}
+use Rattle.cp_tree.specs.Made.{link_of}
 use Rattle.cp_tree.specs.Searched.{IsTreeFrom}
 use Rattle.cp_tree.specs.Sound.{ExpandsSoundly, GeneralisesSoundly}
 use Rattle.cp_tree.proofs.CandidatesEmbed.{as_candidates, one_label}
@@ -30,8 +30,8 @@ module _ (protocol : Protocol) (variables : List Declaration) (limits : Limits) 
   settled : (i : ℕ) (l : Label) → item_at tree.labels i ≡ Some l → Settled i l
   settled = settled_here protocol variables limits roots tree from
 
-  is_shape : (i : ℕ) (l : Label) (s : Settled i l) → l.mark ≡ Some shape → IsMarkedShape protocol limits (map way_of tree.labels) from.candidates i s.expanded_before s.so
-  is_shape i l s e = shape_says protocol limits (map way_of tree.labels) from.candidates i s.expanded_before s.so l s.gives (becomes_here protocol variables limits roots tree from i l s) e
+  is_shape : (i : ℕ) (l : Label) (s : Settled i l) → l.mark ≡ Some shape → IsMarkedShape protocol limits (map link_of tree.labels) from.candidates i s.expanded_before s.so
+  is_shape i l s e = shape_says protocol limits (map link_of tree.labels) from.candidates i s.expanded_before s.so l s.gives (becomes_here protocol variables limits roots tree from i l s) e
 
   pub none_embeds_in_another : (i j : ℕ) (l m : Label) → item_at tree.labels i ≡ Some l → item_at tree.labels j ≡ Some m → l.mark ≡ Some shape → m.mark ≡ Some shape → i ≢ j → Embeds l.skeleton m.skeleton → ⊥
   none_embeds_in_another i j l m at au e f ne embeds =

@@ -7,8 +7,8 @@ use Rattle.cp_model.specs.Homomorphism.{IsCompleteList}
 use Rattle.cp_model.specs.Problem.{numbers_from}
 use Rattle.cp_model.specs.PointOfView.{HasDeclaredVariables}
 use Rattle.cp_model.specs.Tree.{Outcome, complete, limit_steps, limit_strands, Label, Tree, Limits, shapes_of, skeletons_left, IsTrueOf}
-use Rattle.cp_answers.specs.Lawful.{IsWithinLimits}
-use Rattle.cp_answers.proofs.LabelDescents.{left_is_complete, shapes_are_complete}
+use Rattle.cp_theory.specs.Lawful.{IsWithinLimits}
+use Rattle.cp_theory.proofs.LabelDescents.{left_is_complete, shapes_are_complete}
 use Rattle.cp_roots.specs.Roots.{Root}
 use Rattle.cp_roots.specs.Sound.{AreSound}
 use Rattle.cp_tree.specs.Searched.{IsMarked, HasOutcome, some_at_step_limit, some_at_strand_limit, none_at_limit, IsTreeFrom}

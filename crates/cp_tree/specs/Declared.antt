@@ -6,8 +6,8 @@ use Rattle.cp_model.specs.Strand.{Declaration}
 use Rattle.cp_model.specs.Problem.{IsDeclared}
 use Rattle.cp_model.specs.PointOfView.{HasDeclaredVariables}
 use Rattle.cp_model.specs.Tree.{Pattern, Test, Label}
-use Rattle.cp_guard.specs.Matches.{IsFreeIn}
-use Rattle.cp_covering.specs.Way.{DeclaresMore}
+use Rattle.cp_theory.specs.Matches.{IsFreeIn}
+use Rattle.cp_cohort.specs.Way.{DeclaresMore}
 
 -- The variables of a label begin with the problem's. Those that occur in its skeleton are among them, and so are those of its
 -- critical term, and those of its patterns that are no locals.

@@ -4,7 +4,7 @@ use Rattle.cp_lists.specs.Lists.{item_at}
 use Rattle.cp_model.specs.Tree.{Mark, shape, dead, seen, instance_of, limit_steps, limit_strands, Label}
 
 -- The label was not expanded, and no label was made from it.
-pub record IsLeaf (l : Label) : Type 0 where
+pub record IsLeafLabel (l : Label) : Type 0 where
   pub unexpanded : l.test ≡ None
   pub no_children : l.children ≡ []
 

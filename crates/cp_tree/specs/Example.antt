@@ -1,9 +1,9 @@
 -- An example: the tree of a problem in which an encryption is heard, under a key that does not originate.
 use Rattle.std.specs.Prelude.{[], ◌∷◌, false, Some, None}
 use Rattle.cp_model.specs.Tree.{by_problem, by_added_strand, shape, complete, Test, Label, Tree, Limits}
-use Rattle.cp_answers.specs.Example.{locked, locker, heard, reception, sent_before}
+use Rattle.cp_theory.specs.EncryptionExamples.{locked, locker, heard, reception, sent_before}
 use Rattle.cp_roots.specs.Roots.{Root, in_report_order}
-use Rattle.cp_covering.specs.Example.{one_child}
+use Rattle.cp_cohort.specs.Example.{one_child}
 
 -- The problem is its one root.
 abbrev pub heard_root : Root

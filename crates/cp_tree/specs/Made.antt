@@ -6,7 +6,7 @@ use Rattle.cp_model.specs.Skeleton.{Skeleton}
 use Rattle.cp_model.specs.Tree.{Operation, by_generalising, Mark, seen, Label}
 use Rattle.cp_shapes.specs.Shapes.{EmbedsAt}
 use Rattle.cp_roots.specs.Roots.{Root, in_report_order}
-use Rattle.cp_covering.specs.Children.{Child}
+use Rattle.cp_cohort.specs.CoveringChildren.{Child}
 
 -- A label as it is made: from which label, by which operation, its variables, its skeleton, and whether it is dead from the
 -- start: the problem itself, where it has no normal form.
@@ -30,7 +30,7 @@ abbrev pub made_of_generalisation : ℕ → List Declaration → Skeleton → Ma
 made_of_generalisation i variables g = record { parent = Some i; operation = by_generalising; variables = variables; skeleton = g; dead = false }
 
 -- What a label is for others that may point to it: from which it was made, in which it is seen, and its skeleton.
-pub record Way : Type 0 where
+pub record LabelLink : Type 0 where
   pub parent : Option ℕ
   pub seen_in : Option ℕ
   pub skeleton : Skeleton
@@ -39,26 +39,26 @@ abbrev pub seen_in_of : Option Mark → Option ℕ
 seen_in_of (Some (seen n)) = Some n
 seen_in_of _ = None
 
-abbrev pub way_of : Label → Way
-way_of l = record { parent = l.parent; seen_in = seen_in_of l.mark; skeleton = l.skeleton }
+abbrev pub link_of : Label → LabelLink
+link_of l = record { parent = l.parent; seen_in = seen_in_of l.mark; skeleton = l.skeleton }
 
 -- An edge: label j was made from label i, or label i is seen in label j.
-pub data IsEdge (ways : List Way) (i j : ℕ) : Type 0 where
-  to_child : {w : Way} → item_at ways j ≡ Some w → w.parent ≡ Some i → IsEdge ways i j
-  to_seen : {w : Way} → item_at ways i ≡ Some w → w.seen_in ≡ Some j → IsEdge ways i j
+pub data IsEdge (links : List LabelLink) (i j : ℕ) : Type 0 where
+  to_child : {w : LabelLink} → item_at links j ≡ Some w → w.parent ≡ Some i → IsEdge links i j
+  to_seen : {w : LabelLink} → item_at links i ≡ Some w → w.seen_in ≡ Some j → IsEdge links i j
 
 -- Label j is label i, or can be reached from it along edges.
-abbrev pub Reaches : List Way → ℕ → ℕ → Type 0
-Reaches ways i j = (i ≡ j) ⊎ Steps (IsEdge ways) i j
+abbrev pub Reaches : List LabelLink → ℕ → ℕ → Type 0
+Reaches links i j = (i ≡ j) ⊎ Steps (IsEdge links) i j
 
 -- Label m may point to label n: n comes before m, the two are isomorphic, and the label from which m was made, if there is one,
 -- neither is n nor can be reached from n along edges between labels before m.
-pub record MayPointTo (ways : List Way) (m n : ℕ) : Type 0 where
+pub record MayPointTo (links : List LabelLink) (m n : ℕ) : Type 0 where
   pub earlier : n < m
-  pub embeds : EmbedsAt (map (λ w. w.skeleton) ways) n m
-  pub embeds_back : EmbedsAt (map (λ w. w.skeleton) ways) m n
-  pub no_return : (w : Way) (p : ℕ) → item_at ways m ≡ Some w → w.parent ≡ Some p → Reaches (take m ways) n p → ⊥
+  pub embeds : EmbedsAt (map (λ w. w.skeleton) links) n m
+  pub embeds_back : EmbedsAt (map (λ w. w.skeleton) links) m n
+  pub no_return : (w : LabelLink) (p : ℕ) → item_at links m ≡ Some w → w.parent ≡ Some p → Reaches (take m links) n p → ⊥
 
 -- There is no label to which label m may point.
-abbrev pub IsNew : List Way → ℕ → Type 0
-IsNew ways m = (n : ℕ) → MayPointTo ways m n → ⊥
+abbrev pub IsNew : List LabelLink → ℕ → Type 0
+IsNew links m = (n : ℕ) → MayPointTo links m n → ⊥

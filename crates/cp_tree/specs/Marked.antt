@@ -5,17 +5,17 @@ use Rattle.cp_model.specs.Realisation.{AllDerivable}
 use Rattle.cp_model.specs.Tree.{by_generalising, seen, Label}
 use Rattle.cp_shapes.specs.Shapes.{IsLeast, IsInstanceWithin}
 use Rattle.cp_roots.specs.Roots.{Root}
-use Rattle.cp_general.specs.Generalisation.{IsMostGeneral, GeneralisesTo}
+use Rattle.cp_general.specs.Generalisation.{IsMaximallyGeneral, GeneralisesTo}
 use Rattle.cp_tree.specs.Candidates.{IsCandidate}
-use Rattle.cp_tree.specs.Made.{way_of, MayPointTo}
-use Rattle.cp_tree.specs.Edges.{IsLeaf}
+use Rattle.cp_tree.specs.Made.{link_of, MayPointTo}
+use Rattle.cp_tree.specs.Edges.{IsLeafLabel}
 
 -- Label i is a shape among the labels: realised, its own generalisation, a leaf, and an instance of no other candidate: none
 -- embeds in it, but those behind it in which it embeds too.
 pub record IsShapeAmong (labels : List Label) (i : ℕ) (l : Label) : Type 0 where
   pub realised : AllDerivable l.skeleton
-  pub most_general : IsMostGeneral l.skeleton
-  pub leaf : IsLeaf l
+  pub most_general : IsMaximallyGeneral l.skeleton
+  pub leaf : IsLeafLabel l
   pub no_instance : (j : ℕ) (m : Label) → item_at labels j ≡ Some m → IsCandidate m → IsInstanceWithin (map (λ (x : Label). x.skeleton) labels) i j → ⊥
 
 -- Root number i is dead from the start.
@@ -28,7 +28,7 @@ pub record IsDeadRoot (roots : List Root) (i : ℕ) : Type 0 where
 pub record IsSeenInLeast (labels : List Label) (i : ℕ) (l : Label) : Type 0 where
   pub number : ℕ
   pub mark : l.mark ≡ Some (seen number)
-  pub least : IsLeast (MayPointTo (map way_of labels) i) number
+  pub least : IsLeast (MayPointTo (map link_of labels) i) number
 
 -- The label is realised, and its one child is what it generalises to.
 pub record IsGeneralised (labels : List Label) (l : Label) : Type 0 where

@@ -10,9 +10,9 @@ use Rattle.cp_model.specs.Standing.{Standing, StandsIn, StandsApart}
 use Rattle.cp_model.specs.Homomorphism.{CarriesHomomorphism, Embeds}
 use Rattle.cp_model.specs.PointOfView.{HasDeclaredVariables}
 use Rattle.cp_model.specs.Stated.{KeepsStated}
-use Rattle.cp_answers.specs.NoneLeftOut.{LeavesNoneOut}
+use Rattle.cp_theory.specs.NoneLeftOut.{IsComplete}
 use Rattle.cp_roots.specs.Roots.{in_report_order}
-use Rattle.cp_covering.specs.Children.{Child}
+use Rattle.cp_cohort.specs.CoveringChildren.{Child}
 use Rattle.cp_expansion.specs.Expansion.{Expansion, IsExpansionOf}
 use Rattle.cp_general.specs.Generalisation.{GeneralisesTo}
 use Rattle.cp_tree.specs.Made.{Made, made_of_child, made_of_generalisation}
@@ -30,7 +30,7 @@ pub record IsSoundMade (protocol : Protocol) (k : Skeleton) (m : Made) : Type 0 
 -- What is made of each child of the expansion is sound, and together they leave out no standing of what was expanded.
 pub record IsSoundExpansion (protocol : Protocol) (k : Skeleton) (m : Made) (e : Expansion) : Type 0 where
   pub children : (i : ℕ) (c : Child) → IsIn c e.children → IsSoundMade protocol k (made_of_child i c)
-  pub leaves_none_out : LeavesNoneOut protocol m.skeleton (map (λ (c : Child). in_report_order c.skeleton) e.children)
+  pub leaves_none_out : IsComplete protocol m.skeleton (map (λ (c : Child). in_report_order c.skeleton) e.children)
 
 -- Each expansion of what is sound, lives and is unrealised is sound.
 abbrev pub ExpandsSoundly : Protocol → Skeleton → Type 0

@@ -2,7 +2,7 @@
 ghost use Rattle.std.specs.Prelude.{[], ◌∷◌};
 ghost use Rattle.cp_model.specs.PointOfView.{IsPointOfView};
 ghost use Rattle.cp_model.specs.Tree.{IsTrueOf};
-ghost use Rattle.cp_answers.specs.Example.{locker, protocol, heard};
+ghost use Rattle.cp_theory.specs.EncryptionExamples.{locker, protocol, heard};
 ghost use Rattle.cp_roots.specs.Sound.{AreSound};
 ghost use Rattle.cp_tree.specs.Searched.{IsTreeFrom};
 ghost use Rattle.cp_tree.specs.Example.{heard_root, heard_tree, one_step_limits};

@@ -8,7 +8,7 @@ ghost use Rattle.cp_model.specs.Standing.{Standing, StandsIn, StandsApart};
 ghost use Rattle.cp_model.specs.PointOfView.{HasDeclaredVariables, IsPointOfView};
 ghost use Rattle.cp_model.specs.Tree.{dead, limit_steps, Label, Tree, Limits, expanded_count, IsTrueOf};
 ghost use Rattle.cp_strand.specs.Declares.{DeclaresItsVariables};
-ghost use Rattle.cp_answers.specs.Lawful.{IsEdgeOf, IsLawful};
+ghost use Rattle.cp_theory.specs.Lawful.{IsEdgeOf, IsLawful};
 ghost use Rattle.cp_roots.specs.Roots.{Root};
 ghost use Rattle.cp_roots.specs.Sound.{AreSound};
 ghost use Rattle.cp_tree.specs.Searched.{IsTreeFrom};

@@ -7,9 +7,9 @@ ghost use Rattle.cp_model.specs.Homomorphism.{Embeds};
 ghost use Rattle.cp_model.specs.Tree.{shape, dead, seen, instance_of, limit_steps, limit_strands, Label, Tree, Limits, expanded_count};
 ghost use Rattle.cp_shapes.specs.Shapes.{IsLeast};
 ghost use Rattle.cp_roots.specs.Roots.{Root};
-ghost use Rattle.cp_tree.specs.Made.{way_of, MayPointTo};
+ghost use Rattle.cp_tree.specs.Made.{link_of, MayPointTo};
 ghost use Rattle.cp_tree.specs.Searched.{IsTreeFrom};
-ghost use Rattle.cp_tree.specs.Edges.{IsLeaf};
+ghost use Rattle.cp_tree.specs.Edges.{IsLeafLabel};
 ghost use Rattle.cp_tree.specs.Marked.{IsShapeAmong, IsDeadRoot, IsSeenInLeast, IsGeneralised};
 
 /// Each mark has its cause:
@@ -29,15 +29,15 @@ pub fn marks_have_causes()
     ensures dead { (protocol : Protocol) (variables : List Declaration) (limits : Limits) (roots : List Root) (tree : Tree) → IsTreeFrom protocol variables limits roots tree
         → (i : ℕ) (l : Label) → item_at tree.labels i ≡ Some l → l.mark ≡ Some dead → (l.children ≡ []) × ((l.test ≡ None → ⊥) ⊎ IsDeadRoot roots i) }
     ensures seen { (protocol : Protocol) (variables : List Declaration) (limits : Limits) (roots : List Root) (tree : Tree) → IsTreeFrom protocol variables limits roots tree
-        → (i n : ℕ) (l : Label) → item_at tree.labels i ≡ Some l → l.mark ≡ Some (seen n) → IsLeast (MayPointTo (map way_of tree.labels) i) n × IsLeaf l }
+        → (i n : ℕ) (l : Label) → item_at tree.labels i ≡ Some l → l.mark ≡ Some (seen n) → IsLeast (MayPointTo (map link_of tree.labels) i) n × IsLeafLabel l }
     ensures seen_where_it_may { (protocol : Protocol) (variables : List Declaration) (limits : Limits) (roots : List Root) (tree : Tree) → IsTreeFrom protocol variables limits roots tree
-        → (i n : ℕ) (l : Label) → item_at tree.labels i ≡ Some l → MayPointTo (map way_of tree.labels) i n → IsSeenInLeast tree.labels i l ⊎ ((l.mark ≡ Some dead) × IsDeadRoot roots i) }
+        → (i n : ℕ) (l : Label) → item_at tree.labels i ≡ Some l → MayPointTo (map link_of tree.labels) i n → IsSeenInLeast tree.labels i l ⊎ ((l.mark ≡ Some dead) × IsDeadRoot roots i) }
     ensures instance { (protocol : Protocol) (variables : List Declaration) (limits : Limits) (roots : List Root) (tree : Tree) → IsTreeFrom protocol variables limits roots tree
         → (i n : ℕ) (l : Label) → item_at tree.labels i ≡ Some l → l.mark ≡ Some (instance_of n) → (m : Label) × (item_at tree.labels n ≡ Some m) × (m.mark ≡ Some shape) × Embeds m.skeleton l.skeleton }
     ensures limit_strands { (protocol : Protocol) (variables : List Declaration) (limits : Limits) (roots : List Root) (tree : Tree) → IsTreeFrom protocol variables limits roots tree
-        → (i : ℕ) (l : Label) → item_at tree.labels i ≡ Some l → l.mark ≡ Some limit_strands → IsUnrealised l.skeleton × (limits.strands < length l.skeleton.strands) × IsLeaf l }
+        → (i : ℕ) (l : Label) → item_at tree.labels i ≡ Some l → l.mark ≡ Some limit_strands → IsUnrealised l.skeleton × (limits.strands < length l.skeleton.strands) × IsLeafLabel l }
     ensures limit_steps { (protocol : Protocol) (variables : List Declaration) (limits : Limits) (roots : List Root) (tree : Tree) → IsTreeFrom protocol variables limits roots tree
-        → (i : ℕ) (l : Label) → item_at tree.labels i ≡ Some l → l.mark ≡ Some limit_steps → IsUnrealised l.skeleton × (length l.skeleton.strands ≤ limits.strands) × (expanded_count tree.labels ≡ limits.steps) × IsLeaf l }
+        → (i : ℕ) (l : Label) → item_at tree.labels i ≡ Some l → l.mark ≡ Some limit_steps → IsUnrealised l.skeleton × (length l.skeleton.strands ≤ limits.strands) × (expanded_count tree.labels ≡ limits.steps) × IsLeafLabel l }
     ensures generalised { (protocol : Protocol) (variables : List Declaration) (limits : Limits) (roots : List Root) (tree : Tree) → IsTreeFrom protocol variables limits roots tree
         → (i : ℕ) (l : Label) → item_at tree.labels i ≡ Some l → l.mark ≡ None → l.test ≡ None → IsGeneralised tree.labels l }
 {}

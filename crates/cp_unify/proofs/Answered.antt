@@ -6,7 +6,7 @@ use Rattle.cp_model.specs.Message.{atom}
 use Rattle.cp_model.specs.Term.{Term, atom_term, atom_of_variable, variables_of_atom, variables_of, value_of_atom, value_of}
 use Rattle.cp_unify.specs.Bindings.{Binding, variable_of, MeetsBinding, variables_of_bindings}
 use Rattle.cp_unify.specs.Solved.{IsSolved, SolvesBeside, AreSolvedBut}
-use Rattle.cp_unify.specs.Unifiers.{AreAmong, IsMostGeneral, HasNoUnifier}
+use Rattle.cp_unify.specs.Unifiers.{AreVariablesAmong, IsMostGeneralUnifier, HasNoUnifier}
 use Rattle.cp_lists.proofs.Members.{not_in_none, in_append_left, in_append_right, drop_read}
 use Rattle.cp_unify.proofs.Members.{among_append}
 use Rattle.cp_unify.proofs.SolvedBindings.{factoring, idempotent_term, unified, solves, solvable}
@@ -34,9 +34,9 @@ solved_but_all s = record {
 }
 
 next_within : (s rest r : List Binding) (b : Binding) → AreSolvedBut s (b ∷ rest) r →
-    AreAmong (variables_of (atom_term (atom_of_variable (variable_of b))) ++ (variables_of (atom_term b.term) ++ variables_of_bindings r)) (variables_of_bindings s)
+    AreVariablesAmong (variables_of (atom_term (atom_of_variable (variable_of b))) ++ (variables_of (atom_term b.term) ++ variables_of_bindings r)) (variables_of_bindings s)
 next_within s rest r b h =
-    let own : AreAmong (variables_of_atom (atom_of_variable (variable_of b))) (variables_of_bindings s) =
+    let own : AreVariablesAmong (variables_of_atom (atom_of_variable (variable_of b))) (variables_of_bindings s) =
     one_variable (variable_of b).sort b.number (variables_of_bindings s) (h.rest_within (variable_of b) here) in
     among_append _ _ _ own (among_append _ _ _ (λ x i. h.rest_within x (there (in_append_left (variables_of_bindings rest) i))) h.within)
 
@@ -71,7 +71,7 @@ no_next s r i b left right h below read el er k =
 all_solved : (s r : List Binding) (i : ℕ) → AreSolvedBut s (drop i s) r → length s ≤ i → AreSolvedBut s [] r
 all_solved s r i h end = subst (λ (t : List Binding). AreSolvedBut s t r) (drop_all i s end) h
 
-pub most_general : (s r answer : List Binding) (a b : Term) → AreSolvedBut s [] r → SolvesBeside a b r answer → IsMostGeneral a b s answer
+pub most_general : (s r answer : List Binding) (a b : Term) → AreSolvedBut s [] r → SolvesBeside a b r answer → IsMostGeneralUnifier a b s answer
 most_general s r answer a b h k = record {
   sound = λ g m. let p = k.sound g m in (h.sound g p.0 tt, p.1);
   general = λ g m e. k.general g (h.general g m).0 e;
@@ -87,7 +87,7 @@ most_general s r answer a b h k = record {
 }
 
 pub some_answer : (s r : List Binding) (a b : Term) → AreSolvedBut s [] r → (answer : Option (List Binding)) →
-    MatchOption answer (HasNoUnifier a b r) (λ q. SolvesBeside a b r q) → IfSome answer (λ q. IsMostGeneral a b s q)
+    MatchOption answer (HasNoUnifier a b r) (λ q. SolvesBeside a b r q) → IfSome answer (λ q. IsMostGeneralUnifier a b s q)
 some_answer s r a b h None k = tt
 some_answer s r a b h (Some q) k = most_general s r q a b h k
 

@@ -4,7 +4,7 @@ use Rattle.std.proofs.lemmas.List.{take_all, drop_all, get_or-set_same, get_or-s
 use Rattle.std.proofs.lemmas.Bool.Decides.{eqb_tells}
 use Rattle.cp_lists.proofs.Members.{drop_read}
 use Rattle.cp_unify.specs.Bindings.{Binding}
-use Rattle.cp_unify.specs.Places.{BeginAt, ArePlaces, ArePlacesIfAny, IsBehind}
+use Rattle.cp_unify.specs.Places.{BeginAt, ArePlaces, ArePlacesIfAny, IsRestAfter}
 
 -- A table with more zeros behind it tells the same.
 pub zero_pushed : (xs : List ℕ) (n : ℕ) → get_or (xs ++ 0 ∷ []) n 0 ≡ get_or xs n 0
@@ -65,31 +65,31 @@ count_within n count [] h = omega arith
 count_within n count (b ∷ bs) (inl e) = omega arith
 count_within n count (b ∷ bs) (inr p) = omega (arith, count_within n count bs p.1)
 
-pub behind_all : (n : ℕ) (bs : List Binding) → IsBehind n bs bs
+pub behind_all : (n : ℕ) (bs : List Binding) → IsRestAfter n bs bs
 behind_all n [] = refl
 behind_all n (b ∷ bs) = inl refl
 
 dropped : (n count : ℕ) (b : Binding) (bs : List Binding) → count ≤ length bs → drop (suc (length bs) - count) (b ∷ bs) ≡ drop (length bs - count) bs
 dropped n count b bs h = ap (λ (k : ℕ). drop k (b ∷ bs)) (let e : suc (length bs) - count ≡ suc (length bs - count) = omega arith in e)
 
-pub behind_at : (n count : ℕ) (bs : List Binding) → BeginAt n count bs → IsBehind n (drop (length bs - count) bs) bs
+pub behind_at : (n count : ℕ) (bs : List Binding) → BeginAt n count bs → IsRestAfter n (drop (length bs - count) bs) bs
 behind_at n count [] h = drop_all (0 - count) [] (omega arith)
 behind_at n count (b ∷ bs) (inl e) = inl (ap (λ (k : ℕ). drop k (b ∷ bs)) (let z : suc (length bs) - count ≡ 0 = omega arith in z))
 behind_at n count (b ∷ bs) (inr p) =
-    inr (p.0, subst (λ (cs : List Binding). IsBehind n cs bs) (sym (dropped n count b bs (count_within n count bs p.1))) (behind_at n count bs p.1))
+    inr (p.0, subst (λ (cs : List Binding). IsRestAfter n cs bs) (sym (dropped n count b bs (count_within n count bs p.1))) (behind_at n count bs p.1))
 
 pub places_all : (bs : List Binding) (places : List ℕ) (start : ℕ) → ArePlaces places (drop start bs) → start ≤ 0 → ArePlaces places bs
 places_all bs places start h end = subst (λ (s : ℕ). ArePlaces places (drop s bs)) (let z : start ≡ 0 = omega arith in z) h
 
 -- The end of a list from a place on, as a slice.
 pub behind_slice : (n count start : ℕ) (own items all : List Binding) (places : List ℕ) → items ≡ own → own ≡ all → ArePlaces places own →
-    count ≡ get_or places n 0 → start ≡ length items - count → IsBehind n (take (length items - start) (drop start items)) all
+    count ≡ get_or places n 0 → start ≡ length items - count → IsRestAfter n (take (length items - start) (drop start items)) all
 behind_slice n count start own items all places e v h counted at =
     let rest : take (length items - start) (drop start items) ≡ drop start items = take_all (length items - start) (drop start items) (omega (arith, length-drop start items)) in
     let same : drop start items ≡ drop (length own - get_or places n 0) own =
     ap (λ (k : ℕ). drop k items) at ∙ ap (λ (k : ℕ). drop (length items - k) items) counted ∙ ap (λ (cs : List Binding). drop (length cs - get_or places n 0) cs) e in
-    subst (λ (bs : List Binding). IsBehind n (take (length items - start) (drop start items)) bs) v
-    (subst (λ (cs : List Binding). IsBehind n cs own) (sym (rest ∙ same)) (behind_at n (get_or places n 0) own (h n)))
+    subst (λ (bs : List Binding). IsRestAfter n (take (length items - start) (drop start items)) bs) v
+    (subst (λ (cs : List Binding). IsRestAfter n cs own) (sym (rest ∙ same)) (behind_at n (get_or places n 0) own (h n)))
 
 pub if_any : (places : List ℕ) (bs : List Binding) → ArePlaces places bs → ArePlacesIfAny places bs
 if_any [] bs h = tt

@@ -13,8 +13,8 @@ use Rattle.cp_model.proofs.LawTerms.{flag_last}
 use Rattle.cp_model.specs.Same.{same_bool}
 use Rattle.cp_term.proofs.SameTerms.{bytes_Decides, flag_Decides, purpose_Decides}
 use Rattle.cp_unify.specs.Bindings.{Binding, sort_of, variable_of, MeetsBinding}
-use Rattle.cp_unify.specs.Unifiers.{IsBefore, AreAmong}
-use Rattle.cp_unify.specs.Differences.{first_of, between, between_names, difference_of_symmetric, akey_atom, difference_of_pairs, difference_of_keys, difference_of_atoms, difference_of}
+use Rattle.cp_unify.specs.Unifiers.{IsBefore, AreVariablesAmong}
+use Rattle.cp_unify.specs.Differences.{first_difference, between, between_names, difference_of_symmetric, akey_atom, difference_of_pairs, difference_of_keys, difference_of_atoms, difference_of}
 use Rattle.cp_unify.specs.declared.difference.Difference.{Difference}
 use Rattle.cp_unify.specs.declared.difference.Difference.TheVariants.{Same, Clash, Bind}
 use Rattle.cp_lists.proofs.Members.{in_cases, only_item, in_append_left, in_append_right}
@@ -26,7 +26,7 @@ pub record Narrows (equal : Assignment → Type 0) (xs : List Variable) (b : Bin
   pub every : (g : Assignment) → equal g → MeetsBinding g b
   pub absent : IsIn (variable_of b) (variables_of_atom b.term) → ⊥
   pub left : IsIn (variable_of b) xs
-  pub right : AreAmong (variables_of_atom b.term) xs
+  pub right : AreVariablesAmong (variables_of_atom b.term) xs
   pub before : IsBefore b.term b.number
 
 -- A difference between two things over the variables xs, which are the same, or equal under some assignments.
@@ -36,7 +36,7 @@ Finding same equal xs Clash = (g : Assignment) → equal g → ⊥
 Finding same equal xs (Bind b) = Narrows equal xs b
 
 narrows_within : (equal wider : Assignment → Type 0) (xs ys : List Variable) (b : Binding) →
-    ((g : Assignment) → wider g → equal g) → AreAmong xs ys → Narrows equal xs b → Narrows wider ys b
+    ((g : Assignment) → wider g → equal g) → AreVariablesAmong xs ys → Narrows equal xs b → Narrows wider ys b
 narrows_within equal wider xs ys b e m h = record {
   every = λ g w. h.every g (e g w);
   absent = h.absent;
@@ -46,14 +46,14 @@ narrows_within equal wider xs ys b e m h = record {
 }
 
 finding_within : (same whole : Type 0) (equal wider : Assignment → Type 0) (xs ys : List Variable) (d : Difference) →
-    (same → whole) → ((g : Assignment) → wider g → equal g) → AreAmong xs ys → Finding same equal xs d → Finding whole wider ys d
+    (same → whole) → ((g : Assignment) → wider g → equal g) → AreVariablesAmong xs ys → Finding same equal xs d → Finding whole wider ys d
 finding_within same whole equal wider xs ys Same s e m h = s h
 finding_within same whole equal wider xs ys Clash s e m h = λ g w. h g (e g w)
 finding_within same whole equal wider xs ys (Bind b) s e m h = narrows_within equal wider xs ys b e m h
 
 finding_first : (one two both : Type 0) (eq1 eq2 eq : Assignment → Type 0) (xs ys zs : List Variable) (c d : Difference) →
-    (one → two → both) → ((g : Assignment) → eq g → eq1 g) → ((g : Assignment) → eq g → eq2 g) → AreAmong xs zs → AreAmong ys zs →
-    Finding one eq1 xs c → Finding two eq2 ys d → Finding both eq zs (first_of c d)
+    (one → two → both) → ((g : Assignment) → eq g → eq1 g) → ((g : Assignment) → eq g → eq2 g) → AreVariablesAmong xs zs → AreVariablesAmong ys zs →
+    Finding one eq1 xs c → Finding two eq2 ys d → Finding both eq zs (first_difference c d)
 finding_first one two both eq1 eq2 eq xs ys zs Same d s e1 e2 m1 m2 h k = finding_within two both eq2 eq ys zs d (s h) e2 m2 k
 finding_first one two both eq1 eq2 eq xs ys zs Clash d s e1 e2 m1 m2 h k = λ g w. h g (e1 g w)
 finding_first one two both eq1 eq2 eq xs ys zs (Bind b) d s e1 e2 m1 m2 h k = narrows_within eq1 eq xs zs b e1 m1 h

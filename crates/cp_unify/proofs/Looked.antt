@@ -12,7 +12,7 @@ use Rattle.cp_model.specs.declared.sort.Sort.TheVariants.{Text, Datum, Name, Ske
 use Rattle.cp_unify.specs.Atoms.{IsAtom, atom_of}
 use Rattle.cp_unify.specs.Bindings.{Binding, sort_of, variable_of, as_substitution}
 use Rattle.cp_unify.specs.Matched.{bound_term}
-use Rattle.cp_unify.specs.Places.{IsBehind}
+use Rattle.cp_unify.specs.Places.{IsRestAfter}
 use Rattle.cp_model.specs.Same.{same_atom, same_term}
 use Rattle.cp_term.proofs.SameTerms.{same_Decides, test_is}
 use Rattle.cp_unify.proofs.VariablesUnder.{bound, other}
@@ -107,14 +107,14 @@ other_number : (s : ProgramSort) (n : ℕ) (b : Binding) → (b.number ≡ n →
 other_number s n b apart e =
     apart (sym (number_of_atom (sort_of b.term) b.number) ∙ sym (ap term_number e) ∙ number_of_term s n)
 
-pub behind_applied : (s : ProgramSort) (n : ℕ) (rest bs : List Binding) → IsBehind n rest bs →
+pub behind_applied : (s : ProgramSort) (n : ℕ) (rest bs : List Binding) → IsRestAfter n rest bs →
     apply_to (as_substitution bs) (variable_term s n) ≡ apply_to (as_substitution rest) (variable_term s n)
 behind_applied s n rest [] h = ap (λ (cs : List Binding). apply_to (as_substitution cs) (variable_term s n)) (sym h)
 behind_applied s n rest (b ∷ bs) (inl e) = ap (λ (cs : List Binding). apply_to (as_substitution cs) (variable_term s n)) (sym e)
 behind_applied s n rest (b ∷ bs) (inr p) =
     not_here b bs (variable_term s n) (variable_is_term s n) (other_number s n b p.0) ∙ behind_applied s n rest bs p.1
 
-pub behind_bound : (s : ProgramSort) (n : ℕ) (rest bs : List Binding) → IsBehind n rest bs →
+pub behind_bound : (s : ProgramSort) (n : ℕ) (rest bs : List Binding) → IsRestAfter n rest bs →
     bound_term bs (variable_term s n) ≡ bound_term rest (variable_term s n)
 behind_bound s n rest [] h = ap (λ (cs : List Binding). bound_term cs (variable_term s n)) (sym h)
 behind_bound s n rest (b ∷ bs) (inl e) = ap (λ (cs : List Binding). bound_term cs (variable_term s n)) (sym e)
@@ -122,7 +122,7 @@ behind_bound s n rest (b ∷ bs) (inr p) =
     term_not_here b bs (variable_term s n) (other_number s n b p.0) ∙ behind_bound s n rest bs p.1
 
 -- What a look-up in the rest has found is of all.
-pub found_behind : {A : Type 0} (f : A → Term) (s : ProgramSort) (n : ℕ) (rest bs : List Binding) (found : Option A) → IsBehind n rest bs →
+pub found_behind : {A : Type 0} (f : A → Term) (s : ProgramSort) (n : ℕ) (rest bs : List Binding) (found : Option A) → IsRestAfter n rest bs →
     MatchOption found (apply_to (as_substitution rest) (variable_term s n) ≡ variable_term s n) (λ t. apply_to (as_substitution rest) (variable_term s n) ≡ f t) →
     MatchOption found (apply_to (as_substitution bs) (variable_term s n) ≡ variable_term s n) (λ t. apply_to (as_substitution bs) (variable_term s n) ≡ f t)
 found_behind f s n rest bs None h k = behind_applied s n rest bs h ∙ k

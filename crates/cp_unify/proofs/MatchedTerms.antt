@@ -15,7 +15,7 @@ use Rattle.cp_term.proofs.SameTerms.{bytes_Decides, flag_Decides, purpose_Decide
 use Rattle.cp_unify.specs.Bindings.{Binding, sort_of, variable_of, put_term, as_substitution}
 use Rattle.cp_unify.specs.Beside.{Agrees, MatchesBeside, NeverMatchesBeside}
 use Rattle.cp_unify.specs.Matched.{is_listed, bound_term, is_same_sort, matched_local, matched_variable, matched_names, matched_symmetric, matched_pairs, matched_keys, matched_atoms, matched}
-use Rattle.cp_unify.specs.Matches.{is_number_of, numbered, ChangesOnly, BindsOnly, IsMatch, HasNoMatch}
+use Rattle.cp_unify.specs.Matches.{is_number_of, with_numbers, ChangesOnly, BindsOnly, IsMatch, HasNoMatch}
 use Rattle.cp_term.specs.Keys.{key_as_term, IsKey}
 use Rattle.cp_term.specs.Variables.{variable_term}
 use Rattle.cp_model.specs.declared.sort.Sort.{Sort as ProgramSort}
@@ -275,21 +275,21 @@ changes_only locals (b ∷ bs) h x apart =
     other b (as_substitution bs) x (λ e. apart (subst (λ (y : Variable). IsIn y locals) (sym e) h.0)) ∙ changes_only locals bs h.1 x apart
 
 -- Where a substitution changes only locals of the pattern, it changes only variables whose numbers are listed.
-changes_listed : (p : Term) (numbers : List ℕ) (s : Substitution) → ChangesOnly (numbered numbers (variables_of p)) s → ChangesLocals (is_listed (Some numbers)) s
+changes_listed : (p : Term) (numbers : List ℕ) (s : Substitution) → ChangesOnly (with_numbers numbers (variables_of p)) s → ChangesLocals (is_listed (Some numbers)) s
 changes_listed p numbers s c x e = c x (λ i. let f : is_number_of numbers x.number ≡ true = (from_filter (λ (y : Variable). is_number_of numbers y.number) (variables_of p) i).1 in cc)
 
 changes_any : (s : Substitution) → ChangesLocals (is_listed None) s
 changes_any s x e = absurd (let f : true ≡ false = e in cc)
 
 answer_some : (p t : Term) (numbers : List ℕ) (answer : Option (List Binding)) → Outcome (is_listed (Some numbers)) (variables_of p) (IsMade p t) [] answer →
-    IfSome answer (λ r. IsMatch p t (numbered numbers (variables_of p)) r)
+    IfSome answer (λ r. IsMatch p t (with_numbers numbers (variables_of p)) r)
 answer_some p t numbers None h = tt
 answer_some p t numbers (Some q) h =
-    let only : BindsOnly (numbered numbers (variables_of p)) q = h.only (numbered numbers (variables_of p)) (λ y i. into_filter (λ (z : Variable). is_number_of numbers z.number) (variables_of p) i) tt in
-    record { binds_locals = only; matches = h.sound (as_substitution q) (changes_listed p numbers (as_substitution q) (changes_only (numbered numbers (variables_of p)) q only)) (h.own tt) }
+    let only : BindsOnly (with_numbers numbers (variables_of p)) q = h.only (with_numbers numbers (variables_of p)) (λ y i. into_filter (λ (z : Variable). is_number_of numbers z.number) (variables_of p) i) tt in
+    record { binds_locals = only; matches = h.sound (as_substitution q) (changes_listed p numbers (as_substitution q) (changes_only (with_numbers numbers (variables_of p)) q only)) (h.own tt) }
 
 answer_none : (p t : Term) (numbers : List ℕ) (answer : Option (List Binding)) → Outcome (is_listed (Some numbers)) (variables_of p) (IsMade p t) [] answer →
-    IfNone answer (HasNoMatch p t (numbered numbers (variables_of p)))
+    IfNone answer (HasNoMatch p t (with_numbers numbers (variables_of p)))
 answer_none p t numbers None h = λ s c w. h s (changes_listed p numbers s c) tt w
 answer_none p t numbers (Some q) h = tt
 
@@ -319,11 +319,11 @@ outcome_of p t locals given answer none e =
     subst (Outcome (is_listed (Some locals)) (variables_of p) (IsMade p t) []) (sym (e ∙ ap (matched (is_listed (Some locals)) p t) none)) (terms_matched (is_listed (Some locals)) p t [])
 
 pub match_some : (p t : Term) (locals : List ℕ) (given : List Binding) (answer : Option (List Binding)) → given ≡ [] → answer ≡ matched (is_listed (Some locals)) p t given →
-    IfSome answer (λ r. IsMatch p t (numbered locals (variables_of p)) r)
+    IfSome answer (λ r. IsMatch p t (with_numbers locals (variables_of p)) r)
 match_some p t locals given answer none e = answer_some p t locals answer (outcome_of p t locals given answer none e)
 
 pub match_none : (p t : Term) (locals : List ℕ) (given : List Binding) (answer : Option (List Binding)) → given ≡ [] → answer ≡ matched (is_listed (Some locals)) p t given →
-    IfNone answer (HasNoMatch p t (numbered locals (variables_of p)))
+    IfNone answer (HasNoMatch p t (with_numbers locals (variables_of p)))
 match_none p t locals given answer none e = answer_none p t locals answer (outcome_of p t locals given answer none e)
 
 -- A term of sort akey, and one that is not.

@@ -4,7 +4,7 @@ use Rattle.cp_model.specs.Message.{KeyPair, symmetric, asymmetric, key}
 use Rattle.cp_model.specs.Term.{Sort, Variable, SymmetricTerm, PairTerm, symmetric_term, asymmetric_term, AtomTerm, text_variable, datum_variable, name_variable, key_term, Term, atom_of_variable, Assignment, value_of_symmetric, value_of_half, value_of_atom, value_of, Substitution, apply_to_symmetric, apply_to_half, apply_to_atom, apply_to, after, composed}
 use Rattle.cp_model.proofs.LawTerms.{atom_after, value_after}
 use Rattle.cp_unify.specs.Bindings.{Binding, sort_of, variable_of, Meets, as_substitution}
-use Rattle.cp_unify.specs.Joined.{moved, joined}
+use Rattle.cp_unify.specs.Joined.{moved, joined_bindings}
 use Rattle.cp_unify.specs.Unifiers.{Solves, IsSolvable}
 use Rattle.cp_unify.proofs.Free.{free, same_atoms, same_terms}
 use Rattle.cp_unify.proofs.Substituted.{as_joined, value_met, atom_met}
@@ -65,10 +65,10 @@ meets_back : (g : Assignment) (r q : List Binding) → Meets g (r ++ q) → Meet
 meets_back g [] q m = m
 meets_back g (b ∷ bs) q m = meets_back g bs q m.1
 
-pub meets_joined : (g : Assignment) (r q : List Binding) → Meets g r → Meets g q → Meets g (joined r q)
+pub meets_joined : (g : Assignment) (r q : List Binding) → Meets g r → Meets g q → Meets g (joined_bindings r q)
 meets_joined g r q m n = meets_append g (map (moved q) r) q (moved_meets g r q n m) n
 
-pub joined_meets : (g : Assignment) (r q : List Binding) → Meets g (joined r q) → Meets g r × Meets g q
+pub joined_meets : (g : Assignment) (r q : List Binding) → Meets g (joined_bindings r q) → Meets g r × Meets g q
 joined_meets g r q m =
     let n : Meets g q = meets_back g (map (moved q) r) q m in
     (meets_moved g r q n (meets_front g (map (moved q) r) q m), n)
@@ -83,12 +83,12 @@ pub always_met_joined : (r : List Binding) (b : Binding) → AlwaysMet r →
     apply_to_atom (as_substitution r) b.term ≡ b.term →
     apply_to_atom (as_substitution (b ∷ [])) (atom_of_variable (variable_of b)) ≡ b.term →
     apply_to_atom (as_substitution (b ∷ [])) b.term ≡ b.term →
-    AlwaysMet (joined r (b ∷ []))
+    AlwaysMet (joined_bindings r (b ∷ []))
 always_met_joined r b met left right bound absent g =
     let q : List Binding = b ∷ [] in
     let f : Assignment = after g (as_substitution q) in
     let h : Assignment = after f (as_substitution r) in
-    let same : after g (as_substitution (joined r q)) ≡ h =
+    let same : after g (as_substitution (joined_bindings r q)) ≡ h =
     ap (λ (s : Substitution). after g s) (as_joined r q) ∙ after_composed g (as_substitution r) (as_substitution q) in
     let at_variable : value_of_atom h (atom_of_variable (variable_of b)) ≡ value_of_atom g b.term =
     atom_after f (as_substitution r) (atom_of_variable (variable_of b)) ∙ ap (value_of_atom f) left
@@ -96,8 +96,8 @@ always_met_joined r b met left right bound absent g =
     let at_term : value_of_atom h b.term ≡ value_of_atom g b.term =
     atom_after f (as_substitution r) b.term ∙ ap (value_of_atom f) right
     ∙ atom_after g (as_substitution q) b.term ∙ ap (value_of_atom g) absent in
-    let all : Meets h (joined r q) = meets_joined h r q (met f) (at_variable ∙ sym at_term, tt) in
-    subst (λ (k : Assignment). Meets k (joined r q)) (sym same) all
+    let all : Meets h (joined_bindings r q) = meets_joined h r q (met f) (at_variable ∙ sym at_term, tt) in
+    subst (λ (k : Assignment). Meets k (joined_bindings r q)) (sym same) all
 
 -- Applied twice the bindings do what they do once.
 pub idempotent_atom : (r : List Binding) → AlwaysMet r → (u : AtomTerm) → apply_to_atom (as_substitution r) (apply_to_atom (as_substitution r) u) ≡ apply_to_atom (as_substitution r) u

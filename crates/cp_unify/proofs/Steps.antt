@@ -5,8 +5,8 @@ use Rattle.cp_model.specs.Term.{Sort, text_sort, datum_sort, name_sort, skey_sor
 use Rattle.cp_model.specs.Identity.{unchanged}
 use Rattle.cp_model.proofs.LawTerms.{atom_unchanged, term_composed}
 use Rattle.cp_unify.specs.Bindings.{Binding, variable_of, Meets, put_term, as_substitution, variables_of_bindings}
-use Rattle.cp_unify.specs.Joined.{moved, joined}
-use Rattle.cp_unify.specs.Unifiers.{IsBefore, AreLaterToEarlier, AreAmong}
+use Rattle.cp_unify.specs.Joined.{moved, joined_bindings}
+use Rattle.cp_unify.specs.Unifiers.{IsBefore, AreLaterToEarlier, AreVariablesAmong}
 use Rattle.cp_unify.specs.Solved.{IsSolved, SolvesBeside}
 use Rattle.cp_unify.proofs.VariableTests.{is_variable, is_variable_tells, occurs, occurs_tells, occurs_in, occurs_not, count, fewer}
 use Rattle.cp_unify.proofs.Found.{Narrows, IsDifference, found}
@@ -19,44 +19,44 @@ use Rattle.cp_unify.proofs.SolvedBindings.{variable_kept, meets_joined, joined_m
 use Rattle.cp_unify.proofs.Substituted.{as_joined, value_met}
 
 -- What bindings give to a variable is over their variables and that one.
-gives_cases : (b : Binding) (s : Substitution) (zs : List Variable) (x : Variable) → AreAmong (variables_of_atom b.term) zs →
-    AreAmong (variables_of_atom (apply_to_atom s (atom_of_variable x))) zs →
+gives_cases : (b : Binding) (s : Substitution) (zs : List Variable) (x : Variable) → AreVariablesAmong (variables_of_atom b.term) zs →
+    AreVariablesAmong (variables_of_atom (apply_to_atom s (atom_of_variable x))) zs →
     ((is_variable x (variable_of b) ≡ true) × (x ≡ variable_of b)) ⊎ ((is_variable x (variable_of b) ≡ false) × (x ≡ variable_of b → ⊥)) →
-    AreAmong (variables_of_atom (apply_to_atom (put_term b.number b.term s) (atom_of_variable x))) zs
+    AreVariablesAmong (variables_of_atom (apply_to_atom (put_term b.number b.term s) (atom_of_variable x))) zs
 gives_cases b s zs x own rest (inl p) =
     let e : apply_to_atom (put_term b.number b.term s) (atom_of_variable x) ≡ b.term =
     ap (λ (y : Variable). apply_to_atom (put_term b.number b.term s) (atom_of_variable y)) p.1 ∙ bound b s in
-    subst (λ (u : AtomTerm). AreAmong (variables_of_atom u) zs) (sym e) own
-gives_cases b s zs x own rest (inr p) = subst (λ (u : AtomTerm). AreAmong (variables_of_atom u) zs) (sym (other b s x p.1)) rest
+    subst (λ (u : AtomTerm). AreVariablesAmong (variables_of_atom u) zs) (sym e) own
+gives_cases b s zs x own rest (inr p) = subst (λ (u : AtomTerm). AreVariablesAmong (variables_of_atom u) zs) (sym (other b s x p.1)) rest
 
-pub one_variable : (s : Sort) (n : ℕ) (zs : List Variable) → (let x : Variable = record { sort = s; number = n } in IsIn x zs → AreAmong (variables_of_atom (atom_of_variable x)) zs)
+pub one_variable : (s : Sort) (n : ℕ) (zs : List Variable) → (let x : Variable = record { sort = s; number = n } in IsIn x zs → AreVariablesAmong (variables_of_atom (atom_of_variable x)) zs)
 one_variable text_sort n zs h y i = subst (λ (z : Variable). IsIn z zs) (sym (only_item i)) h
 one_variable datum_sort n zs h y i = subst (λ (z : Variable). IsIn z zs) (sym (only_item i)) h
 one_variable name_sort n zs h y i = subst (λ (z : Variable). IsIn z zs) (sym (only_item i)) h
 one_variable skey_sort n zs h y i = subst (λ (z : Variable). IsIn z zs) (sym (only_item i)) h
 one_variable akey_sort n zs h y i = subst (λ (z : Variable). IsIn z zs) (sym (only_item i)) h
 
-as_gives : (q : List Binding) (zs : List Variable) → AreAmong (variables_of_bindings q) zs → (x : Variable) → IsIn x zs →
-    AreAmong (variables_of_atom (apply_to_atom (as_substitution q) (atom_of_variable x))) zs
+as_gives : (q : List Binding) (zs : List Variable) → AreVariablesAmong (variables_of_bindings q) zs → (x : Variable) → IsIn x zs →
+    AreVariablesAmong (variables_of_atom (apply_to_atom (as_substitution q) (atom_of_variable x))) zs
 as_gives [] zs h x i = rw atom_unchanged (one_variable x.sort x.number zs i)
 as_gives (b ∷ bs) zs h x i =
     gives_cases b (as_substitution bs) zs x (λ y j. h y (there (in_append_left (variables_of_bindings bs) j)))
     (as_gives bs zs (λ y j. h y (there (in_append_right (variables_of_atom b.term) j))) x i) (is_variable_tells x (variable_of b))
 
-pub applied_atom_among : (q : List Binding) (zs : List Variable) (u : AtomTerm) → AreAmong (variables_of_bindings q) zs → AreAmong (variables_of_atom u) zs →
-    AreAmong (variables_of_atom (apply_to_atom (as_substitution q) u)) zs
+pub applied_atom_among : (q : List Binding) (zs : List Variable) (u : AtomTerm) → AreVariablesAmong (variables_of_bindings q) zs → AreVariablesAmong (variables_of_atom u) zs →
+    AreVariablesAmong (variables_of_atom (apply_to_atom (as_substitution q) u)) zs
 applied_atom_among q zs u h k y i = given_atom (λ z. IsIn z zs) (as_substitution q) u (λ x j. as_gives q zs h x (k x j)) y i
 
-pub applied_among : (q : List Binding) (zs : List Variable) (t : Term) → AreAmong (variables_of_bindings q) zs → AreAmong (variables_of t) zs →
-    AreAmong (variables_of (apply_to (as_substitution q) t)) zs
+pub applied_among : (q : List Binding) (zs : List Variable) (t : Term) → AreVariablesAmong (variables_of_bindings q) zs → AreVariablesAmong (variables_of t) zs →
+    AreVariablesAmong (variables_of (apply_to (as_substitution q) t)) zs
 applied_among q zs t h k y i = given_term (λ z. IsIn z zs) (as_substitution q) t (λ x j. as_gives q zs h x (k x j)) y i
 
-pub joined_among : (r q : List Binding) (zs : List Variable) → AreAmong (variables_of_bindings r) zs → AreAmong (variables_of_bindings q) zs →
-    AreAmong (variables_of_bindings (joined r q)) zs
+pub joined_among : (r q : List Binding) (zs : List Variable) → AreVariablesAmong (variables_of_bindings r) zs → AreVariablesAmong (variables_of_bindings q) zs →
+    AreVariablesAmong (variables_of_bindings (joined_bindings r q)) zs
 joined_among [] q zs h k = k
 joined_among (b ∷ bs) q zs h k =
     among_cons (variable_of (moved q b)) _ zs (subst (λ (x : Variable). IsIn x zs) (sym (variable_kept q b)) (h (variable_of b) here))
-    (among_append (variables_of_atom (moved q b).term) (variables_of_bindings (joined bs q)) zs
+    (among_append (variables_of_atom (moved q b).term) (variables_of_bindings (joined_bindings bs q)) zs
     (applied_atom_among q zs b.term k (λ y j. h y (there (in_append_left (variables_of_bindings bs) j))))
     (joined_among bs q zs (λ y j. h y (there (in_append_right (variables_of_atom b.term) j))) k))
 
@@ -97,7 +97,7 @@ before_moved b (key_term (symmetric_term (ltk_term a c))) n l h = tt
 before_moved b (key_term (asymmetric_term flag (akey_variable m))) n l h = before_variable b (record { sort = akey_sort; number = m }) n l h
 before_moved b (key_term (asymmetric_term flag (pubk_term p a))) n l h = tt
 
-joined_before : (r : List Binding) (b : Binding) → AreLaterToEarlier r → IsBefore b.term b.number → AreLaterToEarlier (joined r (b ∷ []))
+joined_before : (r : List Binding) (b : Binding) → AreLaterToEarlier r → IsBefore b.term b.number → AreLaterToEarlier (joined_bindings r (b ∷ []))
 joined_before [] b h k = (k, tt)
 joined_before (c ∷ cs) b h k = (before_moved b c.term c.number h.0 k, joined_before cs b h.1 k)
 
@@ -109,14 +109,14 @@ pub record IsReducedTo (a0 b0 : Term) (r0 : List Binding) (a b : Term) (r : List
   pub general : (g : Assignment) → Meets g r0 → value_of g a0 ≡ value_of g b0 → Meets g r × (value_of g a ≡ value_of g b)
   pub leaves_left : apply_to (as_substitution r) a ≡ a
   pub leaves_right : apply_to (as_substitution r) b ≡ b
-  pub within : AreAmong (variables_of_bindings r) (variables_of a0 ++ (variables_of b0 ++ variables_of_bindings r0))
-  pub left_within : AreAmong (variables_of a) (variables_of a0 ++ (variables_of b0 ++ variables_of_bindings r0))
-  pub right_within : AreAmong (variables_of b) (variables_of a0 ++ (variables_of b0 ++ variables_of_bindings r0))
+  pub within : AreVariablesAmong (variables_of_bindings r) (variables_of a0 ++ (variables_of b0 ++ variables_of_bindings r0))
+  pub left_within : AreVariablesAmong (variables_of a) (variables_of a0 ++ (variables_of b0 ++ variables_of_bindings r0))
+  pub right_within : AreVariablesAmong (variables_of b) (variables_of a0 ++ (variables_of b0 ++ variables_of_bindings r0))
 
 pub reduced_at_first : (a0 b0 : Term) (r0 : List Binding) → IsSolved r0 → IsReducedTo a0 b0 r0 (apply_to (as_substitution r0) a0) (apply_to (as_substitution r0) b0) r0
 reduced_at_first a0 b0 r0 h =
     let zs : List Variable = variables_of a0 ++ (variables_of b0 ++ variables_of_bindings r0) in
-    let there_r : AreAmong (variables_of_bindings r0) zs = λ x i. in_append_right (variables_of a0) (in_append_right (variables_of b0) i) in
+    let there_r : AreVariablesAmong (variables_of_bindings r0) zs = λ x i. in_append_right (variables_of a0) (in_append_right (variables_of b0) i) in
     record {
       solved = h;
       sound = λ g m e. (m, sym (value_met g r0 a0 m) ∙ e ∙ value_met g r0 b0 m);
@@ -136,27 +136,27 @@ leaves_of_both r a b la lb x i =
       | inr j ↦ leaves_variables_of (as_substitution r) b lb x j
     ]
 
-leaves_after : (r q : List Binding) (a : Term) → apply_to (as_substitution r) a ≡ a → AlwaysMet (joined r q) →
-    apply_to (as_substitution (joined r q)) (apply_to (as_substitution q) a) ≡ apply_to (as_substitution q) a
+leaves_after : (r q : List Binding) (a : Term) → apply_to (as_substitution r) a ≡ a → AlwaysMet (joined_bindings r q) →
+    apply_to (as_substitution (joined_bindings r q)) (apply_to (as_substitution q) a) ≡ apply_to (as_substitution q) a
 leaves_after r q a la met =
-    let e : apply_to (as_substitution (joined r q)) a ≡ apply_to (as_substitution q) a =
+    let e : apply_to (as_substitution (joined_bindings r q)) a ≡ apply_to (as_substitution q) a =
     ap (λ (s : Substitution). apply_to s a) (as_joined r q) ∙ term_composed (as_substitution r) (as_substitution q) a ∙ ap (apply_to (as_substitution q)) la in
-    ap (apply_to (as_substitution (joined r q))) (sym e) ∙ idempotent_term (joined r q) met a ∙ e
+    ap (apply_to (as_substitution (joined_bindings r q))) (sym e) ∙ idempotent_term (joined_bindings r q) met a ∙ e
 
 abbrev Equal : Term → Term → Assignment → Type 0
 Equal a b g = value_of g a ≡ value_of g b
 
 pub reduced_further : (a0 b0 : Term) (r0 : List Binding) (a b : Term) (r : List Binding) (x : Binding) → IsReducedTo a0 b0 r0 a b r →
     Narrows (Equal a b) (variables_of a ++ variables_of b) x →
-    IsReducedTo a0 b0 r0 (apply_to (as_substitution (x ∷ [])) a) (apply_to (as_substitution (x ∷ [])) b) (joined r (x ∷ []))
+    IsReducedTo a0 b0 r0 (apply_to (as_substitution (x ∷ [])) a) (apply_to (as_substitution (x ∷ [])) b) (joined_bindings r (x ∷ []))
 reduced_further a0 b0 r0 a b r x h n =
     let q : List Binding = x ∷ [] in
     let zs : List Variable = variables_of a0 ++ (variables_of b0 ++ variables_of_bindings r0) in
     let left_alone : (y : Variable) → IsIn y (variables_of a ++ variables_of b) → Leaves (as_substitution r) y = leaves_of_both r a b h.leaves_left h.leaves_right in
-    let both : AreAmong (variables_of a ++ variables_of b) zs = among_append (variables_of a) (variables_of b) zs h.left_within h.right_within in
-    let of_x : AreAmong (variables_of_bindings q) zs =
+    let both : AreVariablesAmong (variables_of a ++ variables_of b) zs = among_append (variables_of a) (variables_of b) zs h.left_within h.right_within in
+    let of_x : AreVariablesAmong (variables_of_bindings q) zs =
     among_cons (variable_of x) _ zs (both _ n.left) (among_append (variables_of_atom x.term) [] zs (λ y i. both y (n.right y i)) (λ y i. absurd (not_in_none i))) in
-    let met : AlwaysMet (joined r q) =
+    let met : AlwaysMet (joined_bindings r q) =
     always_met_joined r x h.solved.met (left_alone (variable_of x) n.left)
     (leaves_atom (as_substitution r) x.term (λ y i. left_alone y (n.right y i)))
     (bound x unchanged) (leaves_absent x x.term n.absent) in
@@ -209,22 +209,22 @@ gone_one x absent z y i e =
 gone_from : (x : Binding) (t : Term) → (IsIn (variable_of x) (variables_of_atom x.term) → ⊥) → (y : Variable) → IsIn y (variables_of (apply_to (as_substitution (x ∷ [])) t)) → y ≡ variable_of x → ⊥
 gone_from x t absent = given_term (λ y. y ≡ variable_of x → ⊥) (as_substitution (x ∷ [])) t (λ z i y j. gone_one x absent z y j)
 
-occurs_still : (xs ys : List Variable) → AreAmong ys xs → (x : Variable) → occurs ys x ≡ true → occurs xs x ≡ true
+occurs_still : (xs ys : List Variable) → AreVariablesAmong ys xs → (x : Variable) → occurs ys x ≡ true → occurs xs x ≡ true
 occurs_still xs ys h x e =
     elim (occurs_tells ys x) [
       | inl p ↦ elim (occurs_tells xs x) [ inl q ↦ q.0 | inr q ↦ absurd (q.1 (h x p.1)) ]
       | inr p ↦ absurd (let f : true ≡ false = sym e ∙ p.0 in cc)
     ]
 
-pub fewer_unbound : (zs : List Variable) (a b : Term) (x : Binding) → AreAmong (variables_of a ++ variables_of b) zs → Narrows (Equal a b) (variables_of a ++ variables_of b) x →
+pub fewer_unbound : (zs : List Variable) (a b : Term) (x : Binding) → AreVariablesAmong (variables_of a ++ variables_of b) zs → Narrows (Equal a b) (variables_of a ++ variables_of b) x →
     unbound zs (apply_to (as_substitution (x ∷ [])) a) (apply_to (as_substitution (x ∷ [])) b) < unbound zs a b
 fewer_unbound zs a b x within n =
     let q : List Binding = x ∷ [] in
     let xs : List Variable = variables_of a ++ variables_of b in
     let ys : List Variable = variables_of (apply_to (as_substitution q) a) ++ variables_of (apply_to (as_substitution q) b) in
-    let of_x : AreAmong (variables_of_bindings q) xs =
+    let of_x : AreVariablesAmong (variables_of_bindings q) xs =
     among_cons (variable_of x) _ xs n.left (among_append (variables_of_atom x.term) [] xs n.right (λ y i. absurd (not_in_none i))) in
-    let still : AreAmong ys xs = among_append _ _ xs (applied_among q xs a of_x (among_left _ _)) (applied_among q xs b of_x (among_right (variables_of a) (variables_of b))) in
+    let still : AreVariablesAmong ys xs = among_append _ _ xs (applied_among q xs a of_x (among_left _ _)) (applied_among q xs b of_x (among_right (variables_of a) (variables_of b))) in
     let gone : IsIn (variable_of x) ys → ⊥ = λ i. elim (in_append _ _ i) [
       | inl j ↦ gone_from x a n.absent (variable_of x) j refl
       | inr j ↦ gone_from x b n.absent (variable_of x) j refl
@@ -246,7 +246,7 @@ bind_found a b x e = subst (IsDifference a b) (sym e) (found a b)
 
 pub reduced_next : (a0 b0 : Term) (r0 : List Binding) (a b : Term) (r : List Binding) (x : Binding) (q : List Binding) (a1 b1 : Term) (r1 : List Binding) →
     IsReducedTo a0 b0 r0 a b r → Bind x ≡ difference_of a b → q ≡ x ∷ [] →
-    a1 ≡ apply_to (as_substitution q) a → b1 ≡ apply_to (as_substitution q) b → r1 ≡ joined r q → IsReducedTo a0 b0 r0 a1 b1 r1
+    a1 ≡ apply_to (as_substitution q) a → b1 ≡ apply_to (as_substitution q) b → r1 ≡ joined_bindings r q → IsReducedTo a0 b0 r0 a1 b1 r1
 reduced_next a0 b0 r0 a b r x q a1 b1 r1 h e eq ea eb er = rw (ea, eb, er, eq) (reduced_further a0 b0 r0 a b r x h (bind_found a b x e))
 
 pub unbound_falls : (a0 b0 : Term) (r0 : List Binding) (a b : Term) (r : List Binding) (x : Binding) (q : List Binding) (a1 b1 : Term) →

@@ -5,7 +5,7 @@ use Rattle.cp_model.specs.Message.{KeyPair}
 use Rattle.cp_model.specs.Term.{PairTerm, KeyTerm, symmetric_term, asymmetric_term, AtomTerm, text_variable, datum_variable, name_variable, key_term, Term, atom_of_variable, Assignment, value_of_symmetric, value_of_half, value_of_atom, value_of, Substitution, apply_to_symmetric, apply_to_half, apply_to_key, apply_to_atom, apply_to, after, composed}
 use Rattle.cp_model.proofs.LawTerms.{atom_after, value_after}
 use Rattle.cp_unify.specs.Bindings.{Binding, variable_of, MeetsBinding, Meets, put, put_key, put_term, as_substitution}
-use Rattle.cp_unify.specs.Joined.{joined}
+use Rattle.cp_unify.specs.Joined.{joined_bindings}
 
 choice_ap : {V W : Type 0} (f : V → W) (b : Bool) (v w : V) → f (if b then v else w) ≡ (if b then f v else f w)
 choice_ap f true v w = refl
@@ -36,7 +36,7 @@ put_composed x (datum_variable m) s t = λ i. record (composed s t) { datums = �
 put_composed x (name_variable m) s t = λ i. record (composed s t) { names = λ n. sym (put_ap t.names x m s.names n) i }
 put_composed x (key_term k) s t = put_key_composed x k s t
 
-pub as_joined : (r q : List Binding) → as_substitution (joined r q) ≡ composed (as_substitution r) (as_substitution q)
+pub as_joined : (r q : List Binding) → as_substitution (joined_bindings r q) ≡ composed (as_substitution r) (as_substitution q)
 as_joined [] q = refl
 as_joined (b ∷ bs) q =
     ap (put_term b.number (apply_to_atom (as_substitution q) b.term)) (as_joined bs q)

@@ -8,10 +8,10 @@ use Rattle.cp_unify.specs.declared.difference.Difference.{Difference}
 use Rattle.cp_unify.specs.declared.difference.Difference.TheVariants.{Same, Clash, Bind}
 
 -- A first difference, or where it is none a second.
-abbrev pub first_of : Difference → Difference → Difference
-first_of Same d = d
-first_of Clash d = Clash
-first_of (Bind b) d = Bind b
+abbrev pub first_difference : Difference → Difference → Difference
+first_difference Same d = d
+first_difference Clash d = Clash
+first_difference (Bind b) d = Bind b
 
 -- Of two variables the later is bound, x to v or y to u.
 abbrev pub between : ℕ → AtomTerm → ℕ → AtomTerm → Difference
@@ -37,7 +37,7 @@ abbrev pub difference_of_symmetric : SymmetricTerm → SymmetricTerm → Differe
 difference_of_symmetric (skey_variable m) (skey_variable n) = between m (key_term (symmetric_term (skey_variable m))) n (key_term (symmetric_term (skey_variable n)))
 difference_of_symmetric (skey_variable m) (ltk_term a b) = Bind (record { number = m; term = key_term (symmetric_term (ltk_term a b)) })
 difference_of_symmetric (ltk_term a b) (skey_variable n) = Bind (record { number = n; term = key_term (symmetric_term (ltk_term a b)) })
-difference_of_symmetric (ltk_term a b) (ltk_term c d) = first_of (between_names a c) (between_names b d)
+difference_of_symmetric (ltk_term a b) (ltk_term c d) = first_difference (between_names a c) (between_names b d)
 
 -- Two asymmetric keys; the flags say which are inverses.
 abbrev pub difference_of_pairs : Bool → PairTerm → Bool → PairTerm → Difference
@@ -67,6 +67,6 @@ difference_of_atoms _ _ = Clash
 abbrev pub difference_of : Term → Term → Difference
 difference_of (tag_term x) (tag_term y) = if pointwise nat_eq x y then Same else Clash
 difference_of (atom_term u) (atom_term v) = difference_of_atoms u v
-difference_of (pair_term a b) (pair_term c d) = first_of (difference_of a c) (difference_of b d)
-difference_of (enc_term a k) (enc_term b j) = first_of (difference_of_keys k j) (difference_of a b)
+difference_of (pair_term a b) (pair_term c d) = first_difference (difference_of a c) (difference_of b d)
+difference_of (enc_term a k) (enc_term b j) = first_difference (difference_of_keys k j) (difference_of a b)
 difference_of _ _ = Clash

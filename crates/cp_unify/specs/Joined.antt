@@ -8,5 +8,5 @@ abbrev pub moved : List Binding → Binding → Binding
 moved q b = record { number = b.number; term = apply_to_atom (as_substitution q) b.term }
 
 -- The bindings r with their terms under q, and q.
-abbrev pub joined : List Binding → List Binding → List Binding
-joined r q = map (moved q) r ++ q
+abbrev pub joined_bindings : List Binding → List Binding → List Binding
+joined_bindings r q = map (moved q) r ++ q

@@ -10,8 +10,8 @@ abbrev pub is_number_of : List ℕ → ℕ → Bool
 is_number_of numbers m = list_any (λ n. n == m) numbers
 
 -- Those of the variables that have a number listed.
-abbrev pub numbered : List ℕ → List Variable → List Variable
-numbered numbers = filter (λ x. is_number_of numbers x.number)
+abbrev pub with_numbers : List ℕ → List Variable → List Variable
+with_numbers numbers = filter (λ x. is_number_of numbers x.number)
 
 -- The substitution changes only these variables.
 abbrev pub ChangesOnly : List Variable → Substitution → Type 0

@@ -17,6 +17,6 @@ ArePlacesIfAny [] bs = Unit {0}
 ArePlacesIfAny (count ∷ counts) bs = ArePlaces (count ∷ counts) bs
 
 -- The rest is what is left of the bindings behind some of other numbers than n.
-abbrev pub IsBehind : ℕ → List Binding → List Binding → Type 0
-IsBehind n rest [] = rest ≡ []
-IsBehind n rest (b ∷ bs) = (rest ≡ b ∷ bs) ⊎ ((b.number ≡ n → ⊥) × IsBehind n rest bs)
+abbrev pub IsRestAfter : ℕ → List Binding → List Binding → Type 0
+IsRestAfter n rest [] = rest ≡ []
+IsRestAfter n rest (b ∷ bs) = (rest ≡ b ∷ bs) ⊎ ((b.number ≡ n → ⊥) × IsRestAfter n rest bs)

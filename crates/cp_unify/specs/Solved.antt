@@ -2,7 +2,7 @@
 use Rattle.std.specs.Prelude.{◌≡◌, List, ◌++◌}
 use Rattle.cp_model.specs.Term.{Term, variables_of, Assignment, value_of, after}
 use Rattle.cp_unify.specs.Bindings.{Binding, Meets, as_substitution, variables_of_bindings}
-use Rattle.cp_unify.specs.Unifiers.{AreAmong, AreLaterToEarlier}
+use Rattle.cp_unify.specs.Unifiers.{AreVariablesAmong, AreLaterToEarlier}
 
 -- Whatever an assignment gives to the variables that are not bound, the bindings then give an assignment that meets
 -- them; and they are of later variables to earlier ones.
@@ -15,12 +15,12 @@ pub record SolvesBeside (a b : Term) (s r : List Binding) : Type 0 where
   pub sound : (g : Assignment) → Meets g r → Meets g s × (value_of g a ≡ value_of g b)
   pub general : (g : Assignment) → Meets g s → value_of g a ≡ value_of g b → Meets g r
   pub solved : IsSolved r
-  pub no_new : AreAmong (variables_of_bindings r) (variables_of a ++ (variables_of b ++ variables_of_bindings s))
+  pub no_new : AreVariablesAmong (variables_of_bindings r) (variables_of a ++ (variables_of b ++ variables_of_bindings s))
 
 -- The bindings r are solved, and solve those of s but for the rest.
 pub record AreSolvedBut (s rest r : List Binding) : Type 0 where
   pub solved : IsSolved r
   pub sound : (g : Assignment) → Meets g r → Meets g rest → Meets g s
   pub general : (g : Assignment) → Meets g s → Meets g r × Meets g rest
-  pub within : AreAmong (variables_of_bindings r) (variables_of_bindings s)
-  pub rest_within : AreAmong (variables_of_bindings rest) (variables_of_bindings s)
+  pub within : AreVariablesAmong (variables_of_bindings r) (variables_of_bindings s)
+  pub rest_within : AreVariablesAmong (variables_of_bindings rest) (variables_of_bindings s)

@@ -32,8 +32,8 @@ AreLaterToEarlier [] = Unit {0}
 AreLaterToEarlier (b ∷ bs) = IsBefore b.term b.number × AreLaterToEarlier bs
 
 -- Each of these variables is one of those.
-abbrev pub AreAmong : List Variable → List Variable → Type 0
-AreAmong xs ys = (x : Variable) → IsIn x xs → IsIn x ys
+abbrev pub AreVariablesAmong : List Variable → List Variable → Type 0
+AreVariablesAmong xs ys = (x : Variable) → IsIn x xs → IsIn x ys
 
 -- The substitution makes both sides of each binding equal.
 abbrev pub Solves : Substitution → List Binding → Type 0
@@ -50,7 +50,7 @@ pub record IsSolvable (r : List Binding) : Type 0 where
 -- equal, it also does after r. Applied as a substitution r makes a and b equal, and both sides of each binding of s,
 -- and applied twice it does what it does once. It has no variables but those of a, b and s, and binds later variables
 -- to earlier ones.
-pub record IsMostGeneral (a b : Term) (s r : List Binding) : Type 0 where
+pub record IsMostGeneralUnifier (a b : Term) (s r : List Binding) : Type 0 where
   pub sound : (g : Assignment) → Meets g r → Meets g s × (value_of g a ≡ value_of g b)
   pub general : (g : Assignment) → Meets g s → value_of g a ≡ value_of g b → Meets g r
   pub solvable : IsSolvable r
@@ -58,7 +58,7 @@ pub record IsMostGeneral (a b : Term) (s r : List Binding) : Type 0 where
   pub unifies : apply_to (as_substitution r) a ≡ apply_to (as_substitution r) b
   pub solves_given : Solves (as_substitution r) s
   pub idempotent : (t : Term) → apply_to (as_substitution r) (apply_to (as_substitution r) t) ≡ apply_to (as_substitution r) t
-  pub no_new : AreAmong (variables_of_bindings r) (variables_of a ++ (variables_of b ++ variables_of_bindings s))
+  pub no_new : AreVariablesAmong (variables_of_bindings r) (variables_of a ++ (variables_of b ++ variables_of_bindings s))
   pub later_to_earlier : AreLaterToEarlier r
 
 -- No assignment meets s and gives a and b the same value.

@@ -2,8 +2,8 @@
 ghost use Rattle.std.specs.Prelude.{◌≡◌, ◌++◌, IfOk};
 ghost use Rattle.cp_model.specs.Term.{Term as Plain, Assignment, after, value_of, apply_to};
 ghost use Rattle.cp_unify.specs.Bindings.{as_substitution, variables_of_bindings};
-ghost use Rattle.cp_unify.specs.Joined.{joined};
-ghost use Rattle.cp_unify.specs.Unifiers.{AreAmong};
+ghost use Rattle.cp_unify.specs.Joined.{joined_bindings};
+ghost use Rattle.cp_unify.specs.Unifiers.{AreVariablesAmong};
 
 use crate::binding::Binding;
 use crate::subst::Subst;
@@ -12,7 +12,7 @@ use std::alloc::{AllocError, Global};
 
 /// The bindings of the first, with their terms under the second, followed by those of the second.
 pub(crate) fn join(alloc: Global, first: &Subst, second: &Subst) -> Result<Subst, AllocError>
-    ensures { IfOk result (λ s. s ≡ joined first.now second.now) }
+    ensures { IfOk result (λ s. s ≡ joined_bindings first.now second.now) }
 {
     let mut bindings = Vec::new(alloc);
     for binding in first.bindings() {
@@ -33,7 +33,7 @@ pub fn compose(alloc: Global, first: &Subst, second: &Subst) -> Result<Subst, Al
     ensures value { IfOk result (λ s. (g : Assignment) (t : Plain)
         → value_of (after g (as_substitution s)) t
         ≡ value_of (after (after g (as_substitution second.now)) (as_substitution first.now)) t) }
-    ensures no_new { IfOk result (λ s. AreAmong (variables_of_bindings s)
+    ensures no_new { IfOk result (λ s. AreVariablesAmong (variables_of_bindings s)
         (variables_of_bindings first.now ++ variables_of_bindings second.now)) }
 {
     join(alloc, first, second)

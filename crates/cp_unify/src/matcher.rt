@@ -9,7 +9,7 @@ ghost use Rattle.cp_unify.specs.Atoms.{IsAtom, atom_of};
 ghost use Rattle.cp_unify.specs.Differences.{akey_atom};
 ghost use Rattle.cp_unify.specs.Beside.{MatchesBeside, NeverMatchesBeside};
 ghost use Rattle.cp_unify.specs.Matched.{is_listed, bound_term, matched, matched_names};
-ghost use Rattle.cp_unify.specs.Matches.{numbered, IsMatch, HasNoMatch};
+ghost use Rattle.cp_unify.specs.Matches.{with_numbers, IsMatch, HasNoMatch};
 ghost use Rattle.cp_term.specs.Spines.{HasTail};
 
 use crate::binding::Binding;
@@ -231,8 +231,8 @@ pub fn matching(
     term: &Term,
     locals: &[VarId],
 ) -> Result<Option<Subst>, AllocError>
-    ensures some { IfOk result (λ answer. IfSome answer (λ r. IsMatch pattern.now term.now (numbered locals.now (variables_of pattern.now)) r)) }
-    ensures none { IfOk result (λ answer. IfNone answer (HasNoMatch pattern.now term.now (numbered locals.now (variables_of pattern.now)))) }
+    ensures some { IfOk result (λ answer. IfSome answer (λ r. IsMatch pattern.now term.now (with_numbers locals.now (variables_of pattern.now)) r)) }
+    ensures none { IfOk result (λ answer. IfNone answer (HasNoMatch pattern.now term.now (with_numbers locals.now (variables_of pattern.now)))) }
 {
     match_beside(alloc, pattern, term, Some(locals), Subst::new(alloc))
 }

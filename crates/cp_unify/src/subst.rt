@@ -1,6 +1,6 @@
 // Substitutions.
 ghost use Rattle.std.specs.Prelude.{◌≡◌, [], ◌∷◌, IfOk, IsTrue};
-ghost use Rattle.cp_unify.specs.Places.{IsBehind};
+ghost use Rattle.cp_unify.specs.Places.{IsRestAfter};
 ghost use Rattle.cp_unify.specs.Solved.{IsSolved};
 
 use crate::binding::Binding;
@@ -78,7 +78,7 @@ impl Subst {
 
     /// The bindings from the first with this number on, or from an earlier one on.
     pub(crate) fn from_number(&self, number: usize) -> &[Binding]
-        ensures { IsBehind number result.now self.now }
+        ensures { IsRestAfter number result.now self.now }
     {
         let bindings = self.bindings.as_slice();
         if self.places.is_empty() {

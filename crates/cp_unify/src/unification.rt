@@ -2,7 +2,7 @@
 ghost use Rattle.std.specs.Prelude.{[], MatchOption, IfSome, IfNone, IfOk};
 ghost use Rattle.cp_model.specs.Term.{Term as Plain};
 ghost use Rattle.cp_unify.specs.Solved.{IsSolved, SolvesBeside, AreSolvedBut};
-ghost use Rattle.cp_unify.specs.Unifiers.{IsMostGeneral, HasNoUnifier};
+ghost use Rattle.cp_unify.specs.Unifiers.{IsMostGeneralUnifier, HasNoUnifier};
 
 use crate::composition::join;
 use crate::difference::{Difference, first_difference};
@@ -58,7 +58,7 @@ fn solved_form(alloc: Global, s: &Subst) -> Result<Option<Subst>, AllocError>
 /// A most general unifier of two terms beside a substitution, whose bindings are solved along with them as equations.
 /// `None` exactly if there is no unifier.
 pub fn unify(alloc: Global, a: &Term, b: &Term, s: &Subst) -> Result<Option<Subst>, AllocError>
-    ensures some { IfOk result (λ answer. IfSome answer (λ r. IsMostGeneral a.now b.now s.now r)) }
+    ensures some { IfOk result (λ answer. IfSome answer (λ r. IsMostGeneralUnifier a.now b.now s.now r)) }
     ensures none { IfOk result (λ answer. IfNone answer (HasNoUnifier a.now b.now s.now)) }
 {
     match solved_form(alloc, s)? {

@@ -7,7 +7,7 @@ use Rattle.clap.specs.Takes.{use_passes, walk_passes}
 use Rattle.clap.specs.Walk.{nothing_held}
 use Rattle.cp_model.specs.Tree.{Limits}
 use Rattle.cp_words.specs.Command.{Command}
-use Rattle.cp_words.specs.CommandWords.{number_of, Setting, first_setting, limits_of, limits_set, limits_behind_both, limits_behind, limits_by, name_text, command_named, command_with, command_of}
+use Rattle.cp_words.specs.CommandWords.{parsed_number, Setting, first_setting, limits_of, limits_set, limits_behind_both, limits_behind, limits_by, name_text, command_named, command_with, command_of}
 use Rattle.cp_words.specs.Parsed.{IsParsedAs}
 use Rattle.cp_words.specs.declared.command.CommandName.{CommandName}
 use Rattle.cp_words.specs.declared.command.CommandName.TheVariants.{Analyse, Shapes}
@@ -46,7 +46,7 @@ module _ (c : CommandName) where
       let first = adds_front c is.which is.text is.number [] is.front is.reads (first_fits is.which is.text) is.spelled in
       subst (λ w. Reads c nothing_held w (rows_with is.which is.text [])) (sym (is.parts ∙ append-nil is.front)) (first nothing_held refl refl)
 
-  one_by : (program : Text) (words : List Text) (o : Named) (text : Text) (k : ℕ) (l : Limits) → Reads c nothing_held words (rows_with o text []) → number_of text ≡ Some k → limits_set (setting_by o k) None ≡ Some l
+  one_by : (program : Text) (words : List Text) (o : Named) (text : Text) (k : ℕ) (l : Limits) → Reads c nothing_held words (rows_with o text []) → parsed_number text ≡ Some k → limits_set (setting_by o k) None ≡ Some l
       → IsParsed program words l
   one_by program words limit_named text k l r number set =
       let are = limits_are k 8 l set in
@@ -73,7 +73,7 @@ module _ (c : CommandName) where
 
   two_by : (program : Text) (words : List Text) (o p : Named) (n m : Text) (k j : ℕ) (l : Limits)
       → (use_passes false (rule_named p) (m ∷ []) (rows_with o n []) ≡ true → Reads c nothing_held words (rows_with p m (rows_with o n [])))
-      → number_of n ≡ Some k → number_of m ≡ Some j → limits_set (setting_by o k) (Some (setting_by p j)) ≡ Some l → IsParsed program words l
+      → parsed_number n ≡ Some k → parsed_number m ≡ Some j → limits_set (setting_by o k) (Some (setting_by p j)) ≡ Some l → IsParsed program words l
   two_by program words limit_named limit_named n m k j l reads number other set = absurd (cc)
   two_by program words bound_named bound_named n m k j l reads number other set = absurd (cc)
   two_by program words limit_named bound_named n m k j l reads number other set =

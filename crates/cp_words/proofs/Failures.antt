@@ -7,17 +7,17 @@ use Rattle.clap.specs.Words.{App, Row, Text, first_value, rows_of, subcommand_of
 use Rattle.clap.specs.declared.error.kind.ErrorKind.{ErrorKind}
 use Rattle.clap.specs.declared.error.kind.ErrorKind.TheVariants.{OutOfMemory}
 use Rattle.cp_words.specs.Command.{Command}
-use Rattle.cp_words.specs.CommandWords.{command_of, number_of}
+use Rattle.cp_words.specs.CommandWords.{command_of, parsed_number}
 use Rattle.cp_words.specs.Description.{described}
-use Rattle.cp_words.specs.Parsed.{cause_of, command_found, number_in}
+use Rattle.cp_words.specs.Parsed.{words_error_of, command_found, option_number}
 use Rattle.cp_words.specs.declared.error.WordsError.{WordsError}
 use Rattle.cp_words.specs.declared.error.WordsError.TheVariants.{Usage, Memory}
 use Rattle.cp_words.proofs.Commands.{command_parsed}
 
 pub memory_only : {T : Type 0} (r : Result T WordsError) (kind : ErrorKind) (a : App) (words : List Text) → a ≡ described → (takes a words ≡ true → kind ≡ OutOfMemory)
-    → IsErrAnd r (λ e. e ≡ cause_of kind) → IfErr r (λ e. takes described words ≡ true → e ≡ Memory)
+    → IsErrAnd r (λ e. e ≡ words_error_of kind) → IfErr r (λ e. takes described words ≡ true → e ≡ Memory)
 memory_only (Ok x) kind a words is passes cause = tt
-memory_only (Err e) kind a words is passes cause = λ t. cause ∙ ap cause_of (passes (ap (λ b. takes b words) is ∙ t))
+memory_only (Err e) kind a words is passes cause = λ t. cause ∙ ap words_error_of (passes (ap (λ b. takes b words) is ∙ t))
 
 pub failed : {X : Type 0} (r : Result X WordsError) (e : WordsError) (words : List Text) → (takes described words ≡ true → e ≡ Memory) → IsErrAnd r (λ y. y ≡ e)
     → (d : Command) → command_of words ≡ Some d → IfErr r (λ y. y ≡ Memory)
@@ -26,11 +26,11 @@ failed (Err y) e words memory is d h = is ∙ memory (command_parsed words d h).
 
 -- ---- what the parser found
 
-pub no_number : (f : Found) (name : Text) (r : Option ℕ) → None ≡ first_value f name → r ≡ None → r ≡ number_in name (rows_of f)
-no_number f name r found is = is ∙ ap (option_and_then number_of) (found ∙ first_value-rows f name)
+pub no_number : (f : Found) (name : Text) (r : Option ℕ) → None ≡ first_value f name → r ≡ None → r ≡ option_number name (rows_of f)
+no_number f name r found is = is ∙ ap (option_and_then parsed_number) (found ∙ first_value-rows f name)
 
-pub a_number : (f : Found) (name text : Text) (r : Option ℕ) → Some text ≡ first_value f name → r ≡ number_of text → r ≡ number_in name (rows_of f)
-a_number f name text r found is = is ∙ ap (option_and_then number_of) (found ∙ first_value-rows f name)
+pub a_number : (f : Found) (name text : Text) (r : Option ℕ) → Some text ≡ first_value f name → r ≡ parsed_number text → r ≡ option_number name (rows_of f)
+a_number f name text r found is = is ∙ ap (option_and_then parsed_number) (found ∙ first_value-rows f name)
 
 module _ {X : Type 0} (view : X → Command) (words : List Text) (rows : Option (Text × List Row)) (same : rows ≡ subcommand_of described words) where
   some_found : (o : Option X) → option_map view o ≡ command_found rows → (d : Command) → command_of words ≡ Some d → option_map view o ≡ Some d

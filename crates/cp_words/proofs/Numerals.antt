@@ -5,7 +5,7 @@ use Rattle.std.specs.Str.{all_ascii_digits}
 use Rattle.std.specs.Str.Parse.{IsNumeral, ParsesUnsigned, without_leading_plus, digits_value}
 use Rattle.std.proofs.lemmas.Bool.{ltb-true, lt-ltb}
 use Rattle.std.proofs.lemmas.Str.Parse.{numerals_by_value, tells_all_ascii_digits}
-use Rattle.cp_words.specs.CommandWords.{is_numeral, number_of}
+use Rattle.cp_words.specs.CommandWords.{is_numeral, parsed_number}
 
 numeral_is : (ds : List ℕ) → IsNumeral 10 ds → is_numeral ds ≡ true
 numeral_is [] h = absurd (omega (arith, h.0))
@@ -25,7 +25,7 @@ none_where true true x h = absurd (h refl refl)
 none_where true false x h = refl
 none_where false b x h = refl
 
-pub number_parsed : {E : Type 0} (t : List ℕ) (r : Result ℕ E) → ParsesUnsigned 32 10 t r → result_ok r ≡ number_of t
+pub number_parsed : {E : Type 0} (t : List ℕ) (r : Result ℕ E) → ParsesUnsigned 32 10 t r → result_ok r ≡ parsed_number t
 number_parsed t (Ok n) h =
     let ds = without_leading_plus t in
     some_where _ _ _ n (numeral_is ds h.0.0) (lt-ltb (digits_value 10 ds) (2 ^ 32) h.0.1) h.1

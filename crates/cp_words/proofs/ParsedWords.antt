@@ -7,7 +7,7 @@ use Rattle.clap.specs.Walk.{Walk, nothing_held, rows_after, with_default}
 use Rattle.clap.proofs.OnLiterals.{clap_on_literals}
 use Rattle.cp_model.specs.Tree.{Limits}
 use Rattle.cp_words.specs.Command.{Command}
-use Rattle.cp_words.specs.CommandWords.{number_of, name_text, command_named}
+use Rattle.cp_words.specs.CommandWords.{parsed_number, name_text, command_named}
 use Rattle.cp_words.specs.Parsed.{limits_in, limits_from, command_found, IsParsedAs}
 use Rattle.cp_words.specs.declared.command.CommandName.{CommandName}
 use Rattle.cp_words.specs.declared.command.CommandName.TheVariants.{Analyse, Shapes}
@@ -18,11 +18,11 @@ use Rattle.cp_words.proofs.Spelled.{not_hyphen}
 
 -- ---- one option
 
-adds_text : (c : CommandName) (o : Named) (text : Text) (k : ℕ) (rows : List Row) → number_of text ≡ Some k → use_passes false (rule_named o) (text ∷ []) rows ≡ true → Adds c rows (name_word o ∷ text ∷ []) (rows_with o text rows)
+adds_text : (c : CommandName) (o : Named) (text : Text) (k : ℕ) (rows : List Row) → parsed_number text ≡ Some k → use_passes false (rule_named o) (text ∷ []) rows ≡ true → Adds c rows (name_word o ∷ text ∷ []) (rows_with o text rows)
 adds_text c o [] k rows number fits = absurd (cc)
 adds_text c o (d ∷ ds) k rows number fits = adds_apart c o d ds rows (not_hyphen d ds k number) fits
 
-pub adds_front : (c : CommandName) (o : Named) (text : Text) (k : ℕ) (rows : List Row) (front : List Text) → number_of text ≡ Some k → use_passes false (rule_named o) (text ∷ []) rows ≡ true
+pub adds_front : (c : CommandName) (o : Named) (text : Text) (k : ℕ) (rows : List Row) (front : List Text) → parsed_number text ≡ Some k → use_passes false (rule_named o) (text ∷ []) rows ≡ true
     → (front ≡ name_word o ∷ text ∷ []) ⊎ (front ≡ (name_word o ++ 61 ∷ text) ∷ []) → Adds c rows front (rows_with o text rows)
 adds_front c o text k rows front number fits (inl is) = subst (λ f. Adds c rows f (rows_with o text rows)) (sym is) (adds_text c o text k rows number fits)
 adds_front c o text k rows front number fits (inr is) = subst (λ f. Adds c rows f (rows_with o text rows)) (sym is) (adds_attached c o text rows fits)
@@ -49,7 +49,7 @@ abbrev pub texts_of : List Row → Option Text × Option Text
 texts_of rows = (first_of (codes "limit") rows, first_of (codes "bound") rows)
 
 abbrev limits_of_texts : Option Text × Option Text → Option Limits
-limits_of_texts p = limits_from (option_and_then number_of p.0) (option_and_then number_of p.1)
+limits_of_texts p = limits_from (option_and_then parsed_number p.0) (option_and_then parsed_number p.1)
 
 -- The rows are valid once they are filled, and have these texts.
 abbrev pub HaveTexts : List Row → Text → Text → Type 0
@@ -63,7 +63,7 @@ named_back Analyse = refl
 named_back Shapes = refl
 
 pub parsed_by : (c : CommandName) (program : Text) (words : List Text) (rows : List Row) (l : Limits) (limit bound : Text) → Reads c nothing_held words rows → HaveTexts rows limit bound
-    → number_of limit ≡ Some l.steps → number_of bound ≡ Some l.strands → IsParsedAs (program ∷ name_text c ∷ words) (record { name = c; limits = l })
+    → parsed_number limit ≡ Some l.steps → parsed_number bound ≡ Some l.strands → IsParsedAs (program ∷ name_text c ∷ words) (record { name = c; limits = l })
 parsed_by c program words rows l limit bound r have steps strands =
     let limits_are : limits_in (rows_after rules [] words) ≡ Some l = ap limits_in (rows_of_words c words rows r) ∙ ap limits_of_texts have.1 ∙ ap₂ limits_from steps strands in
     record {

@@ -6,15 +6,15 @@ use Rattle.std.proofs.Math.ListN.{get_or}
 use Rattle.std.proofs.lemmas.Bool.{eqb-true, ltb-true}
 use Rattle.std.proofs.lemmas.List.Sums.{passes_at_first, split_at_first}
 use Rattle.std.proofs.lemmas.Slice.Eq.{bytes_eq-Decides}
-use Rattle.cp_words.specs.CommandWords.{number_of, Setting, limit, bound, setting_named, setting_of, is_equals_sign, name_and_value, with_words_behind, setting_from, first_setting}
+use Rattle.cp_words.specs.CommandWords.{parsed_number, Setting, limit, bound, setting_named, setting_of, is_equals_sign, name_and_value, with_words_behind, setting_from, first_setting}
 use Rattle.cp_words.proofs.Options.{Named, limit_named, bound_named, name_word}
 
 -- ---- a number begins with no hyphen
 
-hyphen_is_none : (d : ℕ) (ds : List ℕ) → d ≡ 45 → number_of (d ∷ ds) ≡ None
-hyphen_is_none d ds is = subst (λ x. number_of (x ∷ ds) ≡ None) (sym is) refl
+hyphen_is_none : (d : ℕ) (ds : List ℕ) → d ≡ 45 → parsed_number (d ∷ ds) ≡ None
+hyphen_is_none d ds is = subst (λ x. parsed_number (x ∷ ds) ≡ None) (sym is) refl
 
-pub not_hyphen : (d : ℕ) (ds : List ℕ) (k : ℕ) → number_of (d ∷ ds) ≡ Some k → (d == 45) ≡ false
+pub not_hyphen : (d : ℕ) (ds : List ℕ) (k : ℕ) → parsed_number (d ∷ ds) ≡ Some k → (d == 45) ≡ false
 not_hyphen d ds k e = go (d == 45) refl
   where
     go : (b : Bool) → (d == 45) ≡ b → (d == 45) ≡ false
@@ -32,7 +32,7 @@ pub record IsOption (name text : List ℕ) (s : Setting) : Type 0 where
   pub which : Named
   pub named : name ≡ name_word which
   pub number : ℕ
-  pub reads : number_of text ≡ Some number
+  pub reads : parsed_number text ≡ Some number
   pub same : s ≡ setting_by which number
 
 pub name_is : (name other : List ℕ) → bytes_eq name other ≡ true → name ≡ other
@@ -41,7 +41,7 @@ name_is name other e = (bytes_eq-Decides name other).0 e
 abbrev named_by : ℕ → Bool → Bool → Option Setting
 named_by k is_limit is_bound = if is_limit then Some (limit k) else if is_bound then Some (bound k) else None
 
-named_option : (name text : List ℕ) (k : ℕ) (s : Setting) → number_of text ≡ Some k → setting_named name k ≡ Some s → IsOption name text s
+named_option : (name text : List ℕ) (k : ℕ) (s : Setting) → parsed_number text ≡ Some k → setting_named name k ≡ Some s → IsOption name text s
 named_option name text k s reads e = go (bytes_eq name (codes "--limit")) (bytes_eq name (codes "--bound")) refl refl e
   where
     go : (b c : Bool) → bytes_eq name (codes "--limit") ≡ b → bytes_eq name (codes "--bound") ≡ c → named_by k b c ≡ Some s → IsOption name text s
@@ -50,9 +50,9 @@ named_option name text k s reads e = go (bytes_eq name (codes "--limit")) (bytes
     go false false p q f = absurd (cc)
 
 option_is : (name text : List ℕ) (s : Setting) → setting_of name text ≡ Some s → IsOption name text s
-option_is name text s e = go (number_of text) refl
+option_is name text s e = go (parsed_number text) refl
   where
-    go : (o : Option ℕ) → number_of text ≡ o → IsOption name text s
+    go : (o : Option ℕ) → parsed_number text ≡ o → IsOption name text s
     go None p = let bad : None ≡ Some s = sym (ap (option_and_then (setting_named name)) p) ∙ e in absurd (cc)
     go (Some k) p = named_option name text k s p (sym (ap (option_and_then (setting_named name)) p) ∙ e)
 
@@ -64,7 +64,7 @@ pub record IsSpelled (words : List (List ℕ)) (s : Setting) (rest : List (List 
   pub front : List (List ℕ)
   pub which : Named
   pub number : ℕ
-  pub reads : number_of text ≡ Some number
+  pub reads : parsed_number text ≡ Some number
   pub same : s ≡ setting_by which number
   pub parts : words ≡ front ++ rest
   pub spelled : (front ≡ name_word which ∷ text ∷ []) ⊎ (front ≡ (name_word which ++ 61 ∷ text) ∷ [])

@@ -16,8 +16,8 @@ is_numeral [] = false
 is_numeral (d ∷ ds) = all_ascii_digits (d ∷ ds)
 
 -- The number that a text is read as: a numeral below 2 ^ 32, behind a plus or not.
-abbrev pub number_of : List ℕ → Option ℕ
-number_of t =
+abbrev pub parsed_number : List ℕ → Option ℕ
+parsed_number t =
     let digits = without_leading_plus t in
     if is_numeral digits && nat_lt (digits_value 10 digits) (2 ^ 32) then Some (digits_value 10 digits) else None
 
@@ -35,7 +35,7 @@ setting_named name n =
 
 -- the option with this name and this text as its value
 abbrev pub setting_of : List ℕ → List ℕ → Option Setting
-setting_of name value = option_and_then (setting_named name) (number_of value)
+setting_of name value = option_and_then (setting_named name) (parsed_number value)
 
 abbrev pub is_equals_sign : ℕ → Bool
 is_equals_sign b = b == 61

@@ -5,27 +5,27 @@ use Rattle.clap.specs.declared.error.kind.ErrorKind.{ErrorKind}
 use Rattle.clap.specs.declared.error.kind.ErrorKind.TheVariants.{OutOfMemory}
 use Rattle.cp_model.specs.Tree.{Limits}
 use Rattle.cp_words.specs.Command.{Command}
-use Rattle.cp_words.specs.CommandWords.{number_of, command_named}
+use Rattle.cp_words.specs.CommandWords.{parsed_number, command_named}
 use Rattle.cp_words.specs.Description.{described}
 use Rattle.cp_words.specs.declared.command.CommandName.{CommandName}
 use Rattle.cp_words.specs.declared.error.WordsError.{WordsError}
 use Rattle.cp_words.specs.declared.error.WordsError.TheVariants.{Usage, Memory}
 
 -- The parser fails for want of memory, or for the words.
-abbrev pub cause_of : ErrorKind → WordsError
-cause_of OutOfMemory = Memory
-cause_of _ = Usage
+abbrev pub words_error_of : ErrorKind → WordsError
+words_error_of OutOfMemory = Memory
+words_error_of _ = Usage
 
 -- the number that stands for an option
-abbrev pub number_in : Text → List Row → Option ℕ
-number_in name rows = option_and_then number_of (first_of name rows)
+abbrev pub option_number : Text → List Row → Option ℕ
+option_number name rows = option_and_then parsed_number (first_of name rows)
 
 abbrev pub limits_from : Option ℕ → Option ℕ → Option Limits
 limits_from (Some steps) (Some strands) = Some (record { steps = steps; strands = strands })
 limits_from _ _ = None
 
 abbrev pub limits_in : List Row → Option Limits
-limits_in rows = limits_from (number_in (codes "limit") rows) (number_in (codes "bound") rows)
+limits_in rows = limits_from (option_number (codes "limit") rows) (option_number (codes "bound") rows)
 
 -- the command of this name, with the limits that stand behind it
 abbrev pub command_in : List Row → CommandName → Option Command

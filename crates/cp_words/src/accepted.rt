@@ -1,6 +1,6 @@
 // The words that are a command.
 ghost use Rattle.std.specs.Prelude.{◌≡◌, is_some, map, option_map, string_bytes};
-ghost use Rattle.cp_words.specs.CommandWords.{number_of, setting_of, name_and_value, first_setting, limits_of, limits_set, limits_behind, limits_by, command_named, command_of};
+ghost use Rattle.cp_words.specs.CommandWords.{parsed_number, setting_of, name_and_value, first_setting, limits_of, limits_set, limits_behind, limits_by, command_named, command_of};
 ghost use Rattle.cp_words.specs.Settings.{setting_view, command_view};
 ghost use Rattle.cp_skel.specs.Trees.{limits_view};
 
@@ -24,7 +24,7 @@ enum Setting {
 
 // The number that a text is read as.
 pub(crate) fn number(text: &str) -> Option<u32>
-    ensures { result ≡ number_of text.now }
+    ensures { result ≡ parsed_number text.now }
 {
     text.parse().ok()
 }

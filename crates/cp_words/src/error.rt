@@ -1,7 +1,7 @@
 // Why words give no command.
 ghost use Rattle.std.specs.Prelude.{◌≡◌};
 ghost use Rattle.clap.specs.Words.{kind_of};
-ghost use Rattle.cp_words.specs.Parsed.{cause_of};
+ghost use Rattle.cp_words.specs.Parsed.{words_error_of};
 ghost use Rattle.cp_words.specs.declared.error.WordsError.TheVariants.{Memory};
 
 use clap::error::ErrorKind;
@@ -28,7 +28,7 @@ impl From<AllocError> for WordsError {
 }
 
 impl From<clap::Error> for WordsError {
-    ghost from_gives = { λ error e. e ≡ cause_of (kind_of error) };
+    ghost from_gives = { λ error e. e ≡ words_error_of (kind_of error) };
 
     fn from(error: clap::Error) -> WordsError {
         match error.kind() {

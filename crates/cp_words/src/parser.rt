@@ -5,7 +5,7 @@ ghost use Rattle.cp_skel.specs.Trees.{limits_view};
 ghost use Rattle.cp_words.specs.Command.{Command as CommandData};
 ghost use Rattle.cp_words.specs.CommandWords.{command_of};
 ghost use Rattle.cp_words.specs.Description.{described, described_as};
-ghost use Rattle.cp_words.specs.Parsed.{command_found, limits_in, number_in};
+ghost use Rattle.cp_words.specs.Parsed.{command_found, limits_in, option_number};
 ghost use Rattle.cp_words.specs.Settings.{command_view};
 ghost use Rattle.cp_words.specs.declared.error.WordsError.TheVariants.{Memory};
 
@@ -45,7 +45,7 @@ fn matches_in<'a>(alloc: Global, words: &'a [String]) -> Result<ArgMatches<'a>, 
 
 // The number that an option has.
 fn number_in(options: &ArgMatches<'_>, name: &str) -> Option<u32>
-    ensures { result ≡ number_in name.now (rows_of (found_of options.now)) }
+    ensures { result ≡ option_number name.now (rows_of (found_of options.now)) }
 {
     number(options.get_str(name)?)
 }

@@ -10,10 +10,10 @@ use Rattle.cp_sexpr.specs.declared.form.Form as form
 use Rattle.cp_language.specs.Input.{Entry, faults_of, input_of}
 use Rattle.cp_language.specs.StatedInput.{IsInput}
 use Rattle.cp_language.specs.Problems.{Problem}
-use Rattle.cp_load.specs.Inputs.{problem_view, entries_view, entries_of}
+use Rattle.cp_load.specs.Inputs.{problem_view, entries_view, input_entries}
 use Rattle.cp_load.specs.declared.input.Problem.{Problem as ProgramProblem}
 use Rattle.cp_load.specs.declared.input.Input.{Input}
-use Rattle.cp_wellformed.proofs.Problems as wellformed
+use Rattle.cp_language.proofs.Problems as wellformed
 use Rattle.cp_roots.specs.Over.{IsOver}
 
 -- A problem is a point-of-view skeleton over its protocol.
@@ -38,7 +38,7 @@ of_entry fs e p none listed is = record {
 }
 
 -- The problem at a place of an input that was loaded.
-pub problem_at : (input : Input) (fs : List form.Form) (ps : List (Option ProgramProblem)) (i : ℕ) (o : Option ProgramProblem) (p : ProgramProblem) → IsInput (views fs) (Ok (entries_of input)) → input.forms.now ≡ fs → length input.problems.items ≡ length fs
+pub problem_at : (input : Input) (fs : List form.Form) (ps : List (Option ProgramProblem)) (i : ℕ) (o : Option ProgramProblem) (p : ProgramProblem) → IsInput (views fs) (Ok (input_entries input)) → input.forms.now ≡ fs → length input.problems.items ≡ length fs
     → ps ≡ input.problems.items → i < length ps → o ≡ get_or ps i o → o ≡ Some p → IsSearchable (problem_view p)
 problem_at input fs ps i o p loaded same counted problems lt is some =
     let counts : length input.problems.items ≡ length (map view input.forms.now) = counted ∙ ap length (sym same) ∙ sym (length-map input.forms.now view) in

@@ -1,11 +1,11 @@
 // The terms of two labels, place by place.
-use cp_skel::{Event, Occurrence, TreeNode};
+use cp_skel::{Event, LocatedEvent, TreeNode};
 use cp_term::{Pattern, Term};
 use cp_unify::{Subst, matching_beside};
 use std::alloc::{AllocError, Global};
 
 /// Appends the messages at the nodes of a skeleton.
-fn add_messages(occurrences: &[Occurrence], terms: &mut Vec<Term>) -> Result<(), AllocError> {
+fn add_messages(occurrences: &[LocatedEvent], terms: &mut Vec<Term>) -> Result<(), AllocError> {
     for occurrence in occurrences {
         match &occurrence.event {
             Event::Send(message) | Event::Receive(message) => terms.push(message.copy()?)?,

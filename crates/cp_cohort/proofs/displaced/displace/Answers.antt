@@ -5,13 +5,13 @@ use Rattle.cp_lists.proofs.Mapped.{length_of}
 use Rattle.cp_model.specs.Problem.{numbers_from}
 use Rattle.cp_model.specs.Skeleton.{SkeletonStrand}
 use Rattle.cp_strand.specs.View.{strand_view}
-use Rattle.cp_covering.specs.Cohort.{DisplacesStrand}
-use Rattle.cp_cohort.specs.Views.{question_view}
+use Rattle.cp_cohort.specs.Cohort.{DisplacesStrand}
+use Rattle.cp_cohort.specs.Views.{guarded_test_view}
 use Rattle.cp_cohort.proofs.ChildLists.{puts_first, puts_next, puts_last, number_there, numbers_past}
 use Rattle.cp_cohort.proofs.displaced.displace.Goals as goal
 
 pub loop-number-init : goal.loop-number-init
-loop-number-init c = puts_first (DisplacesStrand (question_view c.args.question.now)) (numbers_from 0 (question_view c.args.question.now).skeleton.strands) c.args.children.now.items
+loop-number-init c = puts_first (DisplacesStrand (guarded_test_view c.args.guarded_test.now)) (numbers_from 0 (guarded_test_view c.args.guarded_test.now).skeleton.strands) c.args.children.now.items
 
 pub displace_strand-requires : goal.displace_strand-requires
 displace_strand-requires c = record {
@@ -23,14 +23,14 @@ displace_strand-requires c = record {
 
 pub loop-number-preserved : goal.loop-number-preserved
 loop-number-preserved c =
-    let q = question_view c.args.question.now in
+    let q = guarded_test_view c.args.guarded_test.now in
     let same : length c.strands-strand-items.result.now ≡ length q.skeleton.strands = length_of strand_view c.strands-strand-items.result.now q.skeleton.strands (ap (map strand_view) c.strands-strand-items.ensures) in
     let lt : c.loop-number.number < length q.skeleton.strands = omega (arith, same, c.loop-number-test.true) in
     puts_next (DisplacesStrand q) (numbers_from 0 q.skeleton.strands) c.loop-number.number c.loop-number.number (number_there q.skeleton.strands c.loop-number.number lt) _ _ _ c.loop-number.invariant c.in_ok-displace_strand.ensures
 
 pub returns : goal.returns
 returns c =
-    let q = question_view c.args.question.now in
+    let q = guarded_test_view c.args.guarded_test.now in
     let same : length c.strands-strand-items.result.now ≡ length q.skeleton.strands = length_of strand_view c.strands-strand-items.result.now q.skeleton.strands (ap (map strand_view) c.strands-strand-items.ensures) in
     let past : length q.skeleton.strands ≤ c.loop-number.number = omega (arith, same, c.loop-number-test.false) in
     puts_last (DisplacesStrand q) (numbers_from 0 q.skeleton.strands) c.loop-number.number (numbers_past q.skeleton.strands c.loop-number.number past) _ _ c.loop-number.invariant

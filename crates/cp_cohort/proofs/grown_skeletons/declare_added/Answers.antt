@@ -1,6 +1,6 @@
 use Rattle.std.proofs.Common.{map}
 use Rattle.cp_model.specs.Strand.{variables_of_trace}
-use Rattle.cp_strand.specs.PrefixVariables.{is_added}
+use Rattle.cp_model.specs.PrefixVariables.{is_added}
 use Rattle.cp_strand.specs.View.{declaration_view, event_view}
 use Rattle.cp_cohort.proofs.HigherStrands.{declared_at_first, one_skipped, one_declared, all_declared}
 use Rattle.cp_cohort.proofs.grown_skeletons.declare_added.Goals as goal

@@ -2,9 +2,9 @@ use Rattle.std.proofs.Common.{map, drop, length, ◌++◌}
 use Rattle.std.specs.List.{filter}
 use Rattle.cp_model.specs.Strand.{variables_of_trace}
 use Rattle.cp_skel.specs.Trees.{variables_view}
-use Rattle.cp_strand.specs.PrefixVariables.{is_added, declared_variables}
+use Rattle.cp_model.specs.PrefixVariables.{is_added, declared_variables}
 use Rattle.cp_strand.specs.View.{declaration_view, event_view}
-use Rattle.cp_answers.specs.Fresh.{fresh_terms}
+use Rattle.cp_theory.specs.Fresh.{fresh_terms}
 use Rattle.cp_cohort.proofs.HigherStrands.{declared_from, IsDeclaredSoFar}
 use Rattle.cp_cohort.proofs.grown_skeletons.declare_added.Given as goal
 

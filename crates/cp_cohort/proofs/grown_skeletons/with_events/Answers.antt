@@ -16,6 +16,6 @@ pub returns : goal.returns
 returns c =
     IfOk-weaker c.grown_to.result _ _
     (λ k grows j is.
-    grown_in_copy c.args.question.now.skeleton.now c.args.question.now.node c.args.question.now.critical.now c.args.question.now.patterns.now c.in_ok-copied.copied c.in_ok-copied.ensures.same k c.args.strand c.args.instance.now.role
+    grown_in_copy c.args.guarded_test.now.skeleton.now c.args.guarded_test.now.node c.args.guarded_test.now.critical.now c.args.guarded_test.now.patterns.now c.in_ok-copied.copied c.in_ok-copied.ensures.same k c.args.strand c.args.instance.now.role
     c.args.instance.now.height j (grows j is))
     c.grown_to.ensures

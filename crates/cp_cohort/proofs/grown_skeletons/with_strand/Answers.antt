@@ -9,6 +9,6 @@ pub returns : goal.returns
 returns c =
     IfOk-weaker c.with_instance.result _ _
     (λ k adds j is.
-    added_in_copy c.args.question.now.skeleton.now c.args.question.now.node c.args.question.now.critical.now c.args.question.now.patterns.now c.in_ok-copied.copied c.in_ok-copied.ensures.same k c.args.role.now.value c.args.height j is
+    added_in_copy c.args.guarded_test.now.skeleton.now c.args.guarded_test.now.node c.args.guarded_test.now.critical.now c.args.guarded_test.now.patterns.now c.in_ok-copied.copied c.in_ok-copied.ensures.same k c.args.role.now.value c.args.height j is
     adds.0 adds.1)
     c.with_instance.ensures

@@ -1,35 +1,35 @@
 use Rattle.std.proofs.Common.{◌≡◌, length, ap, ◌∙◌, subst}
 use Rattle.cp_model.specs.Skeleton.{Skeleton}
 use Rattle.cp_model.specs.Data.{SkeletonData}
-use Rattle.cp_skel.specs.Extensions.{AddsListener}
+use Rattle.cp_model.specs.Extensions.{AddsListener}
 use Rattle.cp_skel.specs.Sound.{IsSound}
 use Rattle.cp_skel.specs.Trees.{variables_view}
 use Rattle.cp_skel.specs.View.{skeleton_view}
-use Rattle.cp_answers.specs.Covering.{put_before}
-use Rattle.cp_cohort.specs.Views.{question_view}
+use Rattle.cp_theory.specs.Covering.{put_before}
+use Rattle.cp_cohort.specs.Views.{guarded_test_view}
 use Rattle.cp_cohort.proofs.GrownReleases.{put_there}
 use Rattle.cp_cohort.proofs.AddedListener.{may_be_put, never_refused, listener_added}
 use Rattle.cp_cohort.proofs.listeners.add_before.Goals as goal
 
 pub add_order-requires : goal.add_order-requires
 add_order-requires c =
-    let q = question_view c.args.question.now in
+    let q = guarded_test_view c.args.guarded_test.now in
     let number : c.in_ok-strand.strand ≡ length q.skeleton.strands = c.in_ok-strand.ensures.number ∙ ap (λ (k : SkeletonData). length (skeleton_view k).strands) c.requires.copied in
-    let adds : AddsListener c.args.term.now q.skeleton (skeleton_view c.add_listener.new.self) = listener_added c.args.question.now.skeleton.now c.args.k.now c.add_listener.new.self c.args.term.now c.in_ok-message.message c.requires.copied c.in_ok-message.ensures c.in_ok-strand.ensures.changed in
+    let adds : AddsListener c.args.term.now q.skeleton (skeleton_view c.add_listener.new.self) = listener_added c.args.guarded_test.now.skeleton.now c.args.k.now c.add_listener.new.self c.args.term.now c.in_ok-message.message c.requires.copied c.in_ok-message.ensures c.in_ok-strand.ensures.changed in
     record { pair = may_be_put q c.args.term.now c.requires.test c.in_ok-strand.strand number (skeleton_view c.add_listener.new.self) adds }
 
 pub unreachable-requires : goal.unreachable-requires
 unreachable-requires c =
-    let q = question_view c.args.question.now in
+    let q = guarded_test_view c.args.guarded_test.now in
     let number : c.in_ok-strand.strand ≡ length q.skeleton.strands = c.in_ok-strand.ensures.number ∙ ap (λ (k : SkeletonData). length (skeleton_view k).strands) c.requires.copied in
-    let adds : AddsListener c.args.term.now q.skeleton (skeleton_view c.add_listener.new.self) = listener_added c.args.question.now.skeleton.now c.args.k.now c.add_listener.new.self c.args.term.now c.in_ok-message.message c.requires.copied c.in_ok-message.ensures c.in_ok-strand.ensures.changed in
+    let adds : AddsListener c.args.term.now q.skeleton (skeleton_view c.add_listener.new.self) = listener_added c.args.guarded_test.now.skeleton.now c.args.k.now c.add_listener.new.self c.args.term.now c.in_ok-message.message c.requires.copied c.in_ok-message.ensures c.in_ok-strand.ensures.changed in
     let sound : IsSound q.skeleton = subst (λ (k : SkeletonData). IsSound (skeleton_view k)) c.requires.copied c.is_sound.ensures in
     never_refused q c.args.term.now c.requires.test c.in_ok-strand.strand number (skeleton_view c.add_listener.new.self) adds sound (c.in_ok-add_order.ensures.refused.0 c.if-not-branch.true)
 
 pub returns : goal.returns
 returns c =
-    let q = question_view c.args.question.now in
-    let adds : AddsListener c.args.term.now q.skeleton (skeleton_view c.add_listener.new.self) = listener_added c.args.question.now.skeleton.now c.args.k.now c.add_listener.new.self c.args.term.now c.in_ok-message.message c.requires.copied c.in_ok-message.ensures c.in_ok-strand.ensures.changed in
+    let q = guarded_test_view c.args.guarded_test.now in
+    let adds : AddsListener c.args.term.now q.skeleton (skeleton_view c.add_listener.new.self) = listener_added c.args.guarded_test.now.skeleton.now c.args.k.now c.add_listener.new.self c.args.term.now c.in_ok-message.message c.requires.copied c.in_ok-message.ensures c.in_ok-strand.ensures.changed in
     let rest = c.in_ok-add_order.ensures.rest c.if-not-branch.false in
     record {
       number = c.in_ok-strand.ensures.number ∙ ap (λ (k : SkeletonData). length (skeleton_view k).strands) c.requires.copied;

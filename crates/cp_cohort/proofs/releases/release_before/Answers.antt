@@ -4,31 +4,31 @@ use Rattle.cp_model.specs.Strand.{send}
 use Rattle.cp_model.specs.Skeleton.{Skeleton, term_event_at}
 use Rattle.cp_skel.specs.Trees.{variables_view}
 use Rattle.cp_skel.specs.View.{skeleton_view}
-use Rattle.cp_answers.specs.Covering.{put_before}
-use Rattle.cp_cohort.specs.Views.{question_view, made_view}
+use Rattle.cp_theory.specs.Covering.{put_before}
+use Rattle.cp_cohort.specs.Views.{guarded_test_view, operation_of_made}
 use Rattle.cp_cohort.proofs.ChildLists.{puts_nothing, puts_other}
 use Rattle.cp_cohort.proofs.GrownReleases.{put_there, nothing_released, released_all}
 use Rattle.cp_cohort.proofs.releases.release_before.Goals as goal
 
 pub returns-then-not-branch : goal.returns-then-not-branch
 returns-then-not-branch c =
-    puts_nothing c.args.children.now.items (nothing_released (question_view c.args.question.now) (variables_view c.args.grown.now.variables) (made_view c.args.made) c.args.node (skeleton_view c.args.grown.now) (c.in_ok-add_order.ensures.refused.0 c.if-not-branch.true))
+    puts_nothing c.args.children.now.items (nothing_released (guarded_test_view c.args.guarded_test.now) (variables_view c.args.grown.now.variables) (operation_of_made c.args.made) c.args.node (skeleton_view c.args.grown.now) (c.in_ok-add_order.ensures.refused.0 c.if-not-branch.true))
 
 pub add_order-requires : goal.add_order-requires
 add_order-requires c = record { pair = c.requires }
 
 pub message_at-requires : goal.message_at-requires
 message_at-requires c =
-    let same : skeleton_view c.add_order.new.self ≡ put_before c.args.node c.args.question.now.node (skeleton_view c.args.grown.now) =
-    put_there c.args.grown.now c.add_order.new.self c.args.node c.args.question.now.node (c.in_ok-add_order.ensures.rest c.if-not-branch.false) (c.in_ok-add_order.ensures.pairs c.if-not-branch.false) in
+    let same : skeleton_view c.add_order.new.self ≡ put_before c.args.node c.args.guarded_test.now.node (skeleton_view c.args.grown.now) =
+    put_there c.args.grown.now c.add_order.new.self c.args.node c.args.guarded_test.now.node (c.in_ok-add_order.ensures.rest c.if-not-branch.false) (c.in_ok-add_order.ensures.pairs c.if-not-branch.false) in
     (send c.requires.sent, ap (λ (k : Skeleton). term_event_at k.strands c.args.node) same ∙ c.requires.transmission)
 
 pub returns : goal.returns
 returns c =
-    let same : skeleton_view c.add_order.new.self ≡ put_before c.args.node c.args.question.now.node (skeleton_view c.args.grown.now) =
-    put_there c.args.grown.now c.add_order.new.self c.args.node c.args.question.now.node (c.in_ok-add_order.ensures.rest c.if-not-branch.false) (c.in_ok-add_order.ensures.pairs c.if-not-branch.false) in
+    let same : skeleton_view c.add_order.new.self ≡ put_before c.args.node c.args.guarded_test.now.node (skeleton_view c.args.grown.now) =
+    put_there c.args.grown.now c.add_order.new.self c.args.node c.args.guarded_test.now.node (c.in_ok-add_order.ensures.rest c.if-not-branch.false) (c.in_ok-add_order.ensures.pairs c.if-not-branch.false) in
     on_ok_weaker c.release_each.result
     (λ p. puts_other c.args.children.now.items c.release_each.new.children.items
-    (released_all (question_view c.args.question.now) (variables_view c.args.grown.now.variables) (made_view c.args.made) c.args.node (skeleton_view c.add_order.new.self) (skeleton_view c.args.grown.now) c.in_ok-message.message
+    (released_all (guarded_test_view c.args.guarded_test.now) (variables_view c.args.grown.now.variables) (operation_of_made c.args.made) c.args.node (skeleton_view c.add_order.new.self) (skeleton_view c.args.grown.now) c.in_ok-message.message
     (variables_view c.add_order.new.self.variables) (ap variables_view (c.in_ok-add_order.ensures.rest c.if-not-branch.false).variables) same (λ t there. c.in_ok-message.ensures (send t) there)) p)
     c.release_each.ensures

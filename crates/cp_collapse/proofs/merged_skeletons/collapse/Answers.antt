@@ -1,7 +1,7 @@
 use Rattle.std.proofs.Common.{◌≤◌, ◌∙◌, sym, subst}
 use Rattle.cp_skel.specs.View.{skeleton_view}
 use Rattle.cp_collapse.specs.Collapses.{LiesOnOne, IsCollapsed, HasNoCycle}
-use Rattle.cp_collapse.specs.Cycles.{IsClosedAt}
+use Rattle.cp_collapse.specs.Cycles.{ClosesCycleAt}
 use Rattle.cp_collapse.specs.Property.{Has}
 use Rattle.cp_collapse.proofs.Collected.{all_forward, backward_impossible, cycle_impossible, no_cycle_left}
 use Rattle.cp_collapse.specs.MergedParts.{parts_view, with_listed}
@@ -26,13 +26,13 @@ merged-requires-clause-forward c =
 pub returns-then-branch : goal.returns-then-branch
 returns-then-branch c =
     cycle_impossible (skeleton_view c.args.k.now) (with_listed (parts_view c.in_ok-parts.parts)) c.args.partial.now.lowest.items c.is_sound.ensures.skeleton.order_pairs c.in_ok-parts.ensures
-    (subst (λ qs. Has (λ q. IsClosedAt qs q.earlier) qs) c.deref-2.ensures.value (c.in_ok-some_closes.ensures.0 c.if-branch.true))
+    (subst (λ qs. Has (λ q. ClosesCycleAt qs q.earlier) qs) c.deref-2.ensures.value (c.in_ok-some_closes.ensures.0 c.if-branch.true))
 
 pub of_parts-requires : goal.of_parts-requires
 of_parts-requires c =
     merged_sound (skeleton_view c.args.k.now) (parts_view c.in_ok-parts.parts) c.args.partial.now.lowest.items c.is_sound.ensures c.in_ok-parts.ensures
     (no_cycle_left (with_listed (parts_view c.in_ok-parts.parts)) (λ h. not_both c.if-branch.false (c.in_ok-some_closes.ensures.1
-    (subst (λ qs. Has (λ q. IsClosedAt qs q.earlier) qs) (sym c.deref-2.ensures.value) h))))
+    (subst (λ qs. Has (λ q. ClosesCycleAt qs q.earlier) qs) (sym c.deref-2.ensures.value) h))))
 
 pub returns : goal.returns
 returns c =
@@ -40,6 +40,6 @@ returns c =
       subst (IsCollapsed (skeleton_view c.args.k.now) c.args.partial.now.lowest.items) (sym same) c.in_ok-parts.ensures,
       subst HasNoCycle (sym same)
           (no_cycle_left (with_listed (parts_view c.in_ok-parts.parts)) (λ h. not_both c.if-branch.false (c.in_ok-some_closes.ensures.1
-          (subst (λ qs. Has (λ q. IsClosedAt qs q.earlier) qs) (sym c.deref-2.ensures.value) h)))),
+          (subst (λ qs. Has (λ q. ClosesCycleAt qs q.earlier) qs) (sym c.deref-2.ensures.value) h)))),
       c.in_ok-of_parts.ensures.variables,
     )

@@ -1,5 +1,5 @@
 use Rattle.std.proofs.Common.{◌∙◌, List, map, sym, ap, subst}
-use Rattle.cp_completeness.specs.Normal.{assumptions_under, from_problem_under, skeleton_under}
+use Rattle.cp_theory.specs.Normal.{assumptions_under, from_problem_under, skeleton_under}
 use Rattle.cp_unify.specs.Bindings.{as_substitution}
 use Rattle.cp_model.specs.Data.{StrandData, SkeletonData}
 use Rattle.cp_strand.specs.View.{strand_view}

@@ -2,7 +2,7 @@ use Rattle.std.proofs.Common.{◌≡◌, ◌++◌, map, drop}
 use Rattle.cp_model.specs.Homomorphism.{substitution_by}
 use Rattle.cp_model.specs.Term.{composed}
 use Rattle.cp_unify.specs.Bindings.{as_substitution}
-use Rattle.cp_strand.specs.PrefixVariables.{declared_variables, terms_of}
+use Rattle.cp_model.specs.PrefixVariables.{declared_variables, terms_of}
 use Rattle.cp_strand.specs.View.{declaration_view}
 use Rattle.cp_collapse.proofs.variable_terms.declared_terms.Given as goal
 

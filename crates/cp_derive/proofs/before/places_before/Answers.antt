@@ -3,8 +3,8 @@ use Rattle.std.proofs.lemmas.List.{length-map}
 use Rattle.cp_model.proofs.CarriedParts.{not_both}
 use Rattle.cp_lists.proofs.Items.{map_of_read}
 use Rattle.cp_lists.specs.Lists.{item_at}
-use Rattle.cp_model.specs.Order.{LeadsTo}
-use Rattle.cp_order.specs.LeadingNodes.{Target}
+use Rattle.cp_model.specs.Order.{ReachesAlong}
+use Rattle.cp_order.specs.PredecessorNodes.{Target}
 use Rattle.cp_skel.proofs.SameNode.{tested_apart, tested_same}
 use Rattle.cp_derive.specs.Transmissions.{transmission_view}
 use Rattle.cp_derive.proofs.TransmissionPlaces.{ArePlacesBelow, placed, not_placed, all_placed}
@@ -18,7 +18,7 @@ loop-place-preserved c =
     elim c.if-has.branch [
       | then-has+then-ne+in_ok-push w ↦
           placed c.args.sorted.now c.args.node _ c.loop-place.place (transmission_view c.index-transmissions-place.result) c.loop-place.places.items _ at (
-            subst (λ (x : Target). LeadsTo x.pairs c.index-transmissions-place.result.node x.node) c.in_ok-leading.ensures (c.has.ensures.0 w.if-has.true),
+            subst (λ (x : Target). ReachesAlong x.pairs c.index-transmissions-place.result.node x.node) c.in_ok-leading.ensures (c.has.ensures.0 w.if-has.true),
             tested_apart c.index-transmissions-place.result.node c.args.node w.if-ne.ensures,
           )
           (ap (λ v. v.items) w.places-is ∙ w.in_ok-push.ensures.items) c.loop-place.invariant
@@ -33,7 +33,7 @@ loop-place-preserved c =
                 not_placed c.args.sorted.now c.args.node _ c.loop-place.place (transmission_view c.index-transmissions-place.result) _ at
                 (λ l.
                 not_both w'.if-has.false
-                (c.has.ensures.1 (subst (λ (x : Target). LeadsTo x.pairs c.index-transmissions-place.result.node x.node) (sym c.in_ok-leading.ensures) l.0)))
+                (c.has.ensures.1 (subst (λ (x : Target). ReachesAlong x.pairs c.index-transmissions-place.result.node x.node) (sym c.in_ok-leading.ensures) l.0)))
                 c.loop-place.invariant
           ])
     ]

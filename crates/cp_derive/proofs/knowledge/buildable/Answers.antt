@@ -1,6 +1,6 @@
 use Rattle.std.proofs.Common.{◌≡◌, List, sym, subst, ap₂}
 use Rattle.cp_model.specs.Term.{Term}
-use Rattle.cp_derive.specs.Buildable.{Builds, IsClosed}
+use Rattle.cp_derive.specs.Buildable.{Builds, IsClosedUnderParts}
 use Rattle.cp_derive.specs.Given.{Given, IsDerivable}
 use Rattle.cp_derive.proofs.Built.{built_derivable, derivable_built}
 use Rattle.cp_derive.proofs.OpenedPieces.{closed}
@@ -12,7 +12,7 @@ returns c =
     let held : List Term = c.known.inside.opening.held.items in
     let t : Term = c.args.t.now in
     let view : g ≡ c.args.known.now = c.known.view_is in
-    let is_closed : IsClosed g held = closed g c.known.inside.opening c.known.invariant in
+    let is_closed : IsClosedUnderParts g held = closed g c.known.inside.opening c.known.invariant in
     let lists : Builds c.deref.result.now c.held.result.now t ≡ Builds g.secrets held t =
     ap₂ (λ s h. Builds s h t) c.deref.ensures.value c.held.ensures in record {
       exact = (

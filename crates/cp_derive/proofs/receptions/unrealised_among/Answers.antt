@@ -16,8 +16,8 @@ loop-occurrence-preserved-in_default c = record {
       c.in_default.not-Receive);
 }
 
-pub front_at-requires-clause-there : goal.front_at-requires-clause-there
-front_at-requires-clause-there c = (
+pub known_before_at-requires-clause-there : goal.known_before_at-requires-clause-there
+known_before_at-requires-clause-there c = (
   recv c.in-Receive.message,
   reception_at (skeleton_view c.args.k.now) c.occurrence-item.result.node c.occurrence-item.result.event c.in-Receive.message
       (event_at (skeleton_view c.args.k.now) c.args.occurrences.now c.loop-occurrence.occurrence-index c.occurrence-item.result c.loop-occurrence.nodes.items c.loop-occurrence-test.true
@@ -27,7 +27,7 @@ front_at-requires-clause-there c = (
 
 pub loop-occurrence-preserved-then-buildable : goal.loop-occurrence-preserved-then-buildable
 loop-occurrence-preserved-then-buildable c = record {
-  given = c.in_ok-front.ensures.given;
+  given = c.in_ok-known_before.ensures.given;
   picks =
       passed (skeleton_view c.args.k.now) c.args.occurrences.now c.loop-occurrence.occurrence-index c.occurrence-item.result c.loop-occurrence.nodes.items c.loop-occurrence-test.true
       c.occurrence-item.is c.loop-occurrence.invariant.picks
@@ -36,12 +36,12 @@ loop-occurrence-preserved-then-buildable c = record {
       (event_at (skeleton_view c.args.k.now) c.args.occurrences.now c.loop-occurrence.occurrence-index c.occurrence-item.result c.loop-occurrence.nodes.items c.loop-occurrence-test.true
       c.occurrence-item.is c.loop-occurrence.invariant.picks c.requires.among)
       c.in-Receive.is)
-      ((c.in_ok-front.ensures.at_node c.in-Receive.message).1 (c.buildable.ensures.exact.0 c.if-buildable.true)));
+      ((c.in_ok-known_before.ensures.at_node c.in-Receive.message).1 (c.buildable.ensures.exact.0 c.if-buildable.true)));
 }
 
 pub loop-occurrence-preserved : goal.loop-occurrence-preserved
 loop-occurrence-preserved c = record {
-  given = c.in_ok-front.ensures.given;
+  given = c.in_ok-known_before.ensures.given;
   picks =
       taken (skeleton_view c.args.k.now) c.args.occurrences.now c.loop-occurrence.occurrence-index c.occurrence-item.result c.loop-occurrence.nodes.items c.loop-occurrence-test.true
       c.occurrence-item.is c.loop-occurrence.invariant.picks c.push.new.self.items c.in_ok-push.ensures.items
@@ -50,7 +50,7 @@ loop-occurrence-preserved c = record {
       (event_at (skeleton_view c.args.k.now) c.args.occurrences.now c.loop-occurrence.occurrence-index c.occurrence-item.result c.loop-occurrence.nodes.items c.loop-occurrence-test.true
       c.occurrence-item.is c.loop-occurrence.invariant.picks c.requires.among)
       c.in-Receive.is)
-      (λ d. not_both c.if-buildable.false (c.buildable.ensures.exact.1 ((c.in_ok-front.ensures.at_node c.in-Receive.message).0 d))));
+      (λ d. not_both c.if-buildable.false (c.buildable.ensures.exact.1 ((c.in_ok-known_before.ensures.at_node c.in-Receive.message).0 d))));
 }
 
 pub returns : goal.returns

@@ -1,7 +1,7 @@
 use Rattle.std.proofs.Common.{◌≡◌, ◌∙◌, ◌++◌, ◌∷◌, [], ap, sym, subst, take, arith}
 use Rattle.cp_model.proofs.CarriedParts.{not_both}
-use Rattle.cp_term.specs.declared.path.Step.TheVariants.{Right}
-use Rattle.cp_derive.specs.Walk.{LeadsOn}
+use Rattle.cp_model.specs.declared.step.Step.TheVariants.{Right}
+use Rattle.cp_derive.specs.Walk.{WalksTo}
 use Rattle.cp_term.proofs.Behind.{first_kept, turned}
 use Rattle.cp_derive.proofs.Walks.{found_here, found_left, go_right, pair_derivable, found_some, found_none, plain_form}
 use Rattle.cp_derive.proofs.walk.+find.Goals as goal
@@ -25,5 +25,5 @@ loop-left-preserved t c =
 
 pub returns-then-not-buildable : goal.returns-then-not-buildable
 returns-then-not-buildable t c =
-    subst (λ term. LeadsOn c.args.known.now c.args.whole.now c.args.here.now c.loop-left.here term) (sym c.in_ok-term-in_default.ensures)
+    subst (λ term. WalksTo c.args.known.now c.args.whole.now c.args.here.now c.loop-left.here term) (sym c.in_ok-term-in_default.ensures)
     (found_here _ _ _ _ _ c.loop-left.invariant.leads (plain_form _ _ c.form_of.ensures c.in_default.not-Pair) (λ d. not_both c.if-not-buildable.true (c.buildable.ensures.exact.1 d)))

@@ -1,6 +1,6 @@
 use Rattle.std.proofs.Common.{map}
-use Rattle.cp_guard.specs.Above.{encryptions_above}
-use Rattle.cp_guard.proofs.AllAbove.{all_above}
+use Rattle.cp_theory.specs.Above.{encryptions_above}
+use Rattle.cp_theory.proofs.AllAbove.{all_above}
 use Rattle.cp_escape.proofs.above.encryptions_above.Goals as goal
 
 pub returns : goal.returns

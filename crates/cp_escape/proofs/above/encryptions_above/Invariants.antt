@@ -1,5 +1,5 @@
 use Rattle.std.proofs.Common.{◌≡◌, ◌++◌, map, drop}
-use Rattle.cp_guard.specs.Above.{encryptions_above}
+use Rattle.cp_theory.specs.Above.{encryptions_above}
 use Rattle.cp_escape.proofs.above.encryptions_above.Given as goal
 
 abbrev pub invariant-loop-step : goal.invariant-loop-step

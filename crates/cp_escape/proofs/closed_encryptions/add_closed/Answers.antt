@@ -1,7 +1,7 @@
 use Rattle.std.proofs.Common.{List, ◌∷◌, [], refl, ◌∙◌, subst}
 use Rattle.cp_lists.specs.Lists.{IsIn}
 use Rattle.cp_lists.proofs.Members.{item_is_in}
-use Rattle.cp_term.specs.declared.path.Step.{Step}
+use Rattle.cp_model.specs.declared.step.Step.{Step}
 use Rattle.cp_escape.specs.ClosedEncryptions.{GivesClosedTo}
 use Rattle.cp_escape.specs.Escape.{positions_of}
 use Rattle.cp_escape.proofs.TermsOnce.{puts_next, puts_last, puts_whole}

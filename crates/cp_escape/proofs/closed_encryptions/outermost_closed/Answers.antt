@@ -1,7 +1,7 @@
 use Rattle.std.proofs.Common.{◌≡◌, map, List, sym, ap, ◌∙◌, subst}
 use Rattle.std.proofs.lemmas.Result.{IfOk-weaker}
 use Rattle.cp_model.specs.Term.{Term}
-use Rattle.cp_guard.specs.Above.{encryptions_above}
+use Rattle.cp_theory.specs.Above.{encryptions_above}
 use Rattle.cp_escape.specs.ClosedEncryptions.{TellsClosed, IsClosedTo}
 use Rattle.cp_escape.specs.Escape.{IsFirstWith}
 use Rattle.cp_escape.proofs.FirstClosed.{item_closed, item_open, never_past}

@@ -1,5 +1,5 @@
 use Rattle.std.proofs.Common.{map, ap, ◌∙◌}
-use Rattle.cp_guard.specs.Critical.{used_variables}
+use Rattle.cp_theory.specs.Critical.{used_variables}
 use Rattle.cp_model.specs.Strand.{variables_of_trace}
 use Rattle.cp_skel.specs.View.{skeleton_view}
 use Rattle.cp_strand.specs.View.{event_view}

@@ -1,5 +1,5 @@
 use Rattle.std.proofs.Common.{◌≡◌, ◌++◌, drop}
-use Rattle.cp_guard.specs.Critical.{used_variables}
+use Rattle.cp_theory.specs.Critical.{used_variables}
 use Rattle.cp_skel.specs.Trees.{variables_view}
 use Rattle.cp_skel.specs.View.{skeleton_view}
 use Rattle.cp_escape.specs.UsedVariables.{is_new_in, variables_where, numbers}

@@ -2,7 +2,7 @@ use Rattle.std.proofs.Common.{◌≡◌, map, List, sym, ap, ◌∙◌, subst}
 use Rattle.cp_model.proofs.CarriedParts.{not_both}
 use Rattle.cp_model.specs.Term.{Term}
 use Rattle.cp_skel.specs.View.{skeleton_view}
-use Rattle.cp_guard.specs.Above.{encryptions_above}
+use Rattle.cp_theory.specs.Above.{encryptions_above}
 use Rattle.cp_escape.specs.Escape.{IsFirstWith}
 use Rattle.cp_escape.specs.WidenedPattern.{StaysClosed}
 use Rattle.cp_escape.proofs.StillClosed.{item_stays, item_passed, none_past}

@@ -1,6 +1,6 @@
 use Rattle.std.proofs.Common.{◌≡◌, ap, ◌∙◌}
-use Rattle.cp_guard.specs.Critical.{used_variables}
-use Rattle.cp_guard.specs.Above.{encryptions_above}
+use Rattle.cp_theory.specs.Critical.{used_variables}
+use Rattle.cp_theory.specs.Above.{encryptions_above}
 use Rattle.cp_model.specs.Term.{Term}
 use Rattle.cp_skel.specs.Trees.{variables_view}
 use Rattle.cp_skel.specs.View.{skeleton_view}

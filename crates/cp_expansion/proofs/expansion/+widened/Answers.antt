@@ -3,17 +3,17 @@ use Rattle.std.proofs.lemmas.List.{length-append}
 use Rattle.cp_lists.specs.Lists.{item_at}
 use Rattle.cp_model.specs.Skeleton.{IsSkeleton}
 use Rattle.cp_skel.specs.View.{skeleton_view}
-use Rattle.cp_covering.specs.Cohort.{IsCohort}
-use Rattle.cp_cohort.specs.Views.{question_of, child_view}
+use Rattle.cp_cohort.specs.Cohort.{IsCohort}
+use Rattle.cp_cohort.specs.Views.{guarded_test_of, child_view}
 use Rattle.cp_expansion.specs.Expansion.{AreWidened}
-use Rattle.cp_expansion.specs.Views.{last_question}
+use Rattle.cp_expansion.specs.Views.{last_test}
 use Rattle.cp_expansion.proofs.WidenedOnce.{widened_by_most, widened_no_more, widened_once_more}
 use Rattle.cp_lists.proofs.Items.{map_of_read}
-use Rattle.cp_guard.specs.Critical.{IsTest}
-use Rattle.cp_guard.specs.Guards.{Guards}
+use Rattle.cp_theory.specs.Critical.{IsTest}
+use Rattle.cp_theory.specs.Guards.{Guards}
 use Rattle.cp_expansion.specs.Widened.{IsGiven}
 use Rattle.cp_expansion.specs.declared.expansion.Expansion.{Expansion}
-use Rattle.cp_expansion.proofs.OnceMore.{place_below, given_child, IsNext, grown_skeleton, grown_declared, child_declared, table_behind, next_question, if_widened, if_same}
+use Rattle.cp_expansion.proofs.OnceMore.{place_below, given_child, IsNext, grown_skeleton, grown_declared, child_declared, table_behind, next_test, if_widened, if_same}
 use Rattle.cp_expansion.proofs.expansion.+widened.Goals.{In_ok-push}
 use Rattle.cp_expansion.proofs.expansion.+widened.Goals as goal
 
@@ -36,18 +36,18 @@ next t c =
 pub returns-then-len-ge-MOST_PATTERNS-clause-widened : goal.returns-then-len-ge-MOST_PATTERNS-clause-widened
 returns-then-len-ge-MOST_PATTERNS-clause-widened t c =
     let cs = map child_view c.in_ok-children.children.items in
-    let q = question_of c.args.k.now c.args.test.now.node c.args.test.now.term c.args.patterns.items in
+    let q = guarded_test_of c.args.k.now c.args.test.now.node c.args.test.now.term c.args.patterns.items in
     let exact : IsCohort c.args.protocol.now q cs = rw c.deref.ensures.value at c.in_ok-children.ensures.exact in
     let most : 32 ≤ length c.args.patterns.items = grind arith in
-    subst (λ s. AreWidened c.args.protocol.now q (question_of s c.args.test.now.node c.args.test.now.term c.args.patterns.items) cs) (sym c.in_ok-skeleton.ensures.same) (widened_by_most c.args.protocol.now q cs most exact)
+    subst (λ s. AreWidened c.args.protocol.now q (guarded_test_of s c.args.test.now.node c.args.test.now.term c.args.patterns.items) cs) (sym c.in_ok-skeleton.ensures.same) (widened_by_most c.args.protocol.now q cs most exact)
 
 pub returns-in_default-clause-widened : goal.returns-in_default-clause-widened
 returns-in_default-clause-widened t c =
     let cs = map child_view c.in_ok-children.children.items in
-    let q = question_of c.args.k.now c.args.test.now.node c.args.test.now.term c.args.patterns.items in
+    let q = guarded_test_of c.args.k.now c.args.test.now.node c.args.test.now.term c.args.patterns.items in
     let exact : IsCohort c.args.protocol.now q cs = rw c.deref.ensures.value at c.in_ok-children.ensures.exact in
     let few : length c.args.patterns.items < 32 = grind arith in
-    subst (λ s. AreWidened c.args.protocol.now q (question_of s c.args.test.now.node c.args.test.now.term c.args.patterns.items) cs) (sym c.in_ok-skeleton-2.ensures.same)
+    subst (λ s. AreWidened c.args.protocol.now q (guarded_test_of s c.args.test.now.node c.args.test.now.term c.args.patterns.items) cs) (sym c.in_ok-skeleton-2.ensures.same)
     (widened_no_more c.args.protocol.now q cs few exact (rw c.deref-2.ensures.value at (rw c.in_default.is at c.in_ok-widening.ensures)))
 
 pub index-requires : goal.index-requires
@@ -103,11 +103,11 @@ returns-clause-widened t c =
     let place = c.in-Some.widening.child in
     let p = c.in-Some.widening.pattern in
     let n = next t (goal.at.returns-clause-widened t c).In_ok-push in
-    let exact : IsCohort c.args.protocol.now (question_of k node term c.args.patterns.items) (map child_view cs) = rw c.deref.ensures.value at c.in_ok-children.ensures.exact in
+    let exact : IsCohort c.args.protocol.now (guarded_test_of k node term c.args.patterns.items) (map child_view cs) = rw c.deref.ensures.value at c.in_ok-children.ensures.exact in
     let few : length c.args.patterns.items < 32 = grind arith in
-    let asked = next_question k c.in_ok-grown.grown node term c.args.patterns.items c.push.new.self.items p c.index.result.now n.given.child (given_child (skeleton_view k) cs place p c.index.result.now n.given n.read) n.grew n.pushed in
-    if_widened c.args.protocol.now (question_of k node term c.args.patterns.items) (question_of c.in_ok-grown.grown node term c.push.new.self.items) (last_question c.args.test.now) (λ e. map child_view e.children.items) c.widened.result
-    (λ q children h. widened_once_more c.args.protocol.now (question_of k node term c.args.patterns.items) (question_of c.in_ok-grown.grown node term c.push.new.self.items) q (map child_view cs) children place p n.given few exact asked h) c.widened.ensures.widened
+    let asked = next_test k c.in_ok-grown.grown node term c.args.patterns.items c.push.new.self.items p c.index.result.now n.given.child (given_child (skeleton_view k) cs place p c.index.result.now n.given n.read) n.grew n.pushed in
+    if_widened c.args.protocol.now (guarded_test_of k node term c.args.patterns.items) (guarded_test_of c.in_ok-grown.grown node term c.push.new.self.items) (last_test c.args.test.now) (λ e. map child_view e.children.items) c.widened.result
+    (λ q children h. widened_once_more c.args.protocol.now (guarded_test_of k node term c.args.patterns.items) (guarded_test_of c.in_ok-grown.grown node term c.push.new.self.items) q (map child_view cs) children place p n.given few exact asked h) c.widened.ensures.widened
 
 pub returns-clause-same : goal.returns-clause-same
 returns-clause-same t c =

@@ -3,14 +3,14 @@ use Rattle.cp_model.specs.Skeleton.{Skeleton}
 use Rattle.cp_skel.specs.View.{skeleton_view}
 use Rattle.cp_general.specs.Fit.{IsFit}
 use Rattle.cp_general.specs.ListedPairs.{ListsOrder}
-use Rattle.cp_general.specs.ProgramSteps.{IsOnTheWay}
+use Rattle.cp_general.specs.ProgramSteps.{IsReachedByWeakening}
 use Rattle.cp_general.proofs.generalisation.drop_pairs.Given as goal
 
 abbrev pub invariant-loop-next : goal.invariant-loop-next
 invariant-loop-next l = record {
   lists : ListsOrder (skeleton_view l.k) l.k.order;
   fit : IsFit (skeleton_view l.k);
-  way : (first : Skeleton) → IsOnTheWay first (skeleton_view l.fn.k) → IsOnTheWay first (skeleton_view l.k);
+  way : (first : Skeleton) → IsReachedByWeakening first (skeleton_view l.fn.k) → IsReachedByWeakening first (skeleton_view l.k);
   variables : l.k.variables ≡ l.fn.k.variables;
 }
 

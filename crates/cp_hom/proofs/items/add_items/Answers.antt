@@ -1,6 +1,6 @@
 use Rattle.std.proofs.Common.{◌≡◌, ◌<◌, ℕ, arith, subst}
 use Rattle.cp_skel.specs.View.{skeleton_view}
-use Rattle.cp_hom.specs.Counterparts.{count_of, AddsFirst}
+use Rattle.cp_hom.specs.Counterparts.{item_count, AddsFirst}
 use Rattle.cp_hom.proofs.Itemised.{first_none, first_next}
 use Rattle.cp_hom.proofs.items.add_items.Goals as goal
 
@@ -14,5 +14,5 @@ loop-index-preserved c =
 
 pub returns : goal.returns
 returns c =
-    let e : c.loop-index.index ≡ count_of c.args.kind (skeleton_view c.args.k.now) = omega (arith, c.loop-index-test.false, c.loop-index.auto.index-end, c.count-index-end.ensures) in
+    let e : c.loop-index.index ≡ item_count c.args.kind (skeleton_view c.args.k.now) = omega (arith, c.loop-index-test.false, c.loop-index.auto.index-end, c.count-index-end.ensures) in
     subst (λ (n : ℕ). AddsFirst c.args.kind n (skeleton_view c.args.k.now) c.args.items.now.items c.loop-index.items.items) e c.loop-index.invariant

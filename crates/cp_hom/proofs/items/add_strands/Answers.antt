@@ -1,6 +1,6 @@
 use Rattle.std.proofs.Common.{◌≡◌, ◌+◌, ◌<◌, ℕ, arith, subst}
 use Rattle.cp_skel.specs.View.{skeleton_view}
-use Rattle.cp_hom.specs.Counterparts.{count_of, AddsFirst}
+use Rattle.cp_hom.specs.Counterparts.{item_count, AddsFirst}
 use Rattle.cp_hom.specs.declared.items.Kind.TheVariants.{Strands}
 use Rattle.cp_hom.proofs.Itemised.{first_none, first_next, first_then}
 use Rattle.cp_hom.proofs.items.add_strands.Goals as goal
@@ -17,5 +17,5 @@ loop-index-preserved c =
 
 pub returns : goal.returns
 returns c =
-    let e : c.loop-index.index ≡ count_of Strands (skeleton_view c.args.k.now) = omega (arith, c.loop-index-test.false, c.loop-index.auto.index-end, c.count-index-end.ensures) in
+    let e : c.loop-index.index ≡ item_count Strands (skeleton_view c.args.k.now) = omega (arith, c.loop-index-test.false, c.loop-index.auto.index-end, c.count-index-end.ensures) in
     subst (λ (n : ℕ). AddsFirst Strands n (skeleton_view c.args.k.now) c.args.items.now.items c.loop-index.items.items) e c.loop-index.invariant

@@ -1,6 +1,6 @@
 use Rattle.cp_model.specs.Homomorphism.{SkeletonMap, IsEmbedding}
 use Rattle.cp_skel.specs.View.{skeleton_view}
-use Rattle.cp_hom.specs.PartialMaps.{partial_view, Follows}
+use Rattle.cp_hom.specs.PartialMaps.{partial_view, ExtendsPartial}
 use Rattle.cp_hom.specs.OpenMaps.{branches_view, all_steps, AreOpen, IsWithinSome}
 use Rattle.cp_hom.proofs.search.search.Given as goal
 
@@ -8,7 +8,7 @@ use Rattle.cp_hom.proofs.search.search.Given as goal
 abbrev pub invariant-loop-branch : goal.invariant-loop-branch
 invariant-loop-branch l = record {
   are_open : AreOpen (skeleton_view l.a) (skeleton_view l.b) l.items (branches_view l.branches.items);
-  none_lost : (f : SkeletonMap) → IsEmbedding (skeleton_view l.a) (skeleton_view l.b) f → Follows f (partial_view l.fn.given) →
+  none_lost : (f : SkeletonMap) → IsEmbedding (skeleton_view l.a) (skeleton_view l.b) f → ExtendsPartial f (partial_view l.fn.given) →
       IsWithinSome (skeleton_view l.a) (skeleton_view l.b) l.items f (branches_view l.branches.items);
 }
 

@@ -4,7 +4,7 @@ use Rattle.cp_model.specs.declared.node.Node.{Node}
 use Rattle.cp_sexpr.specs.Syntax.{Form}
 use Rattle.cp_language.specs.Problems.{option_node}
 use Rattle.cp_report.specs.Skeletons.{node_or_first}
-use Rattle.cp_variables.proofs.Declared.{each-made, all-made}
+use Rattle.cp_spelled.proofs.Declared.{each-made, all-made}
 use Rattle.cp_items.proofs.label_tests.nodes_of.Goals as goal
 
 pub loop-item-preserved : goal.loop-item-preserved

@@ -2,7 +2,7 @@ use Rattle.std.proofs.Common.{◌++◌, ◌∷◌, [], map, ap, ◌∙◌}
 use Rattle.cp_model.specs.Tree.{Pattern}
 use Rattle.cp_strand.specs.View.{declaration_view}
 use Rattle.cp_report.specs.Spelled.{pattern_misfits, pattern_of}
-use Rattle.cp_variables.proofs.Declared.{each-made, all-made}
+use Rattle.cp_spelled.proofs.Declared.{each-made, all-made}
 use Rattle.cp_items.proofs.EachAsked.{each-none}
 use Rattle.cp_items.proofs.label_tests.patterns_of.Goals as goal
 

@@ -3,7 +3,7 @@ use Rattle.cp_strand.specs.View.{strand_view}
 use Rattle.cp_report.specs.Spelled.{term_misfits}
 use Rattle.cp_report.specs.Skeletons.{node_misfits}
 use Rattle.cp_spelled.specs.Views.{scope_view}
-use Rattle.cp_variables.proofs.InOrder.{entry-taken}
+use Rattle.cp_spelled.proofs.InOrder.{entry-taken}
 use Rattle.cp_items.proofs.label_tests.test_misfits.Goals as goal
 
 pub returns : goal.returns

@@ -1,6 +1,6 @@
 use Rattle.std.proofs.Common.{ℕ, ◌++◌, ◌∷◌, [], ap, ◌∙◌}
 use Rattle.cp_language.specs.Problems.{number_of}
-use Rattle.cp_variables.proofs.Declared.{each-made, all-made}
+use Rattle.cp_spelled.proofs.Declared.{each-made, all-made}
 use Rattle.cp_items.proofs.numbers.numbers_of.Goals as goal
 
 pub loop-item-preserved : goal.loop-item-preserved

@@ -2,7 +2,7 @@ use Rattle.std.proofs.Common.{map, sym, ap, ◌∙◌}
 use Rattle.cp_sexpr.specs.View.{view}
 use Rattle.cp_report.specs.Misfits.{entries_misfits}
 use Rattle.cp_report.specs.Labels.{operation_word}
-use Rattle.cp_variables.specs.FirstMisfit.{first_onto}
+use Rattle.cp_spelled.specs.FirstMisfit.{first_onto}
 use Rattle.cp_items.specs.Parts.{operation_item_misfits, kinds_behind}
 use Rattle.cp_items.proofs.FitItems.{first-read, first-refused, operation-fits, operation-unknown}
 use Rattle.cp_items.proofs.operations.operation_misfits.Goals as goal

@@ -2,7 +2,7 @@ use Rattle.std.proofs.Common.{◌≡◌, ℕ, ◌+◌, map, drop}
 use Rattle.cp_sexpr.specs.View.{view}
 use Rattle.cp_language.specs.Problems.{number_of}
 use Rattle.cp_report.specs.Misfits.{entries_misfits}
-use Rattle.cp_variables.specs.FirstMisfit.{first_onto}
+use Rattle.cp_spelled.specs.FirstMisfit.{first_onto}
 use Rattle.cp_items.specs.Parts.{blocks_of}
 use Rattle.cp_items.proofs.operations.partition_misfits.Given as goal
 

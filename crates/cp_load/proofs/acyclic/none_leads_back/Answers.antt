@@ -2,7 +2,7 @@ use Rattle.std.proofs.Common.{[], map, drop, sym, ap, ◌∙◌}
 use Rattle.std.proofs.lemmas.List.{drop_all}
 use Rattle.std.specs.Map.{lookup}
 use Rattle.std.specs.Prelude.{nat_eq}
-use Rattle.cp_order.specs.LeadingNodes.{tops_of, is_within}
+use Rattle.cp_order.specs.PredecessorNodes.{tops_of, is_within}
 use Rattle.cp_load.specs.declared.acyclic.Ranked.{Ranked}
 use Rattle.cp_load.proofs.NoCycles.{swept-first, swept-step, swept-all}
 use Rattle.cp_load.proofs.acyclic.none_leads_back.Goals as goal

@@ -1,6 +1,6 @@
 use Rattle.std.proofs.Common.{List, map, drop}
 use Rattle.cp_model.specs.declared.node.OrderPair.{OrderPair}
-use Rattle.cp_order.specs.LeadingNodes.{tops_of}
+use Rattle.cp_order.specs.PredecessorNodes.{tops_of}
 use Rattle.cp_load.specs.Acyclic.{IsSwept}
 use Rattle.cp_load.proofs.acyclic.none_leads_back.Given as goal
 

@@ -2,7 +2,7 @@ use Rattle.std.proofs.Common.{◌≡◌, [], ◌++◌, map, drop}
 use Rattle.cp_sexpr.specs.View.{view}
 use Rattle.cp_language.specs.Problems.{body_faults}
 use Rattle.cp_strand.specs.View.{declaration_view, strand_view}
-use Rattle.cp_forms.specs.FirstFault.{first_onto}
+use Rattle.cp_scope.specs.FirstFault.{first_onto}
 use Rattle.cp_roles.specs.Named.{shared_roles_view}
 use Rattle.cp_load.specs.Stages.{stage_view, no_stage}
 use Rattle.cp_load.specs.Acyclic.{pairs_stated}

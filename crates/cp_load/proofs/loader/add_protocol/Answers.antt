@@ -2,7 +2,7 @@ use Rattle.std.proofs.Common.{map, sym, ap, ◌∙◌}
 use Rattle.cp_sexpr.specs.View.{view}
 use Rattle.cp_language.specs.Roles.{protocol_faults}
 use Rattle.cp_roles.specs.Above.{protocols_view}
-use Rattle.cp_forms.specs.FirstFault.{first_onto}
+use Rattle.cp_scope.specs.FirstFault.{first_onto}
 use Rattle.cp_roles.proofs.ProtocolNames.{names_more}
 use Rattle.cp_load.proofs.TopForms.{faults-turned}
 use Rattle.cp_load.proofs.loader.add_protocol.Goals as goal

@@ -1,7 +1,7 @@
 use Rattle.std.proofs.Common.{◌≡◌, Some, map, sym, ap, ◌∙◌}
 use Rattle.cp_sexpr.specs.View.{view}
 use Rattle.cp_roles.specs.Above.{protocols_view}
-use Rattle.cp_load.proofs.SoundDrafts.{drafts_sound}
+use Rattle.cp_load.proofs.SoundUnchecked.{unchecked_sound}
 use Rattle.cp_load.proofs.TopForms.{protocols-all, no-faults, entries-finished, input-loaded, input-refused}
 use Rattle.cp_load.proofs.loader.load.Goals as goal
 
@@ -12,13 +12,13 @@ returns-in-Some-clause-refused c = λ r e.
 
 pub all_finished-requires : goal.all_finished-requires
 all_finished-requires c =
-    drafts_sound c.args.forms.now c.in_ok-protocols.field-0.drafts.items
+    unchecked_sound c.args.forms.now c.in_ok-protocols.field-0.unchecked_problems.items
     (no-faults c.args.forms.now c.new-first.result c.read_forms.new.first c.new-first.ensures c.in_ok-protocols.ensures.faults (sym c.found.ensures ∙ c.in-None.is)) c.in_ok-protocols.ensures.problems
 
 pub returns-in_ok-all_finished-in-None-clause-input : goal.returns-in_ok-all_finished-in-None-clause-input
 returns-in_ok-all_finished-in-None-clause-input c =
     input-loaded c.args.forms.now c.new-first.result c.read_forms.new.first c.new-first.ensures c.in_ok-protocols.ensures.faults (sym c.found.ensures ∙ c.in-None.is) _
-    (entries-finished c.in_ok-protocols.field-0.drafts.items c.in_ok-all_finished-in-None.field-0.items c.in_ok-all_finished-in-None.ensures (map view c.args.forms.now) c.in_ok-protocols.ensures.problems)
+    (entries-finished c.in_ok-protocols.field-0.unchecked_problems.items c.in_ok-all_finished-in-None.field-0.items c.in_ok-all_finished-in-None.ensures (map view c.args.forms.now) c.in_ok-protocols.ensures.problems)
 
 pub returns-in_ok-all_finished-in-None-clause-protocols : goal.returns-in_ok-all_finished-in-None-clause-protocols
 returns-in_ok-all_finished-in-None-clause-protocols c = protocols-all c.args.forms.now (protocols_view c.in_ok-protocols.field-0.protocols.items) c.in_ok-protocols.ensures.protocols

@@ -3,7 +3,7 @@ use Rattle.std.proofs.lemmas.Result.{on_ok_weaker}
 use Rattle.cp_sexpr.specs.View.{view}
 use Rattle.cp_language.specs.Problems.{node_of, node_faults, pair_of_nodes, order_faults}
 use Rattle.cp_strand.specs.View.{strand_view}
-use Rattle.cp_forms.specs.FirstFault.{first_onto}
+use Rattle.cp_scope.specs.FirstFault.{first_onto}
 use Rattle.cp_load.proofs.Cycles.{nodes-there, nodes-faulty}
 use Rattle.cp_load.proofs.orders.nodes_or_order_faults.Goals as goal
 

@@ -1,6 +1,6 @@
 use Rattle.std.proofs.Common.{map, ap, ◌∙◌}
 use Rattle.cp_strand.specs.View.{strand_view}
-use Rattle.cp_forms.specs.FirstFault.{first_onto}
+use Rattle.cp_scope.specs.FirstFault.{first_onto}
 use Rattle.cp_load.proofs.Cycles.{few_in_pair, pair-read}
 use Rattle.cp_load.proofs.NoCycles.{pair-in-front}
 use Rattle.cp_load.proofs.orders.pair_items_faults.Goals as goal

@@ -4,7 +4,7 @@ use Rattle.cp_sexpr.specs.View.{view}
 use Rattle.cp_language.specs.Problems.{pair_of, pair_faults}
 use Rattle.cp_strand.specs.View.{strand_view}
 use Rattle.cp_model.specs.declared.node.OrderPair.{OrderPair}
-use Rattle.cp_forms.specs.FirstFault.{first_onto}
+use Rattle.cp_scope.specs.FirstFault.{first_onto}
 use Rattle.cp_load.proofs.Cycles.{pair-behind}
 use Rattle.cp_load.specs.Acyclic.{IsAcyclicIf}
 use Rattle.cp_load.proofs.NoCycles.{counted-pair}

@@ -2,7 +2,7 @@ use Rattle.std.proofs.Common.{◌≡◌, ◌++◌, map, drop}
 use Rattle.cp_sexpr.specs.View.{view}
 use Rattle.cp_language.specs.Problems.{pairs_in, pairs_faults}
 use Rattle.cp_strand.specs.View.{strand_view}
-use Rattle.cp_forms.specs.FirstFault.{first_onto}
+use Rattle.cp_scope.specs.FirstFault.{first_onto}
 use Rattle.cp_load.proofs.orders.pairs_faults.Given as goal
 
 abbrev pub invariant-loop-form : goal.invariant-loop-form

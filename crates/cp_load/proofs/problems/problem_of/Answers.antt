@@ -3,7 +3,7 @@ use Rattle.std.proofs.lemmas.Result.{IfOk-weaker}
 use Rattle.cp_language.specs.Problems.{protocol_named, protocol_or_none, has_strand}
 use Rattle.cp_sexpr.specs.View.{view}
 use Rattle.cp_strand.specs.View.{declaration_view, strand_view}
-use Rattle.cp_forms.specs.FirstFault.{first_onto}
+use Rattle.cp_scope.specs.FirstFault.{first_onto}
 use Rattle.cp_roles.specs.Above.{protocols_view, turned}
 use Rattle.cp_roles.specs.Named.{shared_roles_view}
 use Rattle.cp_load.proofs.ProblemParts.{remade, bodies-same, few_items, few_stated, problem-read}

@@ -5,10 +5,10 @@ use Rattle.cp_language.specs.Faults.{fault_unless, place_of}
 use Rattle.cp_language.specs.Terms.{atom_faults, term_of, as_atom}
 use Rattle.cp_language.specs.Problems.{is_not_empty, origins_from}
 use Rattle.cp_strand.specs.View.{declaration_view, strand_view}
-use Rattle.cp_forms.specs.FirstFault.{first_onto, onto_none}
+use Rattle.cp_scope.specs.FirstFault.{first_onto, onto_none}
 use Rattle.cp_load.specs.Originations.{originates}
 use Rattle.cp_load.proofs.UniqueOrigins.{not-nowhere}
-use Rattle.cp_forms.proofs.Firsts.{merged-unless}
+use Rattle.cp_scope.proofs.Firsts.{merged-unless}
 use Rattle.cp_load.proofs.values.unique_faults.Goals as goal
 
 pub returns : goal.returns

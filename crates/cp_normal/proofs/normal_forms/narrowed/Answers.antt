@@ -1,6 +1,6 @@
 use Rattle.std.proofs.Common.{List, subst}
 use Rattle.std.proofs.lemmas.Result.{IfOk-weaker}
-use Rattle.cp_normal.specs.Candidates.{IsOpen}
+use Rattle.cp_normal.specs.Candidates.{IsUnnarrowed}
 use Rattle.cp_collapse.specs.Property.{Has}
 use Rattle.cp_normal.specs.declared.candidates.Candidate.{Candidate}
 use Rattle.cp_normal.proofs.Ranked.{round_falls, reached_at_first, reached_next, reached_forms, none_open}
@@ -14,7 +14,7 @@ loop-candidates-preserved c = reached_next _ _ _ c.loop-candidates.invariant c.i
 
 pub loop-candidates-smaller : goal.loop-candidates-smaller
 loop-candidates-smaller c =
-    round_falls c.loop-candidates.candidates.items c.in_ok-candidates-2.candidates.items (subst (λ (cs : List Candidate). Has IsOpen cs) c.deref.ensures.value (c.some_is_open.ensures.0 c.loop-candidates-test.true))
+    round_falls c.loop-candidates.candidates.items c.in_ok-candidates-2.candidates.items (subst (λ (cs : List Candidate). Has IsUnnarrowed cs) c.deref.ensures.value (c.some_is_open.ensures.0 c.loop-candidates-test.true))
     c.in_ok-candidates-2.ensures
 
 pub forms_of-requires : goal.forms_of-requires

@@ -2,7 +2,7 @@ use Rattle.std.proofs.Common.{refl, sym, ◌∙◌}
 use Rattle.cp_lists.proofs.Appended.{none_counted}
 use Rattle.cp_lists.proofs.Members.{item_in, none_in_empty}
 use Rattle.cp_model.specs.declared.node.OrderPair.{OrderPair}
-use Rattle.cp_model.specs.Order.{LeadsTo}
+use Rattle.cp_model.specs.Order.{ReachesAlong}
 use Rattle.cp_model.proofs.CarriedParts.{not_both}
 use Rattle.cp_normal.proofs.AllItems.{copy_next, all_have}
 use Rattle.cp_normal.proofs.OwnPairs.{leads_among}
@@ -22,9 +22,9 @@ returns-then-not-has c = (
 
 pub loop-pair-preserved : goal.loop-pair-preserved
 loop-pair-preserved c =
-    copy_next (λ (p : OrderPair). LeadsTo c.args.order.now p.earlier p.later) c.args.pairs.now c.loop-pair.pair-index _ c.loop-pair-test.true
+    copy_next (λ (p : OrderPair). ReachesAlong c.args.order.now p.earlier p.later) c.args.pairs.now c.loop-pair.pair-index _ c.loop-pair-test.true
     ((leads_among c.args.order.now c.in_ok-sorted.sorted _ _ c.in_ok-leading.leading c.has.result c.in_ok-sorted.ensures c.in_ok-leading.ensures c.has.ensures).0 c.if-not-has.false)
     c.loop-pair.invariant
 
 pub returns : goal.returns
-returns c = (λ _. all_have (λ (p : OrderPair). LeadsTo c.args.order.now p.earlier p.later) c.args.pairs.now c.loop-pair.pair-index c.loop-pair-test.false c.loop-pair.invariant, λ _. refl)
+returns c = (λ _. all_have (λ (p : OrderPair). ReachesAlong c.args.order.now p.earlier p.later) c.args.pairs.now c.loop-pair.pair-index c.loop-pair-test.false c.loop-pair.invariant, λ _. refl)

@@ -1,7 +1,7 @@
 use Rattle.std.proofs.Common.{◌≡◌, ◌≤◌}
 use Rattle.cp_term.specs.Size.{term_size}
 use Rattle.cp_model.specs.Given.{atoms_onto}
-use Rattle.cp_normal.specs.HeardAtoms.{carried_atoms}
+use Rattle.cp_normal.specs.ReceivedAtomLists.{carried_atoms}
 use Rattle.cp_normal.proofs.received_atoms.+add_carried.Given as goal
 
 abbrev pub decreases-add_carried : goal.decreases-add_carried

@@ -1,5 +1,5 @@
 use Rattle.std.proofs.Common.{sym, ap, ◌∙◌}
-use Rattle.cp_order.specs.LeadingNodes.{tops_of}
+use Rattle.cp_order.specs.PredecessorNodes.{tops_of}
 use Rattle.cp_order.proofs.LookedUp.{row_shared}
 use Rattle.cp_order.proofs.closed.next_row.Goals as goal
 

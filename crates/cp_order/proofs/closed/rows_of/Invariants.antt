@@ -1,7 +1,7 @@
 use Rattle.std.proofs.Common.{map, drop}
 use Rattle.std.specs.Prelude.{nat_eq}
 use Rattle.std.specs.HashMap.{get}
-use Rattle.cp_order.specs.LeadingNodes.{tops_of}
+use Rattle.cp_order.specs.PredecessorNodes.{tops_of}
 use Rattle.cp_order.specs.Rows.{AreRowsSoFar}
 use Rattle.cp_order.proofs.closed.rows_of.Given as goal
 

@@ -1,4 +1,4 @@
-use Rattle.cp_order.specs.LeadingNodes.{tops_of}
+use Rattle.cp_order.specs.PredecessorNodes.{tops_of}
 use Rattle.cp_order.proofs.LookedUp.{rows_pushed}
 use Rattle.cp_order.proofs.closed.rows_on.Goals as goal
 

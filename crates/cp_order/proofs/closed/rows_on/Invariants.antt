@@ -1,5 +1,5 @@
 use Rattle.std.proofs.Common.{◌+◌, ◌-◌, map, length}
-use Rattle.cp_order.specs.LeadingNodes.{tops_of}
+use Rattle.cp_order.specs.PredecessorNodes.{tops_of}
 use Rattle.cp_order.specs.Rows.{AreRows}
 use Rattle.cp_order.proofs.closed.rows_on.Given as goal
 

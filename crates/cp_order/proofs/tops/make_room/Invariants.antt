@@ -1,5 +1,5 @@
 use Rattle.std.proofs.Common.{◌≡◌, ℕ, suc, ◌-◌, length}
-use Rattle.cp_order.specs.LeadingNodes.{tops_at}
+use Rattle.cp_order.specs.PredecessorNodes.{tops_at}
 use Rattle.cp_order.proofs.tops.make_room.Given as goal
 
 -- no top is changed by what is put behind

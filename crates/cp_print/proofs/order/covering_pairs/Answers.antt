@@ -2,7 +2,7 @@ use Rattle.std.proofs.Common.{map, sym, ap, ◌∙◌}
 use Rattle.cp_sexpr.specs.View.{view}
 use Rattle.cp_strand.specs.View.{strand_view}
 use Rattle.cp_language.specs.Report.{nodes_from}
-use Rattle.cp_print.proofs.CoveringByMarks.{none_ordered}
+use Rattle.cp_print.proofs.CoveringByFlags.{none_ordered}
 use Rattle.cp_print.proofs.order.covering_pairs.Goals as goal
 
 pub returns-then-is_empty : goal.returns-then-is_empty

@@ -1,4 +1,4 @@
-use Rattle.cp_print.proofs.CoveringByMarks.{leads}
+use Rattle.cp_print.proofs.CoveringByFlags.{leads}
 use Rattle.cp_print.proofs.order.leads.Goals as goal
 
 pub returns : goal.returns

@@ -5,8 +5,8 @@ use Rattle.cp_print.specs.Named.{named_in}
 use Rattle.cp_print.proofs.MarkedForms.{maplet_skipped}
 use Rattle.cp_print.proofs.strands.maplets.Goals as goal
 
-pub loop-number-preserved-then-not-is_marked : goal.loop-number-preserved-then-not-is_marked
-loop-number-preserved-then-not-is_marked c =
+pub loop-number-preserved-then-not-is_flagged : goal.loop-number-preserved-then-not-is_flagged
+loop-number-preserved-then-not-is_flagged c =
     let l = c.loop-number in
-    maplet_skipped c.args.marks.now l.number c.args.variables.now c.loop-number-test.true (sym c.is_marked.ensures ∙ c.if-not-is_marked.true)
+    maplet_skipped c.args.flags.now l.number c.args.variables.now c.loop-number-test.true (sym c.is_flagged.ensures ∙ c.if-not-is_flagged.true)
     (named_in c.args.naming.now) (substitution_by c.args.values.now) (map view l.forms.items) _ l.invariant

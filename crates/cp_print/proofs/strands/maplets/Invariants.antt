@@ -8,5 +8,5 @@ use Rattle.cp_print.proofs.strands.maplets.Given as goal
 
 abbrev pub invariant-loop-number : goal.invariant-loop-number
 invariant-loop-number l =
-    map view l.forms.items ++ maplets_by (named_in l.naming) l.marks (substitution_by l.values) l.number (map declaration_view (drop l.number l.variables))
-    ≡ maplets_by (named_in l.naming) l.marks (substitution_by l.values) 0 (map declaration_view l.variables)
+    map view l.forms.items ++ maplets_by (named_in l.naming) l.flags (substitution_by l.values) l.number (map declaration_view (drop l.number l.variables))
+    ≡ maplets_by (named_in l.naming) l.flags (substitution_by l.values) 0 (map declaration_view l.variables)

@@ -6,4 +6,4 @@ use Rattle.cp_print.proofs.strands.vars.Given as goal
 
 abbrev pub invariant-loop-number : goal.invariant-loop-number
 invariant-loop-number l =
-    map view l.forms.items ++ vars_by l.names l.marks l.number (map declaration_view (drop l.number l.variables)) ≡ vars_by l.names l.marks 0 (map declaration_view l.variables)
+    map view l.forms.items ++ vars_by l.names l.flags l.number (map declaration_view (drop l.number l.variables)) ≡ vars_by l.names l.flags 0 (map declaration_view l.variables)

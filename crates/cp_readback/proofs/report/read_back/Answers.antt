@@ -5,8 +5,8 @@ use Rattle.cp_language.specs.StatedInput.{protocols_in}
 use Rattle.cp_skel.specs.Trees.{tree_view}
 use Rattle.cp_report.specs.ReadBack.{sections_of}
 use Rattle.cp_readback.specs.Sections.{section_view}
-use Rattle.cp_readback.specs.Reports.{forms_in, drafts_view}
-use Rattle.cp_readback.proofs.Reported.{read-refused, trees-fit, drafts-fit, report-read, trees-are, entries-are, as-many}
+use Rattle.cp_readback.specs.Reports.{forms_in, all_unchecked_view}
+use Rattle.cp_readback.proofs.Reported.{read-refused, trees-fit, unchecked_problems-fit, report-read, trees-are, entries-are, as-many}
 use Rattle.cp_readback.proofs.report.read_back.Goals as goal
 
 pub returns-in-Some-clause-refused : goal.returns-in-Some-clause-refused
@@ -16,28 +16,28 @@ returns-in-Some-clause-refused c = λ p e.
 
 pub trees_of-requires : goal.trees_of-requires
 trees_of-requires c = record {
-  trees = trees-fit c.args.forms.now c.in_ok-sections.field-0.misfit c.in_ok-sections.ensures.misfit c.in_default.is (drafts_view c.deref-2.result.now) (map section_view c.deref.result.now)
-      (ap drafts_view c.deref-2.ensures.value ∙ c.in_ok-sections.ensures.problems) (ap (map section_view) c.deref.ensures.value ∙ c.in_ok-sections.ensures.sections);
+  trees = trees-fit c.args.forms.now c.in_ok-sections.field-0.misfit c.in_ok-sections.ensures.misfit c.in_default.is (all_unchecked_view c.deref-2.result.now) (map section_view c.deref.result.now)
+      (ap all_unchecked_view c.deref-2.ensures.value ∙ c.in_ok-sections.ensures.problems) (ap (map section_view) c.deref.ensures.value ∙ c.in_ok-sections.ensures.sections);
 }
 
 pub all_finished-requires : goal.all_finished-requires
 all_finished-requires c =
-    drafts-fit c.args.forms.now c.in_ok-sections.field-0.misfit c.in_ok-sections.ensures.misfit c.in_default.is c.in_ok-sections.field-0.sections.items c.in_ok-sections.field-0.drafts.items
+    unchecked_problems-fit c.args.forms.now c.in_ok-sections.field-0.misfit c.in_ok-sections.ensures.misfit c.in_default.is c.in_ok-sections.field-0.sections.items c.in_ok-sections.field-0.unchecked_problems.items
     c.in_ok-sections.ensures.sections c.in_ok-sections.ensures.problems
 
 pub returns-clause-read : goal.returns-clause-read
 returns-clause-read c =
     let ss = (sections_of (map view c.args.forms.now)).sections in
     report-read c.args.forms.now c.in_ok-sections.field-0.misfit c.in_ok-sections.ensures.misfit c.in_default.is _ (map tree_view c.in_ok-trees.trees.items)
-    (entries-are (forms_in ss) (map (λ f. view f.now) c.in_ok-forms.forms.items) c.in_ok-sections.field-0.drafts.items c.in_ok-problems.problems.items
+    (entries-are (forms_in ss) (map (λ f. view f.now) c.in_ok-forms.forms.items) c.in_ok-sections.field-0.unchecked_problems.items c.in_ok-problems.problems.items
     (c.in_ok-forms.ensures ∙ ap (λ ts. forms_in (map section_view ts)) c.deref-3.ensures.value ∙ ap forms_in c.in_ok-sections.ensures.sections) c.in_ok-sections.ensures.problems c.in_ok-problems.ensures)
-    (trees-are ss (drafts_view c.deref-2.result.now) (map section_view c.deref.result.now) (map tree_view c.in_ok-trees.trees.items)
-    (ap drafts_view c.deref-2.ensures.value ∙ c.in_ok-sections.ensures.problems) (ap (map section_view) c.deref.ensures.value ∙ c.in_ok-sections.ensures.sections) c.in_ok-trees.ensures)
+    (trees-are ss (all_unchecked_view c.deref-2.result.now) (map section_view c.deref.result.now) (map tree_view c.in_ok-trees.trees.items)
+    (ap all_unchecked_view c.deref-2.ensures.value ∙ c.in_ok-sections.ensures.problems) (ap (map section_view) c.deref.ensures.value ∙ c.in_ok-sections.ensures.sections) c.in_ok-trees.ensures)
 
 pub returns-clause-problems : goal.returns-clause-problems
 returns-clause-problems c =
     let ss = (sections_of (map view c.args.forms.now)).sections in
-    as-many (forms_in ss) (map (λ f. view f.now) c.in_ok-forms.forms.items) c.in_ok-sections.field-0.drafts.items c.in_ok-problems.problems.items
+    as-many (forms_in ss) (map (λ f. view f.now) c.in_ok-forms.forms.items) c.in_ok-sections.field-0.unchecked_problems.items c.in_ok-problems.problems.items
     (c.in_ok-forms.ensures ∙ ap (λ ts. forms_in (map section_view ts)) c.deref-3.ensures.value ∙ ap forms_in c.in_ok-sections.ensures.sections) c.in_ok-sections.ensures.problems c.in_ok-problems.ensures
     ∙ length-map c.in_ok-forms.forms.items (λ f. view f.now)
 

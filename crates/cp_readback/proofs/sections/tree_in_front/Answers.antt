@@ -1,7 +1,7 @@
 use Rattle.std.proofs.Common.{ℕ, ◌≤◌, length, map, take, sym, ap, ◌∙◌, subst}
 use Rattle.cp_sexpr.specs.View.{view}
 use Rattle.cp_report.specs.Heads.{is_of_tree}
-use Rattle.cp_reading.proofs.InFront.{leads-within}
+use Rattle.cp_readback.proofs.InFront.{leads-within}
 use Rattle.cp_readback.proofs.Sectioned.{tree-in-front}
 use Rattle.cp_readback.proofs.sections.tree_in_front.Goals as goal
 

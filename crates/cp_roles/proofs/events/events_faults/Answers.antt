@@ -2,8 +2,8 @@ use Rattle.std.proofs.Common.{map, ap, ◌∙◌}
 use Rattle.cp_sexpr.specs.View.{view}
 use Rattle.cp_language.specs.Roles.{event_faults}
 use Rattle.cp_strand.specs.View.{declaration_view}
-use Rattle.cp_forms.specs.FirstFault.{first_onto}
-use Rattle.cp_forms.proofs.Items.{each-taken, each-done}
+use Rattle.cp_scope.specs.FirstFault.{first_onto}
+use Rattle.cp_scope.proofs.Items.{each-taken, each-done}
 use Rattle.cp_roles.proofs.EventFaults.{each-event}
 use Rattle.cp_roles.proofs.events.events_faults.Goals as goal
 

@@ -2,7 +2,7 @@ use Rattle.std.proofs.Common.{◌≡◌, map, drop}
 use Rattle.cp_sexpr.specs.View.{view}
 use Rattle.cp_language.specs.Roles.{event_faults, each_faults}
 use Rattle.cp_strand.specs.View.{declaration_view}
-use Rattle.cp_forms.specs.FirstFault.{first_onto}
+use Rattle.cp_scope.specs.FirstFault.{first_onto}
 use Rattle.cp_roles.proofs.events.events_faults.Given as goal
 
 abbrev pub invariant-loop-item : goal.invariant-loop-item

@@ -3,7 +3,7 @@ use Rattle.std.proofs.lemmas.Result.{IfOk-weaker}
 use Rattle.cp_sexpr.specs.View.{view}
 use Rattle.cp_language.specs.Terms.{term_faults, term_of}
 use Rattle.cp_strand.specs.View.{declaration_view}
-use Rattle.cp_forms.specs.FirstFault.{first_onto}
+use Rattle.cp_scope.specs.FirstFault.{first_onto}
 use Rattle.cp_roles.proofs.EventFaults.{stands_faultless, stands_faulty}
 use Rattle.cp_roles.proofs.events.faultless_term.Goals as goal
 

@@ -4,8 +4,8 @@ use Rattle.cp_sexpr.specs.View.{view}
 use Rattle.cp_language.specs.Faults.{fault, place_of}
 use Rattle.cp_language.specs.Terms.{term_faults}
 use Rattle.cp_strand.specs.View.{declaration_view}
-use Rattle.cp_forms.specs.FirstFault.{first_onto}
-use Rattle.cp_forms.proofs.Firsts.{first_then_three}
+use Rattle.cp_scope.specs.FirstFault.{first_onto}
+use Rattle.cp_scope.proofs.Firsts.{first_then_three}
 use Rattle.cp_roles.proofs.EventFaults.{three_messages}
 use Rattle.cp_roles.proofs.events.message_faults.Goals as goal
 

@@ -1,7 +1,7 @@
 use Rattle.std.proofs.Common.{◌-◌, length, map, take, drop, ap, ◌∙◌}
 use Rattle.std.proofs.lemmas.Result.{IfOk-weaker}
 use Rattle.cp_sexpr.specs.View.{view}
-use Rattle.cp_forms.specs.FirstFault.{first_onto}
+use Rattle.cp_scope.specs.FirstFault.{first_onto}
 use Rattle.cp_roles.proofs.DeclaredEvents.{roles_read}
 use Rattle.cp_roles.proofs.ProtocolNames.{few_items, protocol-read}
 use Rattle.cp_roles.proofs.protocols.protocol_of.Goals as goal

@@ -1,7 +1,7 @@
 use Rattle.std.proofs.Common.{map}
 use Rattle.cp_language.specs.Roles.{item_faults, role_item_faults}
 use Rattle.cp_strand.specs.View.{declaration_view, event_view}
-use Rattle.cp_forms.proofs.Items.{each-taken}
+use Rattle.cp_scope.proofs.Items.{each-taken}
 use Rattle.cp_roles.proofs.roles.role_items_faults.Goals as goal
 
 pub loop-item-preserved : goal.loop-item-preserved

@@ -2,8 +2,8 @@ use Rattle.std.proofs.Common.{map, ap, ◌∙◌}
 use Rattle.std.proofs.lemmas.Result.{IfOk-weaker}
 use Rattle.cp_strand.specs.View.{declaration_view, event_view}
 use Rattle.cp_sexpr.specs.View.{view}
-use Rattle.cp_language.specs.Roles.{events_of}
-use Rattle.cp_forms.specs.FirstFault.{first_onto}
+use Rattle.cp_language.specs.Roles.{events_stated}
+use Rattle.cp_scope.specs.FirstFault.{first_onto}
 use Rattle.cp_roles.proofs.DeclaredEvents.{events_read}
 use Rattle.cp_roles.specs.Named.{role_names}
 use Rattle.cp_roles.proofs.RoleNames.{few_items, role-read}
@@ -17,7 +17,7 @@ returns-in_default-clause-faults c =
 pub new-requires : goal.new-requires
 new-requires c =
     events_read (map declaration_view c.in_ok-variables.variables.items) (map event_view c.in_ok-trace.trace.items) (view c.trace-item.result)
-    (c.in_ok-trace.ensures ∙ ap (λ ds. events_of (map declaration_view ds) (view c.trace-item.result)) c.deref-2.ensures.value)
+    (c.in_ok-trace.ensures ∙ ap (λ ds. events_stated (map declaration_view ds) (view c.trace-item.result)) c.deref-2.ensures.value)
 
 pub returns-clause-faults : goal.returns-clause-faults
 returns-clause-faults c =

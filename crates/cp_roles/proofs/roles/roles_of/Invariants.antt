@@ -1,7 +1,7 @@
 use Rattle.std.proofs.Common.{◌≡◌, ◌++◌, [], map, drop}
 use Rattle.cp_sexpr.specs.View.{view}
 use Rattle.cp_language.specs.Roles.{roles_faults, roles_in}
-use Rattle.cp_forms.specs.FirstFault.{first_onto}
+use Rattle.cp_scope.specs.FirstFault.{first_onto}
 use Rattle.cp_roles.specs.Named.{role_names, shared_roles_view}
 use Rattle.cp_roles.proofs.roles.roles_of.Given as goal
 

@@ -6,9 +6,9 @@ use Rattle.cp_model.specs.Same.{origin_in}
 use Rattle.cp_language.specs.Terms.{atom_faults, term_of}
 use Rattle.cp_language.specs.Roles.{is_somewhere}
 use Rattle.cp_strand.specs.View.{declaration_view, event_view}
-use Rattle.cp_forms.specs.FirstFault.{first_onto, onto_none}
+use Rattle.cp_scope.specs.FirstFault.{first_onto, onto_none}
 use Rattle.cp_roles.proofs.ExactOrigins.{somewhere}
-use Rattle.cp_forms.proofs.Firsts.{merged-unless}
+use Rattle.cp_scope.proofs.Firsts.{merged-unless}
 use Rattle.cp_roles.proofs.uniques.role_unique_faults.Goals as goal
 
 pub returns : goal.returns

@@ -1,7 +1,7 @@
 use Rattle.std.proofs.Common.{map}
 use Rattle.cp_language.specs.Roles.{role_unique_faults}
 use Rattle.cp_strand.specs.View.{declaration_view, event_view}
-use Rattle.cp_forms.proofs.Items.{each-taken}
+use Rattle.cp_scope.proofs.Items.{each-taken}
 use Rattle.cp_roles.proofs.uniques.role_uniques_faults.Goals as goal
 
 pub loop-item-preserved : goal.loop-item-preserved

@@ -3,7 +3,7 @@ use Rattle.cp_sexpr.specs.View.{view}
 use Rattle.cp_language.specs.Terms.{atom_faults}
 use Rattle.cp_language.specs.Roles.{each_faults}
 use Rattle.cp_strand.specs.View.{declaration_view}
-use Rattle.cp_forms.specs.FirstFault.{first_onto}
+use Rattle.cp_scope.specs.FirstFault.{first_onto}
 use Rattle.cp_scope.proofs.atoms.atoms_faults.Given as goal
 
 abbrev pub invariant-loop-item : goal.invariant-loop-item

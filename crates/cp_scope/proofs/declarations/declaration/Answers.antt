@@ -2,7 +2,7 @@ use Rattle.std.proofs.Common.{map, option_map}
 use Rattle.cp_sexpr.specs.View.{view}
 use Rattle.cp_language.specs.Names.{identifiers_in}
 use Rattle.cp_strand.specs.View.{declaration_view}
-use Rattle.cp_forms.specs.Heads.{sort_word_view}
+use Rattle.cp_scope.specs.Heads.{sort_word_view}
 use Rattle.cp_scope.proofs.DeclaredIdentifiers.{declaration-read, declaration-declared}
 use Rattle.cp_scope.proofs.declarations.declaration.Goals as goal
 

@@ -7,8 +7,8 @@ use Rattle.cp_language.specs.Names.{identifiers_in}
 use Rattle.cp_language.specs.Roles.{text_of_symbol, sort_or_text, identifier_faults}
 use Rattle.cp_strand.specs.View.{sort_view, declaration_view}
 use Rattle.cp_strand.specs.declared.protocol.Declaration as program
-use Rattle.cp_forms.specs.FirstFault.{first_onto}
-use Rattle.cp_forms.specs.Heads.{sort_word_view}
+use Rattle.cp_scope.specs.FirstFault.{first_onto}
+use Rattle.cp_scope.specs.Heads.{sort_word_view}
 use Rattle.cp_scope.proofs.DeclaredIdentifiers.{identifiers-taken, declared-taken}
 use Rattle.cp_scope.proofs.declarations.declare.Goals as goal
 

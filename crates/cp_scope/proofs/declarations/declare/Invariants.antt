@@ -3,8 +3,8 @@ use Rattle.cp_sexpr.specs.View.{view}
 use Rattle.cp_language.specs.Names.{identifiers_in}
 use Rattle.cp_language.specs.Roles.{identifiers_faults, declared_of, sort_or_text}
 use Rattle.cp_strand.specs.View.{declaration_view}
-use Rattle.cp_forms.specs.FirstFault.{first_onto}
-use Rattle.cp_forms.specs.Heads.{sort_word_view}
+use Rattle.cp_scope.specs.FirstFault.{first_onto}
+use Rattle.cp_scope.specs.Heads.{sort_word_view}
 use Rattle.cp_scope.proofs.declarations.declare.Given as goal
 
 abbrev pub invariant-loop-form : goal.invariant-loop-form

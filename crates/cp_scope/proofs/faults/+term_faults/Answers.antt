@@ -4,11 +4,11 @@ use Rattle.cp_language.specs.Words.{term_head}
 use Rattle.cp_language.specs.Roles.{each_faults}
 use Rattle.cp_language.specs.Terms.{term_faults}
 use Rattle.cp_strand.specs.View.{declaration_view}
-use Rattle.cp_forms.specs.FirstFault.{first_onto}
-use Rattle.cp_forms.specs.Forms.{headed_view}
+use Rattle.cp_scope.specs.FirstFault.{first_onto}
+use Rattle.cp_scope.specs.Forms.{headed_view}
 use Rattle.cp_scope.specs.OwnFaults.{own_faults}
 use Rattle.cp_scope.proofs.Sizes.{headed_smaller, item_smaller, forms_size}
-use Rattle.cp_forms.proofs.Items.{each-taken, each-done}
+use Rattle.cp_scope.proofs.Items.{each-taken, each-done}
 use Rattle.cp_scope.proofs.Judged.{term-judged, judged-smaller}
 use Rattle.cp_scope.proofs.faults.+term_faults.Goals as goal
 

@@ -3,7 +3,7 @@ use Rattle.cp_sexpr.specs.View.{view}
 use Rattle.cp_language.specs.Roles.{each_faults}
 use Rattle.cp_language.specs.Terms.{term_faults}
 use Rattle.cp_strand.specs.View.{declaration_view}
-use Rattle.cp_forms.specs.FirstFault.{first_onto}
+use Rattle.cp_scope.specs.FirstFault.{first_onto}
 use Rattle.cp_scope.proofs.Sizes.{form_size}
 use Rattle.cp_scope.proofs.faults.+term_faults.Given as goal
 

@@ -2,8 +2,8 @@ use Rattle.std.proofs.Common.{map, sym, ap, ◌∙◌}
 use Rattle.cp_base.specs.declared.place.Code.TheVariants.{BadShape}
 use Rattle.cp_sexpr.specs.View.{view}
 use Rattle.cp_language.specs.Faults.{fault}
-use Rattle.cp_forms.specs.FirstFault.{first_onto}
-use Rattle.cp_forms.proofs.Items.{exceeds-fault, exceeds-none}
+use Rattle.cp_scope.specs.FirstFault.{first_onto}
+use Rattle.cp_scope.proofs.Items.{exceeds-fault, exceeds-none}
 use Rattle.cp_scope.proofs.faults.exceeds.Goals as goal
 
 pub returns-in-Some : goal.returns-in-Some

@@ -1,5 +1,5 @@
 use Rattle.std.proofs.Common.{ap, ◌∙◌}
-use Rattle.cp_forms.specs.FirstFault.{first_onto}
+use Rattle.cp_scope.specs.FirstFault.{first_onto}
 use Rattle.cp_scope.proofs.MissingItems.{lacks-is}
 use Rattle.cp_scope.proofs.faults.lacks.Goals as goal
 

@@ -3,8 +3,8 @@ use Rattle.cp_base.specs.declared.place.Code.TheVariants.{KeySort}
 use Rattle.cp_sexpr.specs.View.{view}
 use Rattle.cp_language.specs.Faults.{fault_unless, place_of}
 use Rattle.cp_strand.specs.View.{declaration_view}
-use Rattle.cp_forms.specs.FirstFault.{first_onto}
-use Rattle.cp_forms.proofs.Items.{last_key-fault, last_key-none}
+use Rattle.cp_scope.specs.FirstFault.{first_onto}
+use Rattle.cp_scope.proofs.Items.{last_key-fault, last_key-none}
 use Rattle.cp_scope.proofs.faults.last_key_faults.Goals as goal
 
 pub returns-in-Some : goal.returns-in-Some

@@ -5,7 +5,7 @@ use Rattle.cp_sexpr.specs.View.{view}
 use Rattle.cp_language.specs.Terms.{lacks, exceeds}
 use Rattle.cp_strand.specs.View.{declaration_view}
 use Rattle.cp_scope.specs.OwnFaults.{sort_faults_if}
-use Rattle.cp_forms.proofs.Firsts.{first_then_four}
+use Rattle.cp_scope.proofs.Firsts.{first_then_four}
 use Rattle.cp_scope.proofs.faults.two_name_faults.Goals as goal
 
 pub returns-clause-faults : goal.returns-clause-faults

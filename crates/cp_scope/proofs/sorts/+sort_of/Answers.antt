@@ -1,7 +1,7 @@
 use Rattle.std.proofs.Common.{map, refl, sym, ◌∙◌, arith}
 use Rattle.cp_sexpr.specs.View.{view}
 use Rattle.cp_strand.specs.View.{declaration_view}
-use Rattle.cp_forms.specs.Forms.{headed_view}
+use Rattle.cp_scope.specs.Forms.{headed_view}
 use Rattle.cp_scope.proofs.Sizes.{inside_smaller}
 use Rattle.cp_scope.proofs.TermSorts.{no_item_sort, one_item_sort, more_items_sort}
 use Rattle.cp_scope.proofs.sorts.+sort_of.Goals as goal

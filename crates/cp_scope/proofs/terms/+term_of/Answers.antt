@@ -3,7 +3,7 @@ use Rattle.std.proofs.lemmas.Result.{IfOk-weaker}
 use Rattle.cp_sexpr.specs.View.{view}
 use Rattle.cp_language.specs.Terms.{applied}
 use Rattle.cp_strand.specs.View.{declaration_view}
-use Rattle.cp_forms.specs.Forms.{headed_view}
+use Rattle.cp_scope.specs.Forms.{headed_view}
 use Rattle.cp_scope.proofs.Sizes.{inside_smaller}
 use Rattle.cp_scope.proofs.Meanings.{term-applied, terms-done}
 use Rattle.cp_scope.proofs.terms.+term_of.Goals as goal

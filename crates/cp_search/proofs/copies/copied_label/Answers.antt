@@ -5,7 +5,7 @@ use Rattle.cp_skel.specs.View.{skeleton_view}
 use Rattle.cp_model.proofs.CarriedParts.{not_both}
 use Rattle.cp_search.specs.LeastNumber.{FindsLeast}
 use Rattle.cp_search.specs.MadeLabels.{AreReaching, MayBeSeenIn}
-use Rattle.cp_search.proofs.AllowedCopies.{fingerprints_of, seen_nowhere, seen_in_any, seen_in_others, seen_in_first, seen_at_end}
+use Rattle.cp_search.proofs.AllowedCopies.{signatures_of, seen_nowhere, seen_in_any, seen_in_others, seen_in_first, seen_at_end}
 use Rattle.cp_search.proofs.copies.copied_label.Goals.{In-Some}
 use Rattle.cp_search.proofs.copies.copied_label.Goals as goal
 
@@ -13,8 +13,8 @@ use Rattle.cp_search.proofs.copies.copied_label.Goals as goal
 first : (c : In-Some) → FindsLeast (MayBeSeenIn c.args.made.now [] (skeleton_view c.args.skeleton.now)) (Some c.in-Some.copy)
 first c = subst (λ (o : Option ℕ). FindsLeast (MayBeSeenIn c.args.made.now [] (skeleton_view c.args.skeleton.now)) o) c.in-Some.is c.in_ok-copy.ensures
 
-pub first_copy-requires-clause-fingerprints : goal.first_copy-requires-clause-fingerprints
-first_copy-requires-clause-fingerprints c = fingerprints_of c.args.made.now c.requires.found
+pub first_copy-requires-clause-signatures : goal.first_copy-requires-clause-signatures
+first_copy-requires-clause-signatures c = signatures_of c.args.made.now c.requires.found
 
 pub returns-in_default : goal.returns-in_default
 returns-in_default c =
@@ -37,8 +37,8 @@ returns-then-not-is_flagged c =
     (subst (λ (fs : List Bool). AreReaching c.args.made.now c.in-Some-parent.parent fs) (sym c.deref.ensures.value) c.in_ok-leading.ensures)
     c.in-Some.copy (λ flagged. not_both c.if-not-is_flagged.true (c.is_flagged.ensures.1 flagged)) (first (goal.at.returns-then-not-is_flagged c).In-Some)
 
-pub first_copy-requires-2-clause-fingerprints : goal.first_copy-requires-2-clause-fingerprints
-first_copy-requires-2-clause-fingerprints c = fingerprints_of c.args.made.now c.requires.found
+pub first_copy-requires-2-clause-signatures : goal.first_copy-requires-2-clause-signatures
+first_copy-requires-2-clause-signatures c = signatures_of c.args.made.now c.requires.found
 
 pub returns : goal.returns
 returns c =

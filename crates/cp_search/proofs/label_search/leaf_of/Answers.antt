@@ -1,7 +1,7 @@
 use Rattle.std.proofs.Common.{sym, ap, length, ◌∙◌, arith}
 use Rattle.cp_lists.proofs.Appended.{none_counted, some_counted}
-use Rattle.cp_search.specs.SettledLabels.{dead_leaf, seen_leaf, open_leaf, above_bound, at_limit, no_leaf}
-use Rattle.cp_search.proofs.SettledLeaves.{none_found}
+use Rattle.cp_search.specs.ResolvedLabels.{dead_leaf, seen_leaf, open_leaf, above_bound, at_limit, no_leaf}
+use Rattle.cp_search.proofs.ResolvedLeaves.{none_found}
 use Rattle.cp_search.proofs.label_search.leaf_of.Goals as goal
 
 pub returns-then-label : goal.returns-then-label

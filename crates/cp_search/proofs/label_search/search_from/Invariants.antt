@@ -1,7 +1,7 @@
 use Rattle.std.proofs.Common.{◌-◌, map}
 use Rattle.cp_skel.specs.Trees.{limits_view}
 use Rattle.cp_search.specs.Roots.{root_made}
-use Rattle.cp_search.specs.SettledLabels.{HasSearched}
+use Rattle.cp_search.specs.ResolvedLabels.{HasSearched}
 use Rattle.cp_search.proofs.label_search.search_from.Given as goal
 
 abbrev pub invariant-loop-search : goal.invariant-loop-search

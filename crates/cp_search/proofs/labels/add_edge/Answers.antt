@@ -1,4 +1,4 @@
-use Rattle.cp_search.proofs.WayEdges.{edge_is_added}
+use Rattle.cp_search.proofs.LinkEdges.{edge_is_added}
 use Rattle.cp_search.proofs.labels.add_edge.Goals as goal
 
 pub returns : goal.returns

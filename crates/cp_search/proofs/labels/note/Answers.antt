@@ -1,16 +1,16 @@
 use Rattle.std.proofs.Common.{ℕ, length, ◌++◌, ◌∷◌, [], ◌∙◌, refl, ap, if◌then◌else◌, subst, arith}
 use Rattle.std.specs.Prelude.{nat_eq, ◌≤◌, Option, IfSome}
-use Rattle.cp_search.specs.LabelsByNumber.{with_sharing}
+use Rattle.cp_search.specs.LabelsByNumber.{with_key}
 use Rattle.cp_search.proofs.LabelsByNumber.{with_one_more}
-use Rattle.cp_search.proofs.WayEdges.{edges_more, parents_within}
+use Rattle.cp_search.proofs.LinkEdges.{edges_more, parents_within}
 use Rattle.cp_search.proofs.labels.note.Goals as goal
 
-pub returns-clause-alike : goal.returns-clause-alike
-returns-clause-alike c = λ q.
+pub returns-clause-buckets : goal.returns-clause-buckets
+returns-clause-buckets c = λ q.
     let old = c.args.all.now in
     let n = length old in
-    c.in_ok-add_alike.ensures q ∙ ap (λ ns. if nat_eq c.sharing.result q then ns ++ n ∷ [] else ns) (c.requires.alike q)
-    ∙ ap (λ s. if nat_eq s q then with_sharing q 0 old ++ n ∷ [] else with_sharing q 0 old) c.sharing.ensures
+    c.in_ok-add_alike.ensures q ∙ ap (λ ns. if nat_eq c.bucket_key.result q then ns ++ n ∷ [] else ns) (c.requires.buckets q)
+    ∙ ap (λ s. if nat_eq s q then with_key q 0 old ++ n ∷ [] else with_key q 0 old) c.bucket_key.ensures
     ∙ with_one_more q 0 old c.args.made.now n (omega arith)
 
 pub returns-clause-edges : goal.returns-clause-edges

@@ -2,13 +2,13 @@ use Rattle.std.proofs.Common.{List, ◌++◌, ◌∷◌, [], ◌∙◌, sym, ap,
 use Rattle.std.proofs.lemmas.Result.{on_ok_weaker}
 use Rattle.cp_search.specs.declared.made.Made.{Made}
 use Rattle.cp_search.specs.MadeLabels.{AreEdgesOf, AreParentsWithin}
-use Rattle.cp_search.specs.LabelsByNumber.{with_sharing}
+use Rattle.cp_search.specs.LabelsByNumber.{with_key}
 use Rattle.cp_search.proofs.labels.put_behind.Goals as goal
 
-pub returns-clause-alike : goal.returns-clause-alike
-returns-clause-alike c =
+pub returns-clause-buckets : goal.returns-clause-buckets
+returns-clause-buckets c =
     on_ok_weaker c.append.result
-    (λ behind. λ q. c.in_ok-note.ensures.alike q ∙ ap (λ (ms : List Made). with_sharing q 0 ms) (ap (λ (ms : List Made). ms ++ c.args.made ∷ []) c.deref.ensures.value ∙ sym behind))
+    (λ behind. λ q. c.in_ok-note.ensures.buckets q ∙ ap (λ (ms : List Made). with_key q 0 ms) (ap (λ (ms : List Made). ms ++ c.args.made ∷ []) c.deref.ensures.value ∙ sym behind))
     c.append.ensures
 
 pub returns-clause-edges : goal.returns-clause-edges

@@ -1,4 +1,4 @@
 use Rattle.cp_search.proofs.new_labels.find.Goals as goal
 
 pub copied_label-requires : goal.copied_label-requires
-copied_label-requires c = record { found = c.requires.found; parent = c.requires.parent; fingerprint = c.in_ok-fingerprint.ensures.exact }
+copied_label-requires c = record { found = c.requires.found; parent = c.requires.parent; signature = c.in_ok-signature.ensures.exact }

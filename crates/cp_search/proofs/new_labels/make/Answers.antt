@@ -6,7 +6,7 @@ use Rattle.cp_search.proofs.new_labels.make.Goals as goal
 pub returns-clause-made : goal.returns-clause-made
 returns-clause-made c =
     on_ok_weaker c.push.result
-    (λ behind. makes_one c.args.made.now _ c.push.new.self behind c.requires.found _ refl c.in_ok-fingerprint.ensures.fingerprint c.requires.parent refl c.in_ok-fingerprint.ensures.seen c.in_ok-fingerprint.ensures.listed c.requires.general)
+    (λ behind. makes_one c.args.made.now _ c.push.new.self behind c.requires.found _ refl c.in_ok-signature.ensures.signature c.requires.parent refl c.in_ok-signature.ensures.seen c.in_ok-signature.ensures.listed c.requires.general)
     c.push.ensures
 
 pub returns-clause-general : goal.returns-clause-general

@@ -1,7 +1,7 @@
 use Rattle.std.proofs.Common.{ℕ, refl, sym, subst}
 use Rattle.std.proofs.lemmas.Result.{IfOk-weaker}
 use Rattle.cp_search.specs.Graph.{AreWithin}
-use Rattle.cp_search.proofs.WayEdges.{all_edges, edges_within, reaching_along}
+use Rattle.cp_search.proofs.LinkEdges.{all_edges, edges_within, reaching_along}
 use Rattle.cp_search.proofs.reachability.reaching.Goals as goal
 
 pub leading_to-requires-clause-within : goal.leading_to-requires-clause-within

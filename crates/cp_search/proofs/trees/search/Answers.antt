@@ -8,7 +8,7 @@ use Rattle.cp_model.specs.Standing.{Standing, StandsIn, StandsApart}
 use Rattle.cp_model.specs.Tree.{dead, at_step_limit, at_strand_limit, Label, Tree, Limits, ReachedSteps, ReachedStrands, IsTrueOf}
 use Rattle.cp_skel.specs.View.{skeleton_view}
 use Rattle.cp_skel.specs.Trees.{variables_view, limits_view, tree_view}
-use Rattle.cp_answers.specs.Lawful.{IsLawful}
+use Rattle.cp_theory.specs.Lawful.{IsLawful}
 use Rattle.cp_roots.specs.Roots.{Root}
 use Rattle.cp_roots.specs.RootView.{root_view}
 use Rattle.cp_roots.proofs.Over.{skeleton_over}

@@ -1,7 +1,7 @@
 use Rattle.std.proofs.Common.{◌≡◌, [], sym, ap, ◌∙◌, subst, arith}
 use Rattle.std.proofs.lemmas.Result.{err_from_is_err_and, IfErr-weaker}
 use Rattle.cp_lists.proofs.Fronts.{front_spelled}
-use Rattle.cp_sexpr.specs.UnfinishedForms.{building_of, places_of, RefusesEnd}
+use Rattle.cp_sexpr.specs.UnfinishedForms.{building_of, places_of_unclosed, RefusesEnd}
 use Rattle.cp_sexpr.specs.Pieces.{BeginsWith, spelling, place_after}
 use Rattle.cp_sexpr.specs.Reading.{IsErrorOf}
 use Rattle.cp_sexpr.specs.Written.{IsWritten}
@@ -27,7 +27,7 @@ returns-in_err-piece-clause-refused c =
     let l = c.loop-builder in
     let s = building_of l.builder in
     let p = err_from_is_err_and c.from_residual.result c.from_residual.ensures.1 in
-    rw (p.1, p.2) (read_refused c.args.bytes.now l.rest.now l.place s c.in_err-piece.field-0.0 l.invariant (c.in_err-piece.ensures.refused (places_of s.lists)))
+    rw (p.1, p.2) (read_refused c.args.bytes.now l.rest.now l.place s c.in_err-piece.field-0.0 l.invariant (c.in_err-piece.ensures.refused (places_of_unclosed s.lists)))
 
 pub returns-in_err-take-clause-refused : goal.returns-in_err-take-clause-refused
 returns-in_err-take-clause-refused c =

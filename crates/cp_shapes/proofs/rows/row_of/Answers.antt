@@ -6,7 +6,7 @@ use Rattle.cp_shapes.proofs.rows.row_of.Goals as goal
 pub loop-shape-preserved-then-not-may_embed : goal.loop-shape-preserved-then-not-may_embed
 loop-shape-preserved-then-not-may_embed c =
     row_without _ c.args.instance c.loop-shape.shape c.loop-shape.row.items c.loop-shape.invariant
-    (kept_apart (λ k. skeleton_view k.now) c.args.candidates.now c.args.fingerprints.now c.args.instance c.loop-shape.shape c.index-fingerprints-shape.result c.index-fingerprints-instance.result c.may_embed.result c.requires.fingerprints c.index-fingerprints-shape.is c.index-fingerprints-instance.is c.if-not-may_embed.true c.may_embed.ensures.kept)
+    (kept_apart (λ k. skeleton_view k.now) c.args.candidates.now c.args.signatures.now c.args.instance c.loop-shape.shape c.index-signatures-shape.result c.index-signatures-instance.result c.may_embed.result c.requires.signatures c.index-signatures-shape.is c.index-signatures-instance.is c.if-not-may_embed.true c.may_embed.ensures.kept)
 
 pub loop-shape-preserved : goal.loop-shape-preserved
 loop-shape-preserved c =

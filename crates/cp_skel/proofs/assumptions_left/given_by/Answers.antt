@@ -5,7 +5,7 @@ use Rattle.cp_strand.specs.View.{strand_view}
 use Rattle.cp_strand.specs.Shapes.{strand_of_shape}
 use Rattle.cp_skel.specs.Kinds.{stated_as}
 use Rattle.cp_strand.specs.declared.atom.Atom.{Atom}
-use Rattle.cp_skel.specs.Given.{IsGivenFrom, AddsOnce}
+use Rattle.cp_model.specs.GivenAssumptions.{IsGivenFrom, AddsOnce}
 use Rattle.cp_skel.proofs.GivenElsewhere.{adds_given}
 use Rattle.cp_skel.proofs.GivenParts.{atoms-given}
 use Rattle.cp_skel.proofs.assumptions_left.given_by.Goals as goal

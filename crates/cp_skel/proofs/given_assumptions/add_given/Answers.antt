@@ -1,7 +1,7 @@
 use Rattle.std.proofs.Common.{◌∷◌, [], ap, ◌∙◌, sym}
 use Rattle.cp_strand.specs.View.{strand_view}
 use Rattle.cp_strand.specs.Shapes.{strand_of_shape}
-use Rattle.cp_skel.specs.Given.{with_given_from}
+use Rattle.cp_model.specs.GivenAssumptions.{with_given_from}
 use Rattle.cp_skel.proofs.StrandsGive.{strand-gives}
 use Rattle.cp_skel.proofs.given_assumptions.add_given.Goals as goal
 use Rattle.cp_skel.proofs.given_assumptions.add_given.Goals.{in-Instance+in_ok-add_given_by-in-Instance, in-Listener}

@@ -1,6 +1,6 @@
 use Rattle.std.proofs.Common.{◌≡◌, map, drop}
 use Rattle.cp_strand.specs.View.{strand_view}
-use Rattle.cp_skel.specs.Given.{with_given_from}
+use Rattle.cp_model.specs.GivenAssumptions.{with_given_from}
 use Rattle.cp_skel.proofs.given_assumptions.add_given.Given as goal
 
 abbrev pub invariant-loop-number : goal.invariant-loop-number

@@ -1,4 +1,4 @@
-use Rattle.cp_skel.proofs.PrefixVariables.{in-prefix, in-added}
+use Rattle.cp_model.proofs.PrefixVariables.{in-prefix, in-added}
 use Rattle.cp_skel.proofs.laws.variables_of_prefixes.Goals as goal
 
 pub returns-clause-whole : goal.returns-clause-whole

@@ -1,6 +1,6 @@
 use Rattle.std.proofs.lemmas.Result.{IfOk-weaker}
 use Rattle.cp_model.specs.Homomorphism.{substitution_by}
-use Rattle.cp_skel.specs.JoinedAssumptions.{joined}
+use Rattle.cp_skel.specs.JoinedAssumptions.{joined_assumptions}
 use Rattle.cp_skel.proofs.GivenParts.{given-adds}
 use Rattle.cp_model.specs.Skeleton.{Assumptions}
 use Rattle.cp_skel.proofs.role_assumptions.missing.Goals as goal
@@ -10,5 +10,5 @@ returns c =
     let i = c.args.instance.now in
     IfOk-weaker c.lacking.result _ _
     (λ (more : Assumptions) e. given-adds i.role i.height (substitution_by i.values) c.args.strand c.args.assumptions.now
-    (joined c.args.assumptions.now more) e)
+    (joined_assumptions c.args.assumptions.now more) e)
     c.lacking.ensures

@@ -1,7 +1,7 @@
 use Rattle.std.proofs.Common.{◌≡◌, List, ℕ, [], ◌∷◌, ◌++◌, ap, ◌∙◌}
 use Rattle.cp_sexpr.specs.View.{view}
 use Rattle.cp_report.specs.Skeletons.{identifier_of}
-use Rattle.cp_variables.proofs.Declared.{each-made}
+use Rattle.cp_spelled.proofs.Declared.{each-made}
 use Rattle.cp_spelled.proofs.maplets.identifiers_of.Goals as goal
 
 pub loop-maplet-preserved : goal.loop-maplet-preserved

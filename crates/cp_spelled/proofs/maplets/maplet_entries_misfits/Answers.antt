@@ -7,9 +7,9 @@ use Rattle.cp_language.specs.Problems.{is_known, name_in_front}
 use Rattle.cp_strand.specs.View.{declaration_view}
 use Rattle.cp_report.specs.Misfits.{symbol_misfits, entries_misfits}
 use Rattle.cp_report.specs.Spelled.{value_misfits}
-use Rattle.cp_variables.specs.FirstMisfit.{first_onto}
+use Rattle.cp_spelled.specs.FirstMisfit.{first_onto}
 use Rattle.cp_spelled.specs.Views.{scope_view}
-use Rattle.cp_variables.proofs.InOrder.{entry-taken}
+use Rattle.cp_spelled.proofs.InOrder.{entry-taken}
 use Rattle.cp_spelled.proofs.maplets.maplet_entries_misfits.Goals as goal
 
 pub returns : goal.returns

@@ -2,9 +2,9 @@ use Rattle.std.specs.Prelude.{map}
 use Rattle.std.proofs.Common.{ap, ◌∙◌}
 use Rattle.cp_strand.specs.View.{declaration_view}
 use Rattle.cp_report.specs.Skeletons.{maplet_misfits}
-use Rattle.cp_variables.specs.FirstMisfit.{first_onto}
+use Rattle.cp_spelled.specs.FirstMisfit.{first_onto}
 use Rattle.cp_spelled.specs.Views.{scope_view}
-use Rattle.cp_variables.proofs.InOrder.{list-read}
+use Rattle.cp_spelled.proofs.InOrder.{list-read}
 use Rattle.cp_spelled.proofs.maplets.maplet_misfits.Goals as goal
 
 pub returns : goal.returns

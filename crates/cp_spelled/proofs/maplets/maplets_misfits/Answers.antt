@@ -3,7 +3,7 @@ use Rattle.cp_sexpr.specs.View.{view}
 use Rattle.cp_strand.specs.View.{declaration_view}
 use Rattle.cp_report.specs.Skeletons.{identifier_of}
 use Rattle.cp_spelled.specs.Views.{scope_view}
-use Rattle.cp_variables.proofs.Declared.{each-made}
+use Rattle.cp_spelled.proofs.Declared.{each-made}
 use Rattle.cp_spelled.proofs.Mapped.{maplets-taken}
 use Rattle.cp_spelled.proofs.maplets.maplets_misfits.Goals as goal
 

@@ -4,9 +4,9 @@ use Rattle.cp_sexpr.specs.View.{view}
 use Rattle.cp_strand.specs.View.{declaration_view}
 use Rattle.cp_report.specs.Misfits.{misfit_unless}
 use Rattle.cp_report.specs.Skeletons.{identifier_of, maplets_misfits, are_mapped}
-use Rattle.cp_variables.specs.FirstMisfit.{first_onto, onto_none}
+use Rattle.cp_spelled.specs.FirstMisfit.{first_onto, onto_none}
 use Rattle.cp_spelled.specs.Views.{scope_view}
-use Rattle.cp_variables.proofs.Firsts.{merged-unless}
+use Rattle.cp_spelled.proofs.Firsts.{merged-unless}
 use Rattle.cp_spelled.proofs.maplets.mapping_misfits.Goals as goal
 
 pub returns : goal.returns

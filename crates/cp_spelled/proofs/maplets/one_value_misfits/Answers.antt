@@ -2,7 +2,7 @@ use Rattle.std.specs.Prelude.{[], option_map}
 use Rattle.cp_scope.specs.Terms.{variable_view}
 use Rattle.cp_report.specs.Spelled.{value_misfits}
 use Rattle.cp_spelled.specs.Views.{scope_view}
-use Rattle.cp_variables.proofs.InOrder.{entry-taken}
+use Rattle.cp_spelled.proofs.InOrder.{entry-taken}
 use Rattle.cp_spelled.proofs.maplets.one_value_misfits.Goals as goal
 
 pub returns : goal.returns

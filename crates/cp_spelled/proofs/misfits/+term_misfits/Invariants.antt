@@ -3,7 +3,7 @@ use Rattle.cp_sexpr.specs.View.{view}
 use Rattle.cp_report.specs.Misfits.{each_misfits}
 use Rattle.cp_report.specs.Spelled.{term_misfits}
 use Rattle.cp_scope.proofs.Sizes.{form_size}
-use Rattle.cp_variables.specs.FirstMisfit.{first_onto}
+use Rattle.cp_spelled.specs.FirstMisfit.{first_onto}
 use Rattle.cp_spelled.specs.Views.{scope_view}
 use Rattle.cp_spelled.proofs.misfits.+term_misfits.Given as goal
 

@@ -3,7 +3,7 @@ use Rattle.std.specs.Prelude.{[], ◌∷◌}
 use Rattle.cp_model.specs.Term.{name_sort}
 use Rattle.cp_sexpr.specs.View.{view}
 use Rattle.cp_report.specs.Spelled.{variables_misfits}
-use Rattle.cp_variables.specs.FirstMisfit.{first_onto}
+use Rattle.cp_spelled.specs.FirstMisfit.{first_onto}
 use Rattle.cp_spelled.specs.Views.{scope_view}
 use Rattle.cp_spelled.proofs.JudgedLists.{name-behind}
 use Rattle.cp_spelled.proofs.misfits.name_misfits.Goals as goal

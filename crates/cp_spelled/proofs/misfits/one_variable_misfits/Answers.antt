@@ -2,7 +2,7 @@ use Rattle.std.specs.Prelude.{[]}
 use Rattle.cp_strand.specs.View.{sort_view}
 use Rattle.cp_report.specs.Spelled.{variable_misfits}
 use Rattle.cp_spelled.specs.Views.{scope_view}
-use Rattle.cp_variables.proofs.InOrder.{entry-taken}
+use Rattle.cp_spelled.proofs.InOrder.{entry-taken}
 use Rattle.cp_spelled.proofs.misfits.one_variable_misfits.Goals as goal
 
 pub returns : goal.returns

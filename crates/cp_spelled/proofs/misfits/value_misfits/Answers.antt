@@ -3,11 +3,11 @@ use Rattle.std.specs.Prelude.{option_map}
 use Rattle.cp_sexpr.specs.View.{view}
 use Rattle.cp_scope.specs.Terms.{variable_view}
 use Rattle.cp_report.specs.Spelled.{term_misfits}
-use Rattle.cp_variables.specs.FirstMisfit.{first_onto}
+use Rattle.cp_spelled.specs.FirstMisfit.{first_onto}
 use Rattle.cp_spelled.specs.Own.{wanted_sort_misfits}
 use Rattle.cp_spelled.specs.Views.{scope_view}
-use Rattle.cp_report.specs.Misfits.{stands_before}
-use Rattle.cp_forms.proofs.FirstOf.{first_then}
+use Rattle.cp_report.specs.Misfits.{place_before}
+use Rattle.cp_scope.proofs.FirstOf.{first_then}
 use Rattle.cp_spelled.proofs.JudgedLists.{value-wanted}
 use Rattle.cp_spelled.proofs.misfits.value_misfits.Goals as goal
 
@@ -16,5 +16,5 @@ returns c =
     let s = scope_view c.args.scope in
     let x = option_map variable_view c.args.variable in
     let f = view c.args.form.now in
-    first_then stands_before c.args.first.now c.wanted_sort_misfits.new.first c.term_misfits.new.first (wanted_sort_misfits s x f) (term_misfits s f) c.wanted_sort_misfits.ensures c.term_misfits.ensures
+    first_then place_before c.args.first.now c.wanted_sort_misfits.new.first c.term_misfits.new.first (wanted_sort_misfits s x f) (term_misfits s f) c.wanted_sort_misfits.ensures c.term_misfits.ensures
     ∙ ap (first_onto c.args.first.now) (value-wanted s x f)

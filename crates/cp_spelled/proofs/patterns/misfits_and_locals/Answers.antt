@@ -1,7 +1,7 @@
 use Rattle.std.proofs.Common.{map, ap, ◌∙◌}
 use Rattle.cp_sexpr.specs.View.{view}
 use Rattle.cp_strand.specs.View.{declaration_view}
-use Rattle.cp_variables.specs.LocalViews.{local_at_view}
+use Rattle.cp_spelled.specs.LocalViews.{local_at_view}
 use Rattle.cp_spelled.proofs.Noted.{pattern-noted, locals-noted}
 use Rattle.cp_spelled.proofs.patterns.misfits_and_locals.Goals as goal
 

@@ -1,5 +1,5 @@
 use Rattle.std.proofs.Common.{◌∙◌}
-use Rattle.cp_variables.proofs.Stated.{numbers-taken}
+use Rattle.cp_spelled.proofs.Stated.{numbers-taken}
 use Rattle.cp_spelled.proofs.patterns.numbers_of.Goals as goal
 
 pub loop-place-preserved : goal.loop-place-preserved

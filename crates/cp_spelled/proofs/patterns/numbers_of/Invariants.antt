@@ -1,6 +1,6 @@
 use Rattle.std.proofs.Common.{◌≡◌, ◌++◌, ◌+◌, drop, map}
 use Rattle.cp_report.specs.Spelled.{variables_of_locals}
-use Rattle.cp_variables.specs.LocalViews.{local_view}
+use Rattle.cp_spelled.specs.LocalViews.{local_view}
 use Rattle.cp_spelled.proofs.patterns.numbers_of.Given as goal
 
 abbrev pub invariant-loop-place : goal.invariant-loop-place

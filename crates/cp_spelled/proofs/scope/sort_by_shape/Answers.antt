@@ -1,7 +1,7 @@
 use Rattle.std.proofs.Common.{sym, ap, ◌∙◌}
 use Rattle.cp_sexpr.specs.View.{view}
 use Rattle.cp_report.specs.Spelled.{sort_of_head}
-use Rattle.cp_forms.specs.Forms.{headed_view}
+use Rattle.cp_scope.specs.Forms.{headed_view}
 use Rattle.cp_spelled.proofs.Scoped.{shape-headed}
 use Rattle.cp_spelled.proofs.scope.sort_by_shape.Goals as goal
 

@@ -1,7 +1,7 @@
 use Rattle.std.proofs.Common.{refl, sym, ap, ◌∙◌, arith}
 use Rattle.std.proofs.lemmas.Result.{IfOk-weaker}
 use Rattle.cp_sexpr.specs.View.{view}
-use Rattle.cp_forms.specs.Forms.{headed_view}
+use Rattle.cp_scope.specs.Forms.{headed_view}
 use Rattle.cp_scope.proofs.Sizes.{inside_smaller}
 use Rattle.cp_spelled.specs.Own.{headed_term}
 use Rattle.cp_spelled.specs.Views.{scope_view}

@@ -1,7 +1,7 @@
 use Rattle.std.proofs.Common.{[]}
 use Rattle.cp_report.specs.Spelled.{term_misfits}
 use Rattle.cp_spelled.specs.Views.{scope_view}
-use Rattle.cp_variables.proofs.InOrder.{entry-taken}
+use Rattle.cp_spelled.proofs.InOrder.{entry-taken}
 use Rattle.cp_stated.proofs.instances.one_term_misfits.Goals as goal
 
 pub returns : goal.returns

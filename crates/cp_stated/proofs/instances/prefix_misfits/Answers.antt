@@ -4,7 +4,7 @@ use Rattle.cp_model.specs.Strand.{variables_of_trace, prefix_of}
 use Rattle.cp_sexpr.specs.View.{view}
 use Rattle.cp_strand.specs.View.{declaration_view}
 use Rattle.cp_report.specs.Skeletons.{declared_in_prefix, mapping_misfits, prefix_misfits}
-use Rattle.cp_variables.specs.FirstMisfit.{first_onto}
+use Rattle.cp_spelled.specs.FirstMisfit.{first_onto}
 use Rattle.cp_spelled.specs.Views.{scope_view}
 use Rattle.cp_stated.proofs.Results.{when_ok}
 use Rattle.cp_stated.proofs.instances.prefix_misfits.Goals as goal

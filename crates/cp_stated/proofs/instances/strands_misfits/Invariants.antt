@@ -4,7 +4,7 @@ use Rattle.cp_roles.specs.Named.{shared_roles_view}
 use Rattle.cp_report.specs.Misfits.{each_misfits}
 use Rattle.cp_report.specs.Heads.{items_with, strand_heads}
 use Rattle.cp_report.specs.Skeletons.{strand_misfits}
-use Rattle.cp_variables.specs.FirstMisfit.{first_onto}
+use Rattle.cp_spelled.specs.FirstMisfit.{first_onto}
 use Rattle.cp_spelled.specs.Views.{scope_view}
 use Rattle.cp_stated.proofs.instances.strands_misfits.Given as goal
 

@@ -1,7 +1,7 @@
 use Rattle.std.proofs.Common.{[], ◌∷◌, ap, ◌∙◌}
 use Rattle.cp_report.specs.Misfits.{any_number_misfits, entries_misfits}
-use Rattle.cp_variables.specs.FirstMisfit.{first_onto}
-use Rattle.cp_variables.proofs.InOrder.{list-read}
+use Rattle.cp_spelled.specs.FirstMisfit.{first_onto}
+use Rattle.cp_spelled.proofs.InOrder.{list-read}
 use Rattle.cp_stated.proofs.nodes.numbers_misfits.Goals as goal
 
 pub returns : goal.returns

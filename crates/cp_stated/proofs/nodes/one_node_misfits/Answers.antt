@@ -1,7 +1,7 @@
 use Rattle.std.proofs.Common.{[], map}
 use Rattle.cp_strand.specs.View.{strand_view}
 use Rattle.cp_report.specs.Skeletons.{node_misfits}
-use Rattle.cp_variables.proofs.InOrder.{entry-taken}
+use Rattle.cp_spelled.proofs.InOrder.{entry-taken}
 use Rattle.cp_stated.proofs.nodes.one_node_misfits.Goals as goal
 
 pub returns : goal.returns

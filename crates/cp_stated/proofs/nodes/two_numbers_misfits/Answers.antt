@@ -1,6 +1,6 @@
 use Rattle.std.proofs.Common.{[], ◌∷◌}
 use Rattle.cp_report.specs.Misfits.{any_number_misfits}
-use Rattle.cp_variables.proofs.InOrder.{entry-taken}
+use Rattle.cp_spelled.proofs.InOrder.{entry-taken}
 use Rattle.cp_stated.proofs.nodes.two_numbers_misfits.Goals as goal
 
 pub returns : goal.returns

@@ -1,7 +1,7 @@
 use Rattle.std.proofs.Common.{length, map, not, sym, ap, ◌∙◌}
 use Rattle.std.specs.Prelude.{nat_le}
 use Rattle.std.proofs.lemmas.Bool.{cond-false}
-use Rattle.cp_model.specs.OrderTests.{reaches}
+use Rattle.cp_model.specs.OrderTests.{reaches_within}
 use Rattle.cp_language.specs.Problems.{on_one_strand}
 use Rattle.cp_strand.specs.View.{strand_view}
 use Rattle.cp_stated.proofs.Further.{no-transmission, no-reception, one-strand, stood-before, way-back}
@@ -24,7 +24,7 @@ returns c =
     let ps = c.args.before.pairs.now in
     let p = c.args.pair in
     let other = sym c.is_on_one_strand.ensures ∙ c.if-is_on_one_strand.false in
-    ap not (c.in_ok-closes.ensures ∙ cond-false (on_one_strand p) (nat_le p.later.index p.earlier.index) (reaches (length ps) ps p.later p.earlier) other)
+    ap not (c.in_ok-closes.ensures ∙ cond-false (on_one_strand p) (nat_le p.later.index p.earlier.index) (reaches_within (length ps) ps p.later p.earlier) other)
     ∙ way-back (map strand_view c.args.before.strands.now) ps p (sym c.is_transmission.ensures ∙ c.if-not-is_transmission.false) (sym c.is_reception.ensures ∙ c.if-not-is_reception.false)
     other (sym c.has_pair.ensures ∙ c.if-has_pair.false)
 

@@ -2,8 +2,8 @@ use Rattle.std.proofs.Common.{[], ◌∷◌, map, ap, ◌∙◌}
 use Rattle.cp_strand.specs.View.{strand_view}
 use Rattle.cp_report.specs.Misfits.{entries_misfits}
 use Rattle.cp_report.specs.Skeletons.{node_misfits}
-use Rattle.cp_variables.specs.FirstMisfit.{first_onto}
-use Rattle.cp_variables.proofs.InOrder.{list-read}
+use Rattle.cp_spelled.specs.FirstMisfit.{first_onto}
+use Rattle.cp_spelled.proofs.InOrder.{list-read}
 use Rattle.cp_stated.proofs.order.nodes_misfits.Goals as goal
 
 pub returns : goal.returns

@@ -7,8 +7,8 @@ use Rattle.cp_load.specs.Acyclic.{IsAcyclicIf}
 use Rattle.cp_strand.specs.View.{strand_view}
 use Rattle.cp_report.specs.Misfits.{misfit_unless, entries_misfits, list_misfits}
 use Rattle.cp_report.specs.Skeletons.{node_misfits, is_further_pair, pair_stated}
-use Rattle.cp_variables.specs.FirstMisfit.{first_onto, onto_none}
-use Rattle.cp_variables.proofs.Firsts.{merged-unless}
+use Rattle.cp_spelled.specs.FirstMisfit.{first_onto, onto_none}
+use Rattle.cp_spelled.proofs.Firsts.{merged-unless}
 use Rattle.cp_stated.proofs.Unless.{by_itself}
 use Rattle.cp_stated.proofs.order.pair_misfits.Goals as goal
 

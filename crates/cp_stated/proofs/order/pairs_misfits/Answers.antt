@@ -7,11 +7,11 @@ use Rattle.cp_strand.specs.View.{strand_view}
 use Rattle.cp_load.specs.Acyclic.{IsAcyclicIf}
 use Rattle.cp_load.proofs.Cycles.{pairs-taken}
 use Rattle.cp_load.proofs.NoCycles.{first-pair}
-use Rattle.cp_report.specs.Misfits.{stands_before}
+use Rattle.cp_report.specs.Misfits.{place_before}
 use Rattle.cp_report.specs.Skeletons.{pair_misfits, pairs_misfits}
-use Rattle.cp_forms.proofs.FirstOf.{first_onto-merged}
-use Rattle.cp_variables.specs.FirstMisfit.{first_onto, merged}
-use Rattle.cp_variables.proofs.Firsts.{in_order}
+use Rattle.cp_scope.proofs.FirstOf.{first_onto-merged}
+use Rattle.cp_spelled.specs.FirstMisfit.{first_onto, merged}
+use Rattle.cp_spelled.proofs.Firsts.{in_order}
 use Rattle.cp_stated.proofs.FormLists.{gathered-taken}
 use Rattle.cp_stated.proofs.order.pairs_misfits.Goals as goal
 
@@ -29,7 +29,7 @@ loop-form-preserved c =
     let misfits = pair_misfits strands before (view c.form-item.result) in
     let added = c.in_ok-add_pair.ensures ∙ ap (λ ps. before ++ ps) c.pair_of.ensures in
     let inside = c.in_ok-inside.ensures ∙ ap (λ (ps : List OrderPair). first_onto None (pair_misfits strands ps (view c.form-item.result))) c.deref-in-loop-form.ensures.value in
-    let asked = c.merge.ensures ∙ ap (merged c.loop-form.first) inside ∙ sym (first_onto-merged stands_before in_order c.loop-form.first misfits) in (
+    let asked = c.merge.ensures ∙ ap (merged c.loop-form.first) inside ∙ sym (first_onto-merged place_before in_order c.loop-form.first misfits) in (
       gathered-taken (λ b f. b ++ pair_of f) (pair_misfits strands) (pairs_misfits strands) c.args.items.now c.loop-form.form-index (λ b f fs. refl) c.form-item.result c.loop-form-test.true c.form-item.is
           before c.add_pair.new.pairs.items c.loop-form.first c.merge.new.self _ added asked c.loop-form.invariant.0,
       pairs-taken strands c.args.items.now c.loop-form.form-index c.form-item.result c.loop-form-test.true c.form-item.is before c.add_pair.new.pairs.items added _ c.loop-form.invariant.1,

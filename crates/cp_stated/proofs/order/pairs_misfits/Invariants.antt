@@ -3,7 +3,7 @@ use Rattle.cp_sexpr.specs.View.{view}
 use Rattle.cp_language.specs.Problems.{pairs_in}
 use Rattle.cp_strand.specs.View.{strand_view}
 use Rattle.cp_report.specs.Skeletons.{pairs_misfits}
-use Rattle.cp_variables.specs.FirstMisfit.{first_onto}
+use Rattle.cp_spelled.specs.FirstMisfit.{first_onto}
 use Rattle.cp_stated.proofs.order.pairs_misfits.Given as goal
 
 abbrev pub invariant-loop-form : goal.invariant-loop-form

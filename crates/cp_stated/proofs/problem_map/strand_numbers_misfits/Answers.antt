@@ -2,7 +2,7 @@ use Rattle.std.proofs.Common.{length, map, sym, ap, ◌∙◌, arith, ltb-true}
 use Rattle.std.proofs.lemmas.Bool.{ltb-false}
 use Rattle.cp_report.specs.Misfits.{misfit}
 use Rattle.cp_strand.specs.View.{strand_view}
-use Rattle.cp_variables.specs.FirstMisfit.{first_onto}
+use Rattle.cp_spelled.specs.FirstMisfit.{first_onto}
 use Rattle.cp_stated.proofs.NumberedLists.{number-taken, number-too-many, numbers-done}
 use Rattle.cp_stated.proofs.problem_map.strand_numbers_misfits.Goals as goal
 

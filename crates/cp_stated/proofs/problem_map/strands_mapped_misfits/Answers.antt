@@ -1,7 +1,7 @@
 use Rattle.std.proofs.Common.{map, ap, ◌∙◌}
 use Rattle.cp_strand.specs.View.{strand_view}
-use Rattle.cp_variables.specs.FirstMisfit.{first_onto}
-use Rattle.cp_variables.proofs.InOrder.{list-read}
+use Rattle.cp_spelled.specs.FirstMisfit.{first_onto}
+use Rattle.cp_spelled.proofs.InOrder.{list-read}
 use Rattle.cp_stated.specs.ProblemMap.{strands_of_problem_misfits}
 use Rattle.cp_stated.proofs.problem_map.strands_mapped_misfits.Goals as goal
 

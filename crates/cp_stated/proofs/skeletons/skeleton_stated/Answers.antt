@@ -6,7 +6,7 @@ use Rattle.cp_model.specs.Data.{SkeletonData, skeleton_of}
 use Rattle.cp_skel.specs.Sound.{IsSound}
 use Rattle.cp_skel.specs.Trees.{variables_view}
 use Rattle.cp_skel.specs.View.{skeleton_view}
-use Rattle.cp_load.specs.Drafts.{draft_view}
+use Rattle.cp_load.specs.UncheckedProblems.{unchecked_view}
 use Rattle.cp_report.specs.Spelled.{Scope}
 use Rattle.cp_report.specs.Skeletons.{scope_of, strands_mapped, skeleton_stated}
 use Rattle.cp_spelled.specs.Views.{scope_view}
@@ -17,9 +17,9 @@ use Rattle.cp_stated.proofs.skeletons.skeleton_stated.Goals as goal
 
 -- what the parts of the new skeleton make
 parts : (c : goal.After-of)
-    → skeleton_view (skeleton_of c.in_ok-variables.variables c.args.strands.items c.of.result c.in_ok-assumptions.assumptions c.in_ok-from_problem.from_problem) ≡ skeleton_stated (draft_view c.args.problem.now) (map view c.args.items.now)
+    → skeleton_view (skeleton_of c.in_ok-variables.variables c.args.strands.items c.of.result c.in_ok-assumptions.assumptions c.in_ok-from_problem.from_problem) ≡ skeleton_stated (unchecked_view c.args.problem.now) (map view c.args.items.now)
 parts c =
-    let p = draft_view c.args.problem.now in
+    let p = unchecked_view c.args.problem.now in
     let items = map view c.args.items.now in
     let names = map declaration_view c.args.names.now in
     let to_strands = c.in_ok-to_strands.ensures ∙ ap strands_mapped c.entries_under-entries.ensures in
@@ -32,7 +32,7 @@ parts c =
 
 pub new-requires : goal.new-requires
 new-requires c =
-    subst IsSound (sym (parts c)) (stated_sound (draft_view c.args.problem.now) c.requires.others_fit.0 (map view c.args.items.now) (subst HasDeclaringRoles c.deref-3.ensures c.is_sound.ensures) c.requires.strands_fit c.requires.others_fit.1)
+    subst IsSound (sym (parts c)) (stated_sound (unchecked_view c.args.problem.now) c.requires.others_fit.0 (map view c.args.items.now) (subst HasDeclaringRoles c.deref-3.ensures c.is_sound.ensures) c.requires.strands_fit c.requires.others_fit.1)
 
 pub returns-clause-skeleton : goal.returns-clause-skeleton
 returns-clause-skeleton c = ap skeleton_view c.new.ensures ∙ parts c.before

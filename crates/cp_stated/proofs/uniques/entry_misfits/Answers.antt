@@ -3,9 +3,9 @@ use Rattle.cp_strand.specs.View.{strand_view}
 use Rattle.cp_report.specs.Misfits.{entries_misfits}
 use Rattle.cp_report.specs.Spelled.{atom_misfits}
 use Rattle.cp_report.specs.Skeletons.{node_misfits}
-use Rattle.cp_variables.specs.FirstMisfit.{first_onto}
+use Rattle.cp_spelled.specs.FirstMisfit.{first_onto}
 use Rattle.cp_spelled.specs.Views.{scope_view}
-use Rattle.cp_variables.proofs.InOrder.{list-read}
+use Rattle.cp_spelled.proofs.InOrder.{list-read}
 use Rattle.cp_stated.proofs.uniques.entry_misfits.Goals as goal
 
 pub returns : goal.returns

@@ -9,7 +9,7 @@ use Rattle.cp_strand.specs.View.{strand_view}
 use Rattle.cp_report.specs.Misfits.{misfit_unless, entries_misfits, list_misfits}
 use Rattle.cp_report.specs.Spelled.{atom_misfits}
 use Rattle.cp_report.specs.Skeletons.{node_misfits, may_be_origin, unique_of, second_place}
-use Rattle.cp_variables.specs.FirstMisfit.{first_onto, onto_none}
+use Rattle.cp_spelled.specs.FirstMisfit.{first_onto, onto_none}
 use Rattle.cp_spelled.specs.Views.{scope_view}
 use Rattle.cp_stated.proofs.Unless.{unless-twice}
 use Rattle.cp_stated.proofs.uniques.unique_misfits.Goals as goal

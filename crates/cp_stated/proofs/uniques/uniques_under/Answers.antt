@@ -6,7 +6,7 @@ use Rattle.cp_report.specs.Heads.{entries_under}
 use Rattle.cp_report.specs.Spelled.{Scope}
 use Rattle.cp_report.specs.Skeletons.{unique_of}
 use Rattle.cp_spelled.specs.Views.{scope_view}
-use Rattle.cp_variables.proofs.Declared.{each-made, all-made}
+use Rattle.cp_spelled.proofs.Declared.{each-made, all-made}
 use Rattle.cp_stated.proofs.uniques.uniques_under.Goals as goal
 
 pub loop-item-preserved : goal.loop-item-preserved

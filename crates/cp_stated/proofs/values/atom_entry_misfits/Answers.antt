@@ -5,9 +5,9 @@ use Rattle.cp_sexpr.specs.View.{view}
 use Rattle.cp_language.specs.Faults.{place_of}
 use Rattle.cp_report.specs.Misfits.{misfit_unless}
 use Rattle.cp_report.specs.Spelled.{atom_misfits, atom_in}
-use Rattle.cp_variables.specs.FirstMisfit.{first_onto, onto_none}
+use Rattle.cp_spelled.specs.FirstMisfit.{first_onto, onto_none}
 use Rattle.cp_spelled.specs.Views.{scope_view}
-use Rattle.cp_variables.proofs.Firsts.{merged-unless}
+use Rattle.cp_spelled.proofs.Firsts.{merged-unless}
 use Rattle.cp_stated.proofs.values.atom_entry_misfits.Goals as goal
 
 pub returns : goal.returns

@@ -3,9 +3,9 @@ use Rattle.cp_model.specs.Term.{AtomTerm}
 use Rattle.cp_sexpr.specs.View.{view}
 use Rattle.cp_report.specs.Spelled.{atom_in}
 use Rattle.cp_report.specs.Skeletons.{atoms_misfits}
-use Rattle.cp_variables.specs.FirstMisfit.{first_onto}
+use Rattle.cp_spelled.specs.FirstMisfit.{first_onto}
 use Rattle.cp_spelled.specs.Views.{scope_view}
-use Rattle.cp_variables.proofs.Declared.{each-made}
+use Rattle.cp_spelled.proofs.Declared.{each-made}
 use Rattle.cp_stated.specs.AssumptionEntries.{atom_entry_misfits}
 use Rattle.cp_stated.proofs.FormLists.{gathered-taken}
 use Rattle.cp_stated.proofs.values.atoms_misfits.Goals as goal

@@ -2,7 +2,7 @@ use Rattle.std.proofs.Common.{◌≡◌, ◌++◌, [], map, drop}
 use Rattle.cp_sexpr.specs.View.{view}
 use Rattle.cp_report.specs.Spelled.{atom_in}
 use Rattle.cp_report.specs.Skeletons.{atoms_misfits}
-use Rattle.cp_variables.specs.FirstMisfit.{first_onto}
+use Rattle.cp_spelled.specs.FirstMisfit.{first_onto}
 use Rattle.cp_spelled.specs.Views.{scope_view}
 use Rattle.cp_stated.proofs.values.atoms_misfits.Given as goal
 

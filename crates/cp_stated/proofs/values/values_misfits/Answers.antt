@@ -7,7 +7,7 @@ use Rattle.cp_report.specs.Misfits.{lacking}
 use Rattle.cp_report.specs.Heads.{entries_or_none, item_with, optional_misfits, place_or}
 use Rattle.cp_report.specs.Spelled.{Scope, atom_in}
 use Rattle.cp_report.specs.Skeletons.{scope_of, has_atoms, atoms_misfits, atoms_under}
-use Rattle.cp_variables.specs.FirstMisfit.{first_onto}
+use Rattle.cp_spelled.specs.FirstMisfit.{first_onto}
 use Rattle.cp_spelled.specs.Views.{scope_view}
 use Rattle.cp_stated.proofs.GivenOnce.{assumption-read}
 use Rattle.cp_stated.proofs.values.values_misfits.Goals as goal

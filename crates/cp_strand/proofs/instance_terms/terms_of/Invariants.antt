@@ -1,6 +1,6 @@
 use Rattle.std.proofs.Common.{◌≡◌, ◌≤◌, ◌++◌, map, drop}
 use Rattle.cp_model.specs.Strand.{variables_of_trace}
-use Rattle.cp_strand.specs.PrefixVariables.{is_added}
+use Rattle.cp_model.specs.PrefixVariables.{is_added}
 use Rattle.cp_strand.specs.Valued.{valued}
 use Rattle.cp_strand.specs.View.{declaration_view, event_view}
 use Rattle.cp_strand.proofs.instance_terms.terms_of.Given as goal

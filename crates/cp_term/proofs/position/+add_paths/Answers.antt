@@ -3,7 +3,7 @@ use Rattle.cp_model.specs.Term.{pair_term, enc_term}
 use Rattle.cp_term.specs.Keys.{key_of}
 use Rattle.cp_term.specs.Layer.{term_of_node}
 use Rattle.cp_model.specs.Same.{same_term}
-use Rattle.cp_term.specs.declared.path.Step.TheVariants.{Right}
+use Rattle.cp_model.specs.declared.step.Step.TheVariants.{Right}
 use Rattle.cp_term.proofs.Behind.{first_kept, turned, after_pair, after_encryption}
 use Rattle.cp_term.proofs.position.+add_paths.Goals as goal
 

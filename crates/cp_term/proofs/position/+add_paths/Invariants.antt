@@ -1,7 +1,7 @@
 use Rattle.std.proofs.Common.{◌≡◌, ◌≤◌, ◌++◌, take}
 use Rattle.cp_term.specs.Size.{term_size}
 use Rattle.cp_model.specs.Same.{same_term}
-use Rattle.cp_term.specs.Positions.{behind, positions_where}
+use Rattle.cp_model.specs.Positions.{prefixed, positions_where}
 use Rattle.cp_term.proofs.position.+add_paths.Given as goal
 
 abbrev pub decreases-add_paths : goal.decreases-add_paths
@@ -12,7 +12,7 @@ abbrev pub invariant-loop-here : goal.invariant-loop-here
 invariant-loop-here l =
     (term_size l.rest ≤ term_size l.whole)
     × (take l.start l.here ≡ l.initial.here)
-    × (l.found.items ++ behind l.here (positions_where (same_term l.part) l.rest) ≡ l.initial.found.items ++ behind l.initial.here (positions_where (same_term l.part) l.whole))
+    × (l.found.items ++ prefixed l.here (positions_where (same_term l.part) l.rest) ≡ l.initial.found.items ++ prefixed l.initial.here (positions_where (same_term l.part) l.whole))
 
 abbrev pub decreases-loop-here : goal.decreases-loop-here
 decreases-loop-here l = term_size l.rest

@@ -1,6 +1,6 @@
 use Rattle.std.proofs.Common.{◌≡◌, ◌≤◌, ◌+◌, min, max}
 use Rattle.cp_term.specs.Size.{term_size}
-use Rattle.cp_term.specs.Positions.{depth_of}
+use Rattle.cp_model.specs.Positions.{depth_of}
 use Rattle.cp_term.proofs.position.+depth.Given as goal
 
 abbrev pub decreases-depth : goal.decreases-depth

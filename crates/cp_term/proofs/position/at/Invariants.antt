@@ -1,5 +1,5 @@
 use Rattle.std.proofs.Common.{◌≡◌, drop}
-use Rattle.cp_term.specs.Positions.{term_at}
+use Rattle.cp_model.specs.Positions.{term_at}
 use Rattle.cp_term.proofs.position.at.Given as goal
 
 -- what the rest has at the steps that are left is what the whole has at the path

@@ -2,7 +2,7 @@ use Rattle.std.proofs.Common.{◌≡◌, ◌+◌, ◌*◌, map, vec_len}
 use Rattle.std.specs.Prelude.{unwrap_or}
 use Rattle.cp_model.specs.Term.{Term, apply_to}
 use Rattle.cp_term.specs.Size.{term_size}
-use Rattle.cp_term.specs.Spines.{LeadsTo}
+use Rattle.cp_term.specs.Spines.{SpineLeads}
 use Rattle.cp_term.proofs.substitution.+under.Given as goal
 
 abbrev pub decreases-above_under : goal.decreases-above_under
@@ -13,7 +13,7 @@ decreases-under g l = 2 * term_size l.term.now + 1
 
 -- the spine so far leads from the term to the rest
 abbrev pub invariant-under-loop-right : goal.invariant-under-loop-right
-invariant-under-loop-right g l = LeadsTo (map (λ r. r.now) l.spine.items) l.term l.rest
+invariant-under-loop-right g l = SpineLeads (map (λ r. r.now) l.spine.items) l.term l.rest
 
 abbrev pub decreases-under-loop-right : goal.decreases-under-loop-right
 decreases-under-loop-right g l = term_size l.rest
@@ -21,7 +21,7 @@ decreases-under-loop-right g l = term_size l.rest
 -- what has changed is a term to which the spine that is left leads
 abbrev pub invariant-under-loop-above : goal.invariant-under-loop-above
 invariant-under-loop-above g l =
-    (rest : Term) × LeadsTo (map (λ r. r.now) l.spine.items) l.term rest × (unwrap_or l.changed rest ≡ apply_to (g.V.Valuation.substitution l.values) rest)
+    (rest : Term) × SpineLeads (map (λ r. r.now) l.spine.items) l.term rest × (unwrap_or l.changed rest ≡ apply_to (g.V.Valuation.substitution l.values) rest)
 
 abbrev pub decreases-under-loop-above : goal.decreases-under-loop-above
 decreases-under-loop-above g l = vec_len l.spine

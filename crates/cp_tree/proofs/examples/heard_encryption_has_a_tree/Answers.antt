@@ -1,7 +1,7 @@
 use Rattle.std.specs.Prelude.{[], ◌∷◌}
-use Rattle.cp_answers.specs.Example.{locker, protocol, heard}
-use Rattle.cp_answers.proofs.Heard.{heard_skeleton}
-use Rattle.cp_covering.proofs.OneChild.{roles_declare}
+use Rattle.cp_theory.specs.EncryptionExamples.{locker, protocol, heard}
+use Rattle.cp_theory.proofs.HeardEncryption.{heard_skeleton}
+use Rattle.cp_cohort.proofs.OneChild.{roles_declare}
 use Rattle.cp_tree.specs.Example.{heard_root, heard_tree, one_step_limits}
 use Rattle.cp_tree.proofs.TrueTrees.{true_of}
 use Rattle.cp_tree.proofs.SoundExpansions.{expands_soundly}

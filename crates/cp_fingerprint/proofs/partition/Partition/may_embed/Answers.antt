@@ -1,5 +1,5 @@
 use Rattle.std.proofs.Common.{nat_eq, refl, sym, ◌∙◌}
-use Rattle.cp_fingerprint.proofs.Fingerprints.{found_equal, numbers_differ, seen_through, embedding_through}
+use Rattle.cp_fingerprint.proofs.Signatures.{found_equal, numbers_differ, seen_through, embedding_through}
 use Rattle.cp_fingerprint.proofs.partition.Partition.may_embed.Goals as goal
 
 pub returns-then-self-other : goal.returns-then-self-other

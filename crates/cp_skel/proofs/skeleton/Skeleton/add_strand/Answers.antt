@@ -1,6 +1,6 @@
 use Rattle.std.proofs.Common.{◌++◌, ◌∷◌, [], map, sym, ap, ◌∙◌, subst}
 use Rattle.cp_model.specs.Skeleton.{Skeleton}
-use Rattle.cp_skel.specs.Extensions.{AddsStrand}
+use Rattle.cp_model.specs.Extensions.{AddsStrand}
 use Rattle.cp_skel.specs.Parts.{skeleton_of_parts}
 use Rattle.cp_strand.specs.Declares.{DeclaresItsVariables}
 use Rattle.cp_strand.specs.View.{strand_view}

@@ -13,7 +13,7 @@ returns-then-ne c =
     let k = skeleton_view (skeleton_of_parts c.self.inside) in
     let there : IsNodeOf k.strands c.args.m = subst (λ d. IsNodeOf (skeleton_view d).strands c.args.m) (sym c.self.view_is) c.requires.second in
     record {
-      exact = subst (λ d. IsTrue c.leads_to.result ↔ Before (skeleton_view d) c.args.n c.args.m) c.self.view_is
-          (asked_before k c.args.n c.args.m c.leads_to.result (sound_ordered k c.self.invariant) there
-          (tested_apart c.args.n c.args.m c.if-ne.ensures) c.leads_to.ensures);
+      exact = subst (λ d. IsTrue c.reaches.result ↔ Before (skeleton_view d) c.args.n c.args.m) c.self.view_is
+          (asked_before k c.args.n c.args.m c.reaches.result (sound_ordered k c.self.invariant) there
+          (tested_apart c.args.n c.args.m c.if-ne.ensures) c.reaches.ensures);
     }

@@ -3,7 +3,7 @@ use Rattle.std.specs.Prelude.{Some}
 use Rattle.std.proofs.lemmas.List.{length-map}
 use Rattle.cp_model.specs.Skeleton.{Skeleton}
 use Rattle.cp_lists.proofs.Items.{item_below, map_of_read}
-use Rattle.cp_skel.specs.Extensions.{CanExtend, Extends}
+use Rattle.cp_model.specs.Extensions.{CanExtend, Extends}
 use Rattle.cp_skel.specs.Parts.{skeleton_of_parts}
 use Rattle.cp_strand.specs.Shapes.{strand_of_shape}
 use Rattle.cp_strand.specs.View.{strand_view}

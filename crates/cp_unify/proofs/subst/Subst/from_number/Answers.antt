@@ -1,12 +1,12 @@
 use Rattle.std.proofs.Common.{sym, subst, ◌∙◌, arith}
 use Rattle.std.proofs.lemmas.Bool.{eqb-false}
-use Rattle.cp_unify.specs.Places.{ArePlaces, IsBehind}
+use Rattle.cp_unify.specs.Places.{ArePlaces, IsRestAfter}
 use Rattle.cp_unify.proofs.FirstPlaces.{behind_all, behind_slice, some_places}
 use Rattle.cp_unify.proofs.subst.Subst.from_number.Goals as goal
 
 pub returns-then-is_empty : goal.returns-then-is_empty
 returns-then-is_empty c =
-    subst (λ bs. IsBehind c.args.number bs c.args.self.now) (sym (c.as_slice-bindings.ensures.value ∙ c.self.view_is)) (behind_all c.args.number c.args.self.now)
+    subst (λ bs. IsRestAfter c.args.number bs c.args.self.now) (sym (c.as_slice-bindings.ensures.value ∙ c.self.view_is)) (behind_all c.args.number c.args.self.now)
 
 pub returns : goal.returns
 returns c =

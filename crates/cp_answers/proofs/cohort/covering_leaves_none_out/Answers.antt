@@ -1,5 +1,0 @@
-use Rattle.cp_answers.proofs.NoneLeftOut.{covering_leaves_none_out}
-use Rattle.cp_answers.proofs.cohort.covering_leaves_none_out.Goals as goal
-
-pub returns : goal.returns
-returns c = covering_leaves_none_out

@@ -1,9 +1,0 @@
-pub mod Forms
-pub mod Fresh
-pub mod FittingAssignments
-pub mod Trials
-pub mod Covering
-pub mod NoneLeftOut
-pub mod Lawful
-pub mod Example
-pub mod LetOut

@@ -1,0 +1,264 @@
+// The top call.
+ghost use Rattle.std.specs.Prelude.{◌≡◌, ◌≢◌, ◌≤◌, ◌<◌, ◌++◌, ◌⊎◌, ◌↔◌, ℕ, List, [], length, map, string_bytes, true, false, None, Some, IfOk, IfErr, OnOk, OnErr};
+ghost use Rattle.cp_app.specs.Headline.{most_bytes, IsAccepted};
+ghost use Rattle.cp_app.specs.Commands.{reads, Accepts, Answers};
+ghost use Rattle.cp_app.specs.Details.{AnswersInDetail};
+ghost use Rattle.cp_app.specs.Answered.{SaysWhole, WheneverGiven, HasAnswered, HasBrokenOff};
+ghost use Rattle.cp_app.specs.Endings.{IsRefusedFor, puts_nothing, status_line, HasRefused, WasTooLong, TookAtMost, HasLine};
+ghost use Rattle.cp_app.specs.Reported.{text_by};
+ghost use Rattle.cp_app.specs.Steps.{IsCauseFor, HasStopped, IsWholeReport, outcomes_status, HasPut, HasEnded, HasExecuted};
+ghost use Rattle.cp_app.specs.declared.stopped.Stopped.TheVariants as stopped;
+ghost use Rattle.cp_base.specs.Outside.{Rose};
+ghost use Rattle.cp_base.specs.declared.place.Refusal.{Refusal as RefusalData};
+ghost use Rattle.cp_base.specs.declared.status.Status.TheVariants.{Usage, Refused, ReadFault, WriteFault, Memory, TooLong};
+ghost use Rattle.cp_sexpr.specs.Syntax.{Forms};
+ghost use Rattle.cp_load.specs.Inputs.{input_entries};
+ghost use Rattle.cp_skel.specs.Trees.{tree_view};
+ghost use Rattle.cp_words.specs.Command.{Command as CommandData};
+ghost use Rattle.cp_words.specs.CommandWords.{command_of};
+ghost use Rattle.cp_words.specs.Settings.{command_view};
+
+use crate::analysis::{are_complete, trees_of};
+use crate::input::read_all;
+use crate::output::{put_line, put_pieces};
+use crate::stopped::Stopped;
+use cp_base::{Failed, Sink, Source, Status};
+use cp_load::{Input, load};
+use cp_print::{print_pieces, print_shape_pieces};
+use cp_sexpr::read;
+use cp_skel::Tree;
+use cp_words::{Command, CommandName, WordsError, read_command};
+use std::alloc::{AllocError, Global};
+
+// What is printed of a report, the byte offset at which each of its top forms ends, and whether every outcome in the report is
+// complete.
+#[derive(Drop)]
+struct Report {
+    text: Vec<u8>,
+    ends: Vec<usize>,
+    complete: bool,
+}
+
+// The status of a run whose report was put.
+fn outcomes_status(complete: bool) -> Status
+    ensures { result ≡ outcomes_status complete }
+{
+    if complete {
+        Status::Done
+    } else {
+        Status::Limit
+    }
+}
+
+// Appends what the command prints to `text`, and to `ends` the end of each of its top forms.
+fn print_by(
+    alloc: Global,
+    name: CommandName,
+    input: &Input<'_>,
+    trees: &[Tree],
+    text: &mut Vec<u8>,
+    ends: &mut Vec<usize>,
+) -> Result<(), AllocError>
+    ensures { OnOk result (text.new.items ≡ text.old.items ++ text_by name (input_entries input.now) (map tree_view trees.now)) }
+{
+    match name {
+        CommandName::Analyse => print_pieces(alloc, input, trees, text, ends),
+        CommandName::Shapes => print_shape_pieces(alloc, input, trees, text, ends),
+    }
+}
+
+// The report on an input, or the reason why there is none.
+fn report_of(alloc: Global, command: Command, input: &[u8]) -> Result<Report, Stopped>
+    requires short { length input.now ≤ most_bytes }
+    ensures report { IfOk result (λ report. IsWholeReport (command_view command) input.now report.text.items report.complete) }
+    ensures cause { IfErr result (IsCauseFor (command_view command) input.now) }
+{
+    let forms = read(alloc, input)?;
+    let loaded = load(alloc, &forms)?;
+    let trees = trees_of(alloc, &loaded.problems, command.limits)?;
+    let complete = are_complete(&trees);
+    let mut text = Vec::new(alloc);
+    let mut ends = Vec::new(alloc);
+    print_by(alloc, command.name, &loaded, &trees, &mut text, &mut ends)?;
+    Ok(Report {
+        text,
+        ends,
+        complete,
+    })
+}
+
+// The report on the source's bytes, or the reason why there is none.
+fn make_report<S: Source>(
+    alloc: Global,
+    command: Command,
+    source: &mut S,
+) -> Result<Report, Stopped>
+    ensures report { (input : List ℕ) → S.left source.old ≡ Some input
+        → IfOk result (λ report. IsWholeReport (command_view command) input report.text.items report.complete × (S.left source.new ≡ Some [])) }
+    ensures stopped { (input : List ℕ) → S.left source.old ≡ Some input
+        → IfErr result (HasStopped (command_view command) input (S.left source.new)) }
+    ensures read_fault { IfErr result (λ cause. cause ≡ stopped.ReadFault
+        → Rose (S.faults source.old) (S.faults source.new)) }
+{
+    let input = read_all(alloc, source)?;
+    report_of(alloc, command, &input)
+}
+
+// Puts a report, one piece for each top form.
+fn put_report<O: Sink>(out: &mut O, report: &Report) -> Result<(), Failed>
+    ensures put { (before : List ℕ) → O.held out.old ≡ Some before
+        → HasPut before report.now.text.items (O.held out.new) result }
+    ensures failed { OnErr result (Rose (O.faults out.old) (O.faults out.new)) }
+{
+    put_pieces(out, &report.text, &report.ends)
+}
+
+// Reads the source, analyses its bytes and puts what the command prints.
+fn analyse<S: Source, O: Sink>(
+    alloc: Global,
+    command: Command,
+    source: &mut S,
+    out: &mut O,
+) -> Status
+    ensures ended { (input : List ℕ) → S.left source.old ≡ Some input
+        → HasEnded (command_view command) input (S.left source.new) (O.held out.old) (O.held out.new) result }
+    ensures not_usage { result ≢ Usage }
+    ensures read_fault { result ≡ ReadFault → Rose (S.faults source.old) (S.faults source.new) }
+    ensures write_fault { result ≡ WriteFault → Rose (O.faults out.old) (O.faults out.new) }
+    ensures nothing_put { puts_nothing result ≡ true → out.new ≡ out.old }
+{
+    match make_report(alloc, command, source) {
+        Ok(report) => match put_report(out, &report) {
+            Ok(()) => outcomes_status(report.complete),
+            Err(_) => Status::WriteFault,
+        },
+        Err(cause) => cause.status(),
+    }
+}
+
+// Executes the command that these words spell.
+fn execute<S: Source, O: Sink>(
+    alloc: Global,
+    words: &[String],
+    source: &mut S,
+    out: &mut O,
+) -> Status
+    ensures executed { (input : List ℕ) → S.left source.old ≡ Some input
+        → HasExecuted (command_of (map string_bytes words.now)) input (S.left source.new) (O.held out.old) (O.held out.new) result }
+    ensures usage { (result ≡ Usage) ↔ (command_of (map string_bytes words.now) ≡ None) }
+    ensures usage_reads_nothing { result ≡ Usage → source.new ≡ source.old }
+    ensures read_fault { result ≡ ReadFault → Rose (S.faults source.old) (S.faults source.new) }
+    ensures write_fault { result ≡ WriteFault → Rose (O.faults out.old) (O.faults out.new) }
+    ensures nothing_put { puts_nothing result ≡ true → out.new ≡ out.old }
+{
+    match read_command(alloc, words) {
+        Ok(command) => analyse(alloc, command, source, out),
+        Err(WordsError::Usage) => Status::Usage,
+        Err(WordsError::Memory) => Status::Memory,
+    }
+}
+
+/// Runs the command that the words spell, over a source, a sink for its output and a sink for errors.
+///
+/// `words` starts with the program's name; the command follows. `analyse [--limit N] [--bound N]` reads the source to its end,
+/// but at most 1,048,577 bytes, searches for the shapes of each problem within these limits, builds the whole text of the report,
+/// and only then puts it on `out`. `shapes`, with the same options, does the same, but omits from the text each label that is not
+/// marked as a shape. The status says how the run ended:
+///
+/// - `Done`: the whole text was put, and every outcome in the report is complete;
+/// - `Limit`: the whole text was put, and some outcome is a limit;
+/// - `Usage`: exactly if the words are no command; nothing was read;
+/// - `TooLong`: exactly if the words are a command and the source held more than 1,048,576 bytes, unless the source fails or
+///   memory runs out;
+/// - `Refused`: exactly if the words are a command and the input, of at most 1,048,576 bytes, is not well formed, with the same
+///   exceptions; it gives the place and the code of the first fault;
+/// - `ReadFault`, `WriteFault`: the source, or the sink for the output, failed;
+/// - `Memory`: memory ran out.
+///
+/// The report covers the whole input, which is well formed and was read to its end: the forms in order, each problem followed by
+/// its tree. Each label declares its problem's variables, and every variable that occurs in it. The tree is true of its problem:
+///
+/// - each label denotes a skeleton over the protocol, carries a homomorphism from the problem and keeps what the problem itself
+///   states;
+/// - each shape is realised, and no shape embeds in another one of its problem;
+/// - if the tree is complete, each standing of the problem in a bundle factors through a shape; at a limit, through a shape or a
+///   label at the limit;
+/// - the outcome is a limit only if that limit was reached.
+///
+/// Moreover, each tree is one that the rules of the search make, label by label.
+///
+/// Reading the forms of the report back gives the same trees, each label with its skeleton and its map from the problem, up to
+/// the names of variables, the places of forms, and the pairs that generate an order. The same holds for the text that `analyse`
+/// puts, if that text can be read; it can if its numbers have at most nine digits and its lists are nested at most 200 deep. The
+/// trees that these forms denote are true of their problems too.
+///
+/// At `WriteFault` a proper prefix of such a text was put. At every other status except `Done` and `Limit`, nothing was put on
+/// `out`. Each status except `Done` and `Limit` has a line on the sink for errors, or a prefix of it if that sink fails. What is
+/// said of the input and the output holds if the source tells what it has left and the sinks tell what they hold.
+pub fn run<S: Source, O: Sink, E: Sink>(
+    alloc: Global,
+    words: &[String],
+    source: &mut S,
+    out: &mut O,
+    errs: &mut E,
+) -> Status
+    // Words that are no command, and no others, end in `Usage`; then nothing is read.
+    ensures usage { (result ≡ Usage) ↔ (command_of (map string_bytes words.now) ≡ None) }
+    ensures usage_reads_nothing { result ≡ Usage → source.new ≡ source.old }
+
+    // What was put is the command's answer to the whole input; at a write fault, a proper prefix of an answer.
+    ensures answered { WheneverGiven (command_of (map string_bytes words.now)) (S.left source.old) (O.held out.old) (λ command input before. SaysWhole result → HasAnswered (Answers command) command input before (S.left source.new) (O.held out.new) result) }
+    ensures broken_off { WheneverGiven (command_of (map string_bytes words.now)) (S.left source.old) (O.held out.old) (λ command input before. result ≡ WriteFault → HasBrokenOff (Answers command) command input before (S.left source.new) (O.held out.new)) }
+
+    // The same, with what is promised of answers beyond the headline.
+    ensures answered_in_detail { WheneverGiven (command_of (map string_bytes words.now)) (S.left source.old) (O.held out.old) (λ command input before. SaysWhole result → HasAnswered (AnswersInDetail command) command input before (S.left source.new) (O.held out.new) result) }
+    ensures broken_off_in_detail { WheneverGiven (command_of (map string_bytes words.now)) (S.left source.old) (O.held out.old) (λ command input before. result ≡ WriteFault → HasBrokenOff (AnswersInDetail command) command input before (S.left source.new) (O.held out.new)) }
+
+    // A command that reads answers only input that it accepts, read to its end; one that does not takes nothing.
+    ensures accepted { (command : CommandData) (input : List ℕ)
+        → command_of (map string_bytes words.now) ≡ Some command → reads command.name ≡ true
+        → S.left source.old ≡ Some input → (SaysWhole result ⊎ (result ≡ WriteFault))
+        → (S.left source.new ≡ Some []) × ((fs : Forms) × IsAccepted (Accepts command) input fs) }
+    ensures reads_nothing { (command : CommandData) → command_of (map string_bytes words.now) ≡ Some command
+        → reads command.name ≡ false → source.new ≡ source.old }
+
+    // Input that the command refuses, and no other, is refused, with the place and code that the command gives.
+    ensures refused { (command : CommandData) (r : RefusalData) (input : List ℕ)
+        → command_of (map string_bytes words.now) ≡ Some command → result ≡ Refused r
+        → S.left source.old ≡ Some input → HasRefused command input (S.left source.new) r }
+    ensures only_refused { (command : CommandData) (r : RefusalData) (input : List ℕ)
+        → command_of (map string_bytes words.now) ≡ Some command → reads command.name ≡ true
+        → S.left source.old ≡ Some input → length input ≤ most_bytes → IsRefusedFor command input r
+        → (result ≡ Refused r) ⊎ ((result ≡ ReadFault) ⊎ (result ≡ Memory)) }
+
+    // Input longer than `most_bytes`, and no other, is too long.
+    ensures too_long { (input : List ℕ) → S.left source.old ≡ Some input → result ≡ TooLong
+        → WasTooLong input (S.left source.new) }
+    ensures only_too_long { (command : CommandData) (input : List ℕ)
+        → command_of (map string_bytes words.now) ≡ Some command → reads command.name ≡ true
+        → S.left source.old ≡ Some input → most_bytes < length input
+        → (result ≡ TooLong) ⊎ ((result ≡ ReadFault) ⊎ (result ≡ Memory)) }
+    ensures took_at_most { (input : List ℕ) → S.left source.old ≡ Some input
+        → TookAtMost input (S.left source.new) }
+
+    // A fault is reported only if the source or the sink counted one, or its count is at its greatest.
+    ensures read_fault { result ≡ ReadFault → Rose (S.faults source.old) (S.faults source.new) }
+    ensures write_fault { result ≡ WriteFault → Rose (O.faults out.old) (O.faults out.new) }
+    ensures nothing_put { puts_nothing result ≡ true → out.new ≡ out.old }
+
+    // The line of the status on the sink for errors.
+    ensures error_line { (before : List ℕ) → E.held errs.old ≡ Some before
+        → HasLine (status_line result) before (E.held errs.new)
+        (E.faults errs.old) (E.faults errs.new) }
+    ensures no_line { SaysWhole result → errs.new ≡ errs.old }
+
+    // Accepted input is answered, unless a fault is counted or the status is `Memory`.
+    ensures completes { (command : CommandData) → command_of (map string_bytes words.now) ≡ Some command
+        → (reads command.name ≡ true → (input : List ℕ) × (fs : Forms) × (S.left source.old ≡ Some input) × IsAccepted (Accepts command) input fs)
+        → (Rose (S.faults source.old) (S.faults source.new) → ⊥)
+        → (Rose (O.faults out.old) (O.faults out.new) → ⊥) → SaysWhole result ⊎ (result ≡ Memory) }
+{
+    let status = execute(alloc, words, source, out);
+    put_line(errs, status);
+    status
+}

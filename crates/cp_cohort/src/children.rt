@@ -1,0 +1,117 @@
+// The cohort of a test.
+ghost use Rattle.std.specs.Prelude.{◌≡◌, [], map, IfOk, OnOk};
+ghost use Rattle.cp_theory.specs.Critical.{IsTest};
+ghost use Rattle.cp_theory.specs.Guards.{Guards};
+ghost use Rattle.cp_lists.specs.Lists.{IsIn};
+ghost use Rattle.cp_model.specs.Bundle.{Bundle, IsBundle};
+ghost use Rattle.cp_model.specs.Standing.{Standing, StandsIn, StandsApart};
+ghost use Rattle.cp_skel.specs.View.{skeleton_view};
+ghost use Rattle.cp_theory.specs.NoneLeftOut.{IsComplete};
+ghost use Rattle.cp_cohort.specs.CoveringChildren.{Child as PlainChild};
+ghost use Rattle.cp_cohort.specs.Cohort.{IsCohort};
+ghost use Rattle.cp_cohort.specs.Sound.{IsSoundChild};
+ghost use Rattle.cp_cohort.specs.Released.{HasItsOperation};
+ghost use Rattle.cp_cohort.specs.Through.{GoesThroughChild};
+ghost use Rattle.cp_cohort.specs.Asked.{IsAskedOver};
+ghost use Rattle.cp_cohort.specs.Views.{child_view, guarded_test_of, guarded_test_view, HasPredecessors};
+
+use crate::added::add;
+use crate::child::Child;
+use crate::contracted::contract;
+use crate::displaced::displace;
+use crate::guarded_test::GuardedTest;
+use crate::listeners::listen;
+use crate::{children_are_sound, cohorts_cover, operations_are_true};
+use cp_skel::{Node, Predecessors, Protocol, Skeleton};
+use cp_term::{Pattern, Term};
+use std::alloc::{AllocError, Global};
+
+/// The initial capacity for children: few tests have more, and a list that outgrows it is moved.
+const ROOM: usize = 8;
+
+/// Puts the children of a test into an empty list: contracted, displaced, with an added strand, with an added listener.
+fn put_all(
+    alloc: Global,
+    protocol: &Protocol,
+    guarded_test: &GuardedTest,
+    children: &mut Vec<Child>,
+) -> Result<(), AllocError>
+    requires test { IsTest (guarded_test_view guarded_test.now).skeleton (guarded_test_view guarded_test.now).node (guarded_test_view guarded_test.now).critical }
+    requires gathered { HasPredecessors guarded_test.now }
+    requires empty { children.old.items ≡ [] }
+    ensures { OnOk result (IsCohort protocol.now (guarded_test_view guarded_test.now) (map child_view children.new.items)) }
+{
+    contract(alloc, guarded_test, children)?;
+    displace(alloc, guarded_test, children)?;
+    add(alloc, protocol, guarded_test, children)?;
+    listen(alloc, guarded_test, children)
+}
+
+/// The children of a test.
+fn children_of(
+    alloc: Global,
+    protocol: &Protocol,
+    guarded_test: &GuardedTest,
+) -> Result<Vec<Child>, AllocError>
+    requires test { IsTest (guarded_test_view guarded_test.now).skeleton (guarded_test_view guarded_test.now).node (guarded_test_view guarded_test.now).critical }
+    requires gathered { HasPredecessors guarded_test.now }
+    ensures { IfOk result (λ cs. IsCohort protocol.now (guarded_test_view guarded_test.now) (map child_view cs.items)) }
+{
+    let mut children = Vec::with_capacity(alloc, ROOM)?;
+    put_all(alloc, protocol, guarded_test, &mut children)?;
+    Ok(children)
+}
+
+/// The cohort of a test under patterns that guard it: all children, in this order: contracted, displaced, with an added strand,
+/// with an added listener; within each kind by strand or role, then by event, then by position in preorder. Each child is in
+/// normal form.
+///
+/// - Contracted: at a position outside the patterns, in a transmission of a role strand before the node, a term other than the
+///   critical one is unified with the critical term.
+/// - Displaced: a transmission of a role strand, on another strand and not before the node, is put before the node, unless that
+///   closes a cycle; the strand is extended up to it if necessary. A term at a position of that transmission is unified with the
+///   critical term. The position must be outside the patterns, and each earlier event of the strand must carry the critical term
+///   inside the patterns alone.
+/// - Added strand: the same with a new strand of each role, for each transmission of the role.
+/// - Added listener: on the key of a critical encryption if that key is not derivable at the node, otherwise on the plaintext;
+///   and on the inverse of each pattern's key. Each such term is heard once.
+///
+/// The children miss no execution. Let the skeleton be one over the protocol with declared variables. Whenever it stands apart in
+/// a bundle over the protocol, some child does too, and the skeleton's standing factors through the child's along a homomorphism;
+/// so there are no children only if the skeleton stands apart in no bundle. Each child is then a skeleton over the protocol that
+/// keeps what the skeleton keeps of its problem, and what its operation says of it is true.
+///
+/// The node and the term must be a test of the skeleton, and the patterns must guard it.
+pub fn cohort(
+    alloc: Global,
+    protocol: &Protocol,
+    k: &Skeleton,
+    node: Node,
+    critical: &Term,
+    patterns: &[Pattern],
+) -> Result<Vec<Child>, AllocError>
+    requires test { IsTest (skeleton_view k.now) node critical.now }
+    requires guards { Guards patterns.now (skeleton_view k.now) node critical.now }
+    ensures exact { IfOk result (λ cs. IsCohort protocol.now (guarded_test_of k.now node critical.now patterns.now) (map child_view cs.items)) }
+    ensures leaves_none_out { IfOk result (λ cs. IsAskedOver protocol.now (guarded_test_of k.now node critical.now patterns.now) → IsComplete protocol.now (skeleton_view k.now) (map (λ (c : PlainChild). c.skeleton) (map child_view cs.items))) }
+    ensures through_a_child { IfOk result (λ cs. IsAskedOver protocol.now (guarded_test_of k.now node critical.now patterns.now)
+        → (b : Bundle) (h : Standing) → IsBundle protocol.now b → StandsIn (skeleton_view k.now) b h → StandsApart (skeleton_view k.now) h → GoesThroughChild (guarded_test_of k.now node critical.now patterns.now) (map child_view cs.items) b h) }
+    ensures none_only_nowhere { IfOk result (λ cs. map child_view cs.items ≡ [] → IsAskedOver protocol.now (guarded_test_of k.now node critical.now patterns.now)
+        → (b : Bundle) (h : Standing) → IsBundle protocol.now b → StandsIn (skeleton_view k.now) b h → StandsApart (skeleton_view k.now) h → ⊥) }
+    ensures sound { IfOk result (λ cs. IsAskedOver protocol.now (guarded_test_of k.now node critical.now patterns.now) → (c : PlainChild) → IsIn c (map child_view cs.items) → IsSoundChild protocol.now (guarded_test_of k.now node critical.now patterns.now) c) }
+    ensures as_said { IfOk result (λ cs. (c : PlainChild) → IsIn c (map child_view cs.items) → HasItsOperation (guarded_test_of k.now node critical.now patterns.now) c) }
+{
+    cohorts_cover();
+    children_are_sound();
+    operations_are_true();
+    protocol.is_sound();
+    let leading = Predecessors::new(alloc, k.order().pairs(), node)?;
+    let guarded_test = GuardedTest {
+        skeleton: k,
+        node,
+        leading: &leading,
+        critical,
+        patterns,
+    };
+    children_of(alloc, protocol, &guarded_test)
+}

@@ -1,0 +1,48 @@
+// Solves a release.
+ghost use Rattle.std.specs.Prelude.{◌≡◌, map, IfOk};
+ghost use Rattle.cp_cohort.specs.Stages.{SolvesRelease, on_the_way};
+ghost use Rattle.cp_cohort.specs.ReleaseViews.{release_view, partial_solution_view};
+ghost use Rattle.cp_cohort.specs.Candidates.{tried_of};
+
+use crate::candidates::{Candidate, round, some_is_open};
+use crate::release::{PartialSolution, Release};
+use std::alloc::{AllocError, Global};
+
+/// The candidates' skeletons and substitutions, in order.
+fn all_tried(alloc: Global, candidates: Vec<Candidate>) -> Result<Vec<PartialSolution>, AllocError>
+    ensures { IfOk result (λ ts. ts.items ≡ map tried_of candidates.items) }
+{
+    let mut rest = candidates;
+    rest.reverse();
+    let mut all = Vec::with_capacity(alloc, rest.len())?;
+    while let Some(candidate) = rest.pop() {
+        all.push(candidate.into_tried())?;
+    }
+    Ok(all)
+}
+
+/// Solves a release: returns, in order, the normal forms for which both conditions on it hold.
+///
+/// - If the position of the release is inside the patterns, there are none. A position at a node without an event is not inside
+///   them.
+/// - If an earlier event of the strand carries the term outside the patterns, the first such occurrence is taken, by event, then
+///   by position. Each encryption that properly encloses it, outermost first, is unified with each pattern, in order; the
+///   pattern's locals become new variables of the skeleton each time. Each unifier gives a branch, on which the conditions are
+///   tested again.
+/// - If both conditions hold, the skeleton is normalised, and the conditions are tested again on each normal form, until nothing
+///   changes.
+pub fn solve(
+    alloc: Global,
+    release: &Release,
+    tried: PartialSolution,
+) -> Result<Vec<PartialSolution>, AllocError>
+    ensures { IfOk result (λ ts. SolvesRelease (release_view release.now) on_the_way (partial_solution_view tried) (map partial_solution_view ts.items)) }
+{
+    let mut alone = Vec::with_capacity(alloc, 1)?;
+    alone.push(Candidate::OnTheWay(tried))?;
+    let mut candidates = alone;
+    while some_is_open(&candidates) {
+        candidates = round(alloc, release, candidates)?;
+    }
+    all_tried(alloc, candidates)
+}

@@ -1,5 +1,0 @@
-use Rattle.cp_completeness.proofs.Origins.{carried_non_originating}
-use Rattle.cp_completeness.proofs.laws.carried_non_originating_stands_nowhere.Goals as goal
-
-pub returns : goal.returns
-returns c = carried_non_originating

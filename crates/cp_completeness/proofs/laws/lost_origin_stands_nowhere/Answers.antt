@@ -1,8 +1,0 @@
-use Rattle.cp_completeness.proofs.Origins.{lost_origin, unique_value_originates}
-use Rattle.cp_completeness.proofs.laws.lost_origin_stands_nowhere.Goals as goal
-
-pub returns-clause-nowhere : goal.returns-clause-nowhere
-returns-clause-nowhere c = lost_origin
-
-pub returns-clause-originates : goal.returns-clause-originates
-returns-clause-originates c = unique_value_originates

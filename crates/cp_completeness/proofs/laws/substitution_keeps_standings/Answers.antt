@@ -1,8 +1,0 @@
-use Rattle.cp_completeness.proofs.Under.{apart_under, factors_under}
-use Rattle.cp_completeness.proofs.laws.substitution_keeps_standings.Goals as goal
-
-pub returns-clause-apart : goal.returns-clause-apart
-returns-clause-apart c = apart_under
-
-pub returns-clause-factors : goal.returns-clause-factors
-returns-clause-factors c = factors_under

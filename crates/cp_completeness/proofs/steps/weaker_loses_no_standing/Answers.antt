@@ -1,5 +1,0 @@
-use Rattle.cp_completeness.proofs.Weaker.{weaker_loses_none}
-use Rattle.cp_completeness.proofs.steps.weaker_loses_no_standing.Goals as goal
-
-pub returns : goal.returns
-returns c = weaker_loses_none

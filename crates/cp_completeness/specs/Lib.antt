@@ -1,4 +1,0 @@
-pub mod Normal
-pub mod Example
-pub mod AuthenticationTest
-pub mod Opened

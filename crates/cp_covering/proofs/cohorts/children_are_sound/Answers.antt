@@ -1,5 +1,0 @@
-use Rattle.cp_covering.proofs.SoundChildren.{sound_child}
-use Rattle.cp_covering.proofs.cohorts.children_are_sound.Goals as goal
-
-pub returns : goal.returns
-returns c = sound_child

@@ -1,5 +1,0 @@
-use Rattle.cp_covering.proofs.Operations.{children_said}
-use Rattle.cp_covering.proofs.cohorts.operations_are_true.Goals as goal
-
-pub returns : goal.returns
-returns c = children_said

@@ -1,6 +1,0 @@
-use Rattle.std.proofs.Common.{◌≡◌, drop}
-use Rattle.cp_covering.specs.GatheredLists.{has_term}
-use Rattle.cp_covering.proofs.once.has_term.Given as goal
-
-abbrev pub invariant-loop-other : goal.invariant-loop-other
-invariant-loop-other l = has_term (drop l.other-index l.terms) l.term ≡ has_term l.terms l.term

@@ -1,5 +1,0 @@
-pub mod FirstOf
-pub mod Firsts
-pub mod EachForm
-pub mod Items
-pub mod Views

@@ -1,4 +1,0 @@
-pub mod FirstOf
-pub mod FirstFault
-pub mod Heads
-pub mod Forms

@@ -1,4 +1,0 @@
-pub mod Read
-pub mod Decided
-pub mod Positions
-pub mod AllAbove

@@ -1,5 +1,0 @@
-use Rattle.cp_guard.proofs.Decided.{protection_test}
-use Rattle.cp_guard.proofs.laws.matching_is_decided.Goals as goal
-
-pub returns : goal.returns
-returns c = protection_test

@@ -1,5 +1,0 @@
-use Rattle.cp_guard.proofs.Positions.{inside_by_values}
-use Rattle.cp_guard.proofs.laws.values_bring_inside.Goals as goal
-
-pub returns : goal.returns
-returns c = inside_by_values

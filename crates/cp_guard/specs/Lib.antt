@@ -1,5 +1,0 @@
-pub mod Above
-pub mod Matches
-pub mod Inside
-pub mod Critical
-pub mod Guards

@@ -1,9 +1,0 @@
-use Rattle.std.proofs.Common.{map}
-use Rattle.cp_model.specs.Strand.{variables_of_trace}
-use Rattle.cp_strand.specs.View.{event_view}
-use Rattle.cp_guarding.specs.Within.{MayGuard}
-use Rattle.cp_guarding.proofs.Each.{EachIfRest}
-use Rattle.cp_guarding.proofs.pattern.all_may_guard.Given as goal
-
-abbrev pub invariant-loop-pattern : goal.invariant-loop-pattern
-invariant-loop-pattern l = EachIfRest (MayGuard (variables_of_trace (map event_view l.events))) l.patterns l.pattern-index

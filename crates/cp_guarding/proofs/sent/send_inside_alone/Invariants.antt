@@ -1,8 +1,0 @@
-use Rattle.cp_skel.specs.Events.{occurrence_view}
-use Rattle.cp_skel.specs.View.{skeleton_view}
-use Rattle.cp_guarding.specs.Sent.{IsGuardedAt}
-use Rattle.cp_guarding.proofs.Each.{EachIfRest}
-use Rattle.cp_guarding.proofs.sent.send_inside_alone.Given as goal
-
-abbrev pub invariant-loop-occurrence : goal.invariant-loop-occurrence
-invariant-loop-occurrence l = EachIfRest (λ o. IsGuardedAt l.patterns (skeleton_view l.k) l.node l.critical (occurrence_view o)) l.occurrence-items l.occurrence-index

@@ -1,3 +1,0 @@
-pub mod HeardTerms
-pub mod Within
-pub mod Sent

@@ -1,4 +1,0 @@
-pub mod Maplets
-pub mod MapletTerms
-pub mod Instantiation
-pub mod Strandwise

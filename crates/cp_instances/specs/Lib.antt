@@ -1,3 +1,0 @@
-pub mod Mapped
-pub mod InstanceTerms
-pub mod MadeStrands

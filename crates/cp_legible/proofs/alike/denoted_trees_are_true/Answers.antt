@@ -1,6 +1,0 @@
-use Rattle.cp_legible.proofs.DenotedTrees.{report_true, printed_true}
-use Rattle.cp_legible.proofs.FittingPairs.{denoted_pairs}
-use Rattle.cp_legible.proofs.alike.denoted_trees_are_true.Goals as goal
-
-pub returns : goal.returns
-returns c = record { printed = printed_true; denoted = report_true; pairs = denoted_pairs }

@@ -1,5 +1,0 @@
-use Rattle.cp_legible.proofs.StatedTrees.{tree_fits}
-use Rattle.cp_legible.proofs.trees.search_trees_can_be_stated.Goals as goal
-
-pub returns : goal.returns
-returns c = tree_fits

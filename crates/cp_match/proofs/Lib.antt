@@ -1,9 +1,0 @@
-pub mod LawMatches
-pub mod Unifiers
-pub mod DifferentTerms
-pub mod AgreedBindings
-pub mod Matched
-pub mod Inside
-pub mod FirstOutside
-pub mod Alike
-pub mod Opened

@@ -1,5 +1,0 @@
-use Rattle.cp_match.proofs.Unifiers.{one_for_terms}
-use Rattle.cp_match.proofs.laws.most_general_unifiers_are_determined.Goals as goal
-
-pub returns : goal.returns
-returns c = one_for_terms

@@ -1,5 +1,0 @@
-pub mod Candidates
-pub mod Unifiers
-pub mod Opened
-pub mod Ready
-pub mod Outside

@@ -1,6 +1,0 @@
-use Rattle.cp_skel.specs.View.{skeleton_view}
-use Rattle.cp_normal.specs.StrayValues.{Strays, NoneBefore}
-use Rattle.cp_normal.proofs.stray_values.first_at.Given as goal
-
-abbrev pub invariant-loop-unique : goal.invariant-loop-unique
-invariant-loop-unique l = NoneBefore (Strays (skeleton_view l.k) l.occurrence.node) l.uniques l.unique-index

@@ -1,0 +1,126 @@
+// Misplaced values: unique values that originate elsewhere than at their recorded origins.
+ghost use Rattle.std.specs.Prelude.{◌≡◌, ◌↔◌, false, map, IsTrue, IfOk, MatchOption};
+ghost use Rattle.cp_model.specs.Given.{listed};
+ghost use Rattle.cp_lists.specs.Lists.{IsIn, item_at};
+ghost use Rattle.cp_model.specs.Skeleton.{UniqueAt as Plain};
+ghost use Rattle.cp_skel.specs.View.{skeleton_view};
+ghost use Rattle.cp_normal.specs.Branches.{IsSettled};
+ghost use Rattle.cp_skel.specs.Events.{located_event_view, events_of};
+ghost use Rattle.cp_normal.specs.MisplacedValues.{OriginatesElsewhere, IsFirstMisplacedAt, IsFirstMisplaced};
+
+use crate::carried_values::carries_value;
+use crate::origins::originates;
+use cp_skel::{Atom, LocatedEvent, Node, Skeleton, UniqueAt, listed};
+use std::alloc::{AllocError, Global};
+
+/// A unique value, and a node of a role strand at which it originates and that is not its recorded origin.
+#[derive(Drop)]
+pub(crate) struct Misplaced {
+    pub(crate) value: Atom,
+    pub(crate) node: Node,
+}
+
+/// Whether a unique value is misplaced at this event. `occurrences` are the events of the skeleton.
+fn originates_elsewhere(
+    k: &Skeleton,
+    occurrences: &[LocatedEvent],
+    occurrence: &LocatedEvent,
+    unique: &UniqueAt,
+) -> Result<bool, AllocError>
+    requires listed { map located_event_view occurrences.now ≡ events_of (skeleton_view k.now) }
+    requires is_there { IsIn (located_event_view occurrence.now) (events_of (skeleton_view k.now)) }
+    ensures { IfOk result (λ found. IsTrue found ↔ OriginatesElsewhere (skeleton_view k.now) occurrence.now.node unique.now) }
+{
+    if occurrence.node == unique.origin() {
+        return Ok(false);
+    }
+    if !carries_value(occurrence, unique.value()) {
+        return Ok(false);
+    }
+    let here = UniqueAt::new(unique.value().copy()?, occurrence.node);
+    Ok(originates(k, occurrences, &here))
+}
+
+/// The value of the first entry that is misplaced at this event. `occurrences` are the events of the skeleton.
+fn first_at(
+    k: &Skeleton,
+    occurrences: &[LocatedEvent],
+    occurrence: &LocatedEvent,
+    uniques: &[UniqueAt],
+) -> Result<Option<Atom>, AllocError>
+    requires listed { map located_event_view occurrences.now ≡ events_of (skeleton_view k.now) }
+    requires is_there { IsIn (located_event_view occurrence.now) (events_of (skeleton_view k.now)) }
+    ensures { IfOk result (λ found. MatchOption found
+        ((u : Plain) → IsIn u uniques.now → OriginatesElsewhere (skeleton_view k.now) occurrence.now.node u → ⊥)
+        (λ v. IsFirstMisplacedAt (skeleton_view k.now) occurrence.now.node uniques.now v)) }
+{
+    for unique in uniques {
+        if originates_elsewhere(k, occurrences, occurrence, unique)? {
+            return Ok(Some(unique.value().copy()?));
+        }
+    }
+    Ok(None)
+}
+
+/// Whether some unique value is misplaced. `occurrences` are the events of the skeleton.
+pub(crate) fn some_is_misplaced(
+    k: &Skeleton,
+    occurrences: &[LocatedEvent],
+) -> Result<bool, AllocError>
+    requires listed { map located_event_view occurrences.now ≡ events_of (skeleton_view k.now) }
+    ensures none { IfOk result (λ found. found ≡ false → IsSettled (skeleton_view k.now)) }
+    ensures some { IfOk result (λ found. IsTrue found → IsSettled (skeleton_view k.now) → ⊥) }
+{
+    let uniques = k.assumptions().uniquely_originating();
+    for occurrence in occurrences {
+        match first_at(k, occurrences, occurrence, uniques)? {
+            Some(_) => return Ok(true),
+            None => {}
+        }
+    }
+    Ok(false)
+}
+
+/// The first unique value that is misplaced. `occurrences` are the events of the skeleton, and the unique values are listed in
+/// report order.
+fn first_among(
+    k: &Skeleton,
+    occurrences: &[LocatedEvent],
+    uniques: &[UniqueAt],
+) -> Result<Option<Misplaced>, AllocError>
+    requires listed { map located_event_view occurrences.now ≡ events_of (skeleton_view k.now) }
+    requires in_order { uniques.now ≡ (listed (skeleton_view k.now)).uniquely_originating }
+    ensures { IfOk result (λ found. MatchOption found
+        (IsSettled (skeleton_view k.now))
+        (λ s. IsFirstMisplaced (skeleton_view k.now) s.value s.node)) }
+{
+    for occurrence in occurrences {
+        match first_at(k, occurrences, occurrence, uniques)? {
+            Some(value) => {
+                let node = occurrence.node;
+                return Ok(Some(Misplaced { value, node }));
+            }
+            None => {}
+        }
+    }
+    Ok(None)
+}
+
+/// The first unique value that is misplaced: by the strand of the node where it originates, then the node's index, then the
+/// report order of unique values. They are sorted only if some value is misplaced. `occurrences` are the events of the skeleton.
+pub(crate) fn first_misplaced(
+    alloc: Global,
+    k: &Skeleton,
+    occurrences: &[LocatedEvent],
+) -> Result<Option<Misplaced>, AllocError>
+    requires listed { map located_event_view occurrences.now ≡ events_of (skeleton_view k.now) }
+    ensures { IfOk result (λ found. MatchOption found
+        (IsSettled (skeleton_view k.now))
+        (λ s. IsFirstMisplaced (skeleton_view k.now) s.value s.node)) }
+{
+    if !some_is_misplaced(k, occurrences)? {
+        return Ok(None);
+    }
+    let assumptions = listed(alloc, k)?;
+    first_among(k, occurrences, assumptions.uniquely_originating())
+}

@@ -1,0 +1,53 @@
+-- Transmissions of role strands before a node, as they are listed.
+use Rattle.std.proofs.Common.{◌≡◌, List, map, Some, Bool, true, refl, sym, ap, ◌∙◌, subst}
+use Rattle.cp_lists.specs.Lists.{IsIn, here}
+use Rattle.cp_lists.proofs.Members.{in_append_right}
+use Rattle.cp_pattern.proofs.Each.{each_of_map, map_of_each}
+use Rattle.cp_model.specs.Same.{same_term}
+use Rattle.cp_model.specs.Term.{Term, Substitution}
+use Rattle.cp_model.specs.Strand.{send}
+use Rattle.cp_model.specs.declared.node.Node.{Node}
+use Rattle.cp_model.specs.Skeleton.{instance, term_event_at, Skeleton, Before, IsNodeOf}
+use Rattle.cp_model.specs.Derivable.{IsOnInstance}
+use Rattle.cp_model.specs.Tree.{Pattern}
+use Rattle.cp_skel.specs.Events.{LocatedEvent, located_event_view, is_role_strand, events_of}
+use Rattle.cp_skel.specs.declared.events.LocatedEvent as program
+use Rattle.cp_skel.specs.Sound.{IsSound}
+use Rattle.cp_skel.proofs.OrderWithout.{way_ends}
+use Rattle.cp_skel.proofs.EventLists.{listed_event, listed_role, event_listed}
+use Rattle.cp_model.specs.declared.step.Step.{Step}
+use Rattle.cp_model.specs.Positions.{positions_where}
+use Rattle.cp_term.proofs.PositionLaws.{part_found}
+use Rattle.cp_theory.specs.Inside.{CarriesInsideAlone}
+use Rattle.cp_pattern.specs.Outside.{IsFirstPositionOutside}
+use Rattle.cp_pattern.specs.Sent.{IsGuardedAt, SendInsideAlone}
+
+-- What is carried outside the patterns somewhere is not carried inside them alone.
+pub not_alone : (ps : List Pattern) (s : Substitution) (c t : Term) (path : List Step) → IsFirstPositionOutside ps s c t path → CarriesInsideAlone ps s c t → ⊥
+not_alone ps s c t path f alone =
+    f.outside (alone path ((part_found c t (positions_where (same_term c) t) refl path).0 (subst (IsIn path) (sym f.among) (in_append_right f.before here))))
+
+pub nothing_before : (k : Skeleton) → IsSound k → (m n : Node) → Before k m n → IsNodeOf k.strands n
+nothing_before k sound m n before = way_ends k m n sound.skeleton.order_pairs before
+
+module _ (ps : List Pattern) (k : Skeleton) (n : Node) (c : Term) where
+  -- a transmission of a role strand is listed as one
+  sent_listed : (m : Node) (t : Term) → IsOnInstance k m → term_event_at k.strands m ≡ Some (send t) → IsIn (record { node = m; event = send t; by_role = true }) (events_of k)
+  sent_listed m t on at =
+      let h = event_listed k m (send t) at in
+      let both : Some h.0 ≡ Some (instance on.role on.height on.terms) = sym h.1.at ∙ on.on_instance in
+      let same : h.0 ≡ instance on.role on.height on.terms = cc in
+      subst (λ (r : Bool). IsIn (record { node = m; event = send t; by_role = r }) (events_of k)) (ap is_role_strand same) h.1.listed
+
+  guarded_each : SendInsideAlone ps k n c → (o : LocatedEvent) → IsIn o (events_of k) → IsGuardedAt ps k n c o
+  guarded_each all o i t r e before = all o.node t (listed_role k o i r) (listed_event k o i ∙ ap Some e) before
+
+  each_guarded : ((o : LocatedEvent) → IsIn o (events_of k) → IsGuardedAt ps k n c o) → SendInsideAlone ps k n c
+  each_guarded each m t on at before = each (record { node = m; event = send t; by_role = true }) (sent_listed m t on at) t refl refl before
+
+  module _ (os : List program.LocatedEvent) (all : map located_event_view os ≡ events_of k) where
+    pub guarded_by_each : ((o : program.LocatedEvent) → IsIn o os → IsGuardedAt ps k n c (located_event_view o)) → SendInsideAlone ps k n c
+    guarded_by_each each = each_guarded (each_of_map located_event_view (IsGuardedAt ps k n c) os (events_of k) all each)
+
+    pub guarded_listed : SendInsideAlone ps k n c → (o : program.LocatedEvent) → IsIn o os → IsGuardedAt ps k n c (located_event_view o)
+    guarded_listed h = map_of_each located_event_view (IsGuardedAt ps k n c) os (events_of k) all (guarded_each h)

@@ -1,0 +1,8 @@
+pub mod Candidates
+pub mod Unifiers
+pub mod Opened
+pub mod Ready
+pub mod Outside
+pub mod HeardTerms
+pub mod Within
+pub mod Sent

@@ -1,0 +1,50 @@
+-- What is made of flagged variables is what is made of those that occur.
+use Rattle.std.proofs.Common.{◌≡◌, ℕ, suc, ◌+◌, ◌≤◌, List, [], ◌∷◌, length, get_or, Bool, false, refl, ap, ◌∙◌, arith, add-one}
+use Rattle.std.specs.Prelude.{Some}
+use Rattle.cp_lists.specs.Lists.{item_at}
+use Rattle.cp_model.specs.Term.{Variable, Substitution, atom_of_variable, apply_to_atom}
+use Rattle.cp_model.specs.Strand.{Declaration}
+use Rattle.cp_sexpr.specs.Syntax.{Form}
+use Rattle.cp_language.specs.Names.{has_number, sort_text}
+use Rattle.cp_language.specs.Printed.{variable, word, plain_list, atom_form}
+use Rattle.cp_language.specs.Report.{name_or_none, vars_from, maplets_from}
+use Rattle.cp_model.specs.Same.{has_variable}
+use Rattle.cp_names.specs.Flags.{AreFlagsOf, AreFlagsAmong}
+use Rattle.cp_names.proofs.NamesByFlags.{branch}
+use Rattle.cp_print.specs.MarkedForms.{vars_by, maplets_by}
+
+module _ (occurring : List Variable) (count : ℕ) (flags : List Bool) (m : AreFlagsOf occurring count flags) where
+  vars-from : (names : List (List ℕ)) (n : ℕ) (ds : List Declaration) → n + length ds ≤ count → vars_by names flags n ds ≡ vars_from names occurring n ds
+  vars-from names n [] h = refl
+  vars-from names n (d ∷ ds) h =
+      let f = plain_list (word (name_or_none (item_at names n)) ∷ word (sort_text d.sort) ∷ []) in
+      let rest : vars_by names flags (n + 1) ds ≡ vars_from names occurring (suc n) ds = ap (λ k. vars_by names flags k ds) (add-one n) ∙ vars-from names (suc n) ds (omega arith) in
+      branch (get_or flags n false) (has_number occurring n) (f ∷ vars_by names flags (n + 1) ds) (vars_by names flags (n + 1) ds) (f ∷ vars_from names occurring (suc n) ds) (vars_from names occurring (suc n) ds)
+      (m.each n (omega arith)) (ap (λ fs. f ∷ fs) rest) rest
+
+  pub vars-by : (names : List (List ℕ)) (ds : List Declaration) → length ds ≡ count → vars_by names flags 0 ds ≡ vars_from names occurring 0 ds
+  vars-by names ds e = vars-from names 0 ds (omega arith)
+
+-- the declared variables from number n on
+abbrev pub AreFrom : List Declaration → ℕ → List Declaration → Type 0
+AreFrom all n ds = (k : ℕ) (d : Declaration) → item_at ds k ≡ Some d → item_at all (n + k) ≡ Some d
+
+module _ (named : Variable → Form) (prefix : List Variable) (all : List Declaration) (flags : List Bool) (m : AreFlagsAmong prefix all flags) (terms : Substitution) where
+  maplets-from : (n : ℕ) (ds : List Declaration) → AreFrom all n ds → maplets_by named flags terms n ds ≡ maplets_from named prefix terms n ds
+  maplets-from n [] h = refl
+  maplets-from n (d ∷ ds) h =
+      let x = variable d.sort n in
+      let f = plain_list (word d.identifier ∷ atom_form named (apply_to_atom terms (atom_of_variable x)) ∷ []) in
+      let here : item_at all n ≡ Some d = ap (item_at all) (let e : n ≡ n + 0 = omega arith in e) ∙ h 0 d refl in
+      let later : AreFrom all (suc n) ds = λ k e g. ap (item_at all) (let j : suc n + k ≡ n + suc k = omega arith in j) ∙ h (suc k) e g in
+      let rest : maplets_by named flags terms (n + 1) ds ≡ maplets_from named prefix terms (suc n) ds = ap (λ k. maplets_by named flags terms k ds) (add-one n) ∙ maplets-from (suc n) ds later in
+      branch (get_or flags n false) (has_variable prefix x) (f ∷ maplets_by named flags terms (n + 1) ds) (maplets_by named flags terms (n + 1) ds) (f ∷ maplets_from named prefix terms (suc n) ds) (maplets_from named prefix terms (suc n) ds)
+      (m.each n d here) (ap (λ fs. f ∷ fs) rest) rest
+
+  maplets-by : maplets_by named flags terms 0 all ≡ maplets_from named prefix terms 0 all
+  maplets-by = maplets-from 0 all (λ k d e. ap (item_at all) (let j : 0 + k ≡ k = omega arith in j) ∙ e)
+
+-- the maplets of an instance by the flags of its prefix
+pub instance_maplets : (named : Variable → Form) (prefix : List Variable) (all : List Declaration) (flags : List Bool) (terms : Substitution) (fs : List Form)
+    → fs ≡ maplets_by named flags terms 0 all → AreFlagsAmong prefix all flags → fs ≡ maplets_from named prefix terms 0 all
+instance_maplets named prefix all flags terms fs e m = e ∙ maplets-by named prefix all flags m terms

@@ -1,0 +1,181 @@
+// What instances of roles stand for.
+ghost use Rattle.std.specs.Prelude.{◌≡◌, ◌++◌, ◌∷◌, [], length, map, option_map, if◌then◌else◌, IfOk, OnOk};
+ghost use Rattle.cp_model.specs.Strand.{variables_of_trace};
+ghost use Rattle.cp_sexpr.specs.View.{view};
+ghost use Rattle.cp_language.specs.Words.{is_one_of};
+ghost use Rattle.cp_language.specs.Problems.{mapped_identifier, second_form, term_mapped, term_or_fresh, is_fresh, instantiated};
+ghost use Rattle.cp_language.specs.Roles.{list_items};
+ghost use Rattle.cp_strand.specs.View.{sort_view, declaration_view, event_view};
+ghost use Rattle.cp_scope.specs.Terms.{variable_view};
+ghost use Rattle.cp_roles.specs.InstanceTerms.{maplet_named, term_if_there, wants_fresh, IsInstantiated};
+
+use crate::event_variables::occurs;
+use cp_scope::{
+    Variable, is_word, item_at, list_items, no_term, symbol_or_empty, term_of, variable_term,
+};
+use cp_sexpr::Form;
+use cp_strand::{Declaration, Event};
+use cp_term::{Sort, Term};
+use std::alloc::{AllocError, Global};
+
+/// Whether a maplet maps this identifier.
+fn maps(maplet: &Form, identifier: &[u8]) -> bool
+    ensures { result ≡ is_one_of identifier.now (mapped_identifier (view maplet.now)) }
+{
+    match item_at(list_items(maplet), 0) {
+        Some(form) => is_word(identifier, symbol_or_empty(form)),
+        None => false,
+    }
+}
+
+/// The first maplet that maps this identifier.
+fn maplet_named<'a>(maplets: &'a [Form], identifier: &[u8]) -> Option<&'a Form>
+    ensures { option_map (λ f. view f.now) result ≡ maplet_named identifier.now (map view maplets.now) }
+{
+    for maplet in maplets {
+        if maps(maplet, identifier) {
+            return Some(maplet);
+        }
+    }
+    None
+}
+
+/// The term on the right of a maplet.
+fn right_term(alloc: Global, variables: &[Declaration], maplet: &Form) -> Result<Term, AllocError>
+    ensures { IfOk result (λ t. t ≡ term_if_there (map declaration_view variables.now) (second_form (list_items (view maplet.now)))) }
+{
+    match item_at(list_items(maplet), 1) {
+        Some(term) => term_of(alloc, variables, term),
+        None => no_term(alloc),
+    }
+}
+
+/// The term that the maplets give to an identifier.
+fn term_mapped(
+    alloc: Global,
+    variables: &[Declaration],
+    identifier: &[u8],
+    maplets: &[Form],
+) -> Result<Option<Term>, AllocError>
+    ensures { IfOk result (λ o. o ≡ term_mapped (map declaration_view variables.now) identifier.now (map view maplets.now)) }
+{
+    match maplet_named(maplets, identifier) {
+        Some(maplet) => Ok(Some(right_term(alloc, variables, maplet)?)),
+        None => Ok(None),
+    }
+}
+
+/// The term of a role's variable: what it is mapped to, or the variable that is made for it.
+fn term_or_fresh(
+    alloc: Global,
+    mapped: Option<Term>,
+    is_fresh: bool,
+    sort: Sort,
+    next: usize,
+) -> Result<Term, AllocError>
+    ensures { IfOk result (λ t. t ≡ term_or_fresh mapped is_fresh (sort_view sort) next) }
+{
+    match mapped {
+        Some(term) => Ok(term),
+        None if is_fresh => variable_term(alloc, Variable { sort, number: next }),
+        None => no_term(alloc),
+    }
+}
+
+/// Whether a variable is made for this variable of a role, which is mapped to this term.
+fn is_fresh(prefix: &[Event], mapped: &Option<Term>, variable: Variable) -> bool
+    ensures { result ≡ wants_fresh (variables_of_trace (map event_view prefix.now)) mapped.now (variable_view variable) }
+{
+    mapped.is_none() && occurs(prefix, variable)
+}
+
+/// Appends a copy of a declaration.
+fn add_copy(declaration: &Declaration, all: &mut Vec<Declaration>) -> Result<(), AllocError>
+    ensures { OnOk result (map declaration_view all.new.items ≡ map declaration_view all.old.items ++ declaration_view declaration.now ∷ []) }
+{
+    let identifier = declaration.identifier.copy()?;
+    all.push(Declaration {
+        identifier,
+        sort: declaration.sort,
+    })?;
+    Ok(())
+}
+
+/// Copies of declarations.
+pub fn copies_of(
+    alloc: Global,
+    declarations: &[Declaration],
+) -> Result<Vec<Declaration>, AllocError>
+    ensures { IfOk result (λ v. map declaration_view v.items ≡ map declaration_view declarations.now) }
+{
+    let mut copies = Vec::new(alloc);
+    for declaration in declarations {
+        add_copy(declaration, &mut copies)?;
+    }
+    Ok(copies)
+}
+
+/// Appends a copy of a declaration, if the test holds.
+fn add_if(
+    holds: bool,
+    declaration: &Declaration,
+    all: &mut Vec<Declaration>,
+) -> Result<(), AllocError>
+    ensures { OnOk result (map declaration_view all.new.items
+        ≡ map declaration_view all.old.items ++ (if holds then declaration_view declaration.now ∷ [] else [])) }
+{
+    if holds {
+        add_copy(declaration, all)?;
+    }
+    Ok(())
+}
+
+/// The term of this variable of a role, with this number. A variable that is made for it is appended to `all`.
+fn variable_value(
+    alloc: Global,
+    prefix: &[Event],
+    declared: &[Declaration],
+    maplets: &[Form],
+    number: usize,
+    declaration: &Declaration,
+    all: &mut Vec<Declaration>,
+) -> Result<Term, AllocError>
+    ensures term { IfOk result (λ t. t ≡ term_or_fresh (term_mapped (map declaration_view declared.now) (declaration_view declaration.now).identifier (map view maplets.now))
+        (is_fresh (variables_of_trace (map event_view prefix.now)) (map declaration_view declared.now) (map view maplets.now) number (declaration_view declaration.now))
+        (declaration_view declaration.now).sort (length all.old.items)) }
+    ensures fresh { OnOk result (map declaration_view all.new.items ≡ map declaration_view all.old.items
+        ++ (if is_fresh (variables_of_trace (map event_view prefix.now)) (map declaration_view declared.now) (map view maplets.now) number (declaration_view declaration.now)
+        then declaration_view declaration.now ∷ [] else [])) }
+{
+    let sort = declaration.sort;
+    let mapped = term_mapped(
+        alloc,
+        declared,
+        declaration.identifier.as_str().as_bytes(),
+        maplets,
+    )?;
+    let fresh = is_fresh(prefix, &mapped, Variable { sort, number });
+    let term = term_or_fresh(alloc, mapped, fresh, sort, all.len())?;
+    add_if(fresh, declaration, all)?;
+    Ok(term)
+}
+
+/// The terms of the variables of a role with this prefix. Variables that are made for it are appended to `all`.
+pub(crate) fn instantiated(
+    alloc: Global,
+    prefix: &[Event],
+    variables: &[Declaration],
+    declared: &[Declaration],
+    maplets: &[Form],
+    all: &mut Vec<Declaration>,
+) -> Result<Vec<Term>, AllocError>
+    ensures { IfOk result (λ v. IsInstantiated (instantiated (variables_of_trace (map event_view prefix.now)) (map declaration_view declared.now) (map view maplets.now)
+        (length all.old.items) 0 (map declaration_view variables.now)) v.items (map declaration_view all.old.items) (map declaration_view all.new.items)) }
+{
+    let mut terms = Vec::new(alloc);
+    for (number, declaration) in variables.iter().enumerate() {
+        let term = variable_value(alloc, prefix, declared, maplets, number, declaration, all)?;
+        terms.push(term)?;
+    }
+    Ok(terms)
+}

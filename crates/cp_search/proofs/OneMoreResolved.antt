@@ -1,0 +1,55 @@
+-- One label more is resolved, and labels are made behind others.
+use Rattle.std.proofs.Common.{◌≡◌, ℕ, suc, ◌+◌, ◌<◌, ◌≤◌, List, [], ◌∷◌, ◌++◌, length, map, Option, sym, ap, subst, ◌∙◌, refl, arith}
+use Rattle.std.proofs.lemmas.List.{append_assoc, append-nil}
+use Rattle.cp_model.specs.Strand.{Protocol}
+use Rattle.cp_model.specs.Problem.{numbers_from}
+use Rattle.cp_model.specs.Tree.{Mark, Label, Limits, is_expanded, expanded_count}
+use Rattle.cp_tree.specs.Made.{Made, LabelLink}
+use Rattle.cp_tree.specs.Searched.{Becomes, is_dead, is_seen, is_realised, is_generalised, above_bound, at_limit, is_tested, AreResolved, all_settled, then_settled, children_of}
+use Rattle.cp_search.proofs.GrownLinks.{least_still, new_still}
+
+-- ---- lists
+
+pub numbers_of_map : {A B : Type 0} (f : A → B) (n : ℕ) (xs : List A) → numbers_from n (map f xs) ≡ numbers_from n xs
+numbers_of_map f n [] = refl
+numbers_of_map f n (x ∷ xs) = ap (λ ns. n ∷ ns) (numbers_of_map f (suc n) xs)
+
+pub children_behind : (ls : List Label) (l : Label) → children_of (ls ++ l ∷ []) ≡ children_of ls ++ l.children
+children_behind [] l = append-nil l.children
+children_behind (x ∷ ls) l = ap (λ ns. x.children ++ ns) (children_behind ls l) ∙ sym (append_assoc x.children (children_of ls) l.children)
+
+pub count_behind : (ls : List Label) (l : Label) → expanded_count (ls ++ l ∷ []) ≡ expanded_count ls + is_expanded l.test
+count_behind [] l = let n = is_expanded l.test in omega arith
+count_behind (x ∷ ls) l = let e = count_behind ls l in omega (arith, e)
+
+module _ (protocol : Protocol) (limits : Limits) (marks : ℕ → Option Mark → Type 0) (links : List LabelLink) where
+  -- ---- one more
+
+  last_resolved : (i before n c : ℕ) (m : Made) (l : Label) (gives : List Made) → n ≡ i → c ≡ before → Becomes protocol limits links marks n c m l gives → AreResolved protocol limits links marks i before (m ∷ []) (l ∷ []) gives
+  last_resolved i before n c m l gives e f b =
+      subst (AreResolved protocol limits links marks i before (m ∷ []) (l ∷ [])) (append-nil gives)
+      (then_settled (subst (λ (a : ℕ). Becomes protocol limits links marks i a m l gives) f (subst (λ (a : ℕ). Becomes protocol limits links marks a c m l gives) e b)) all_settled)
+
+  pub one_more : (i before n c : ℕ) (made : List Made) (labels : List Label) (given : List Made) (m : Made) (l : Label) (gives : List Made) → AreResolved protocol limits links marks i before made labels given
+      → n ≡ i + length made → c ≡ before + expanded_count labels → Becomes protocol limits links marks n c m l gives → AreResolved protocol limits links marks i before (made ++ m ∷ []) (labels ++ l ∷ []) (given ++ gives)
+  one_more i before n c made labels given m l gives all_settled e f b = last_resolved i before n c m l gives (omega (arith, e)) (omega (arith, f)) b
+  one_more i before n c made labels given m l gives (then_settled {m = x} {l = y} {made = ms} {labels = ls} {from_this = fs} {from_others = gs} a s) e f b =
+      subst (AreResolved protocol limits links marks i before (x ∷ (ms ++ m ∷ [])) (y ∷ (ls ++ l ∷ []))) (sym (append_assoc fs gs gives))
+      (then_settled a (one_more (suc i) (before + is_expanded y.test) n c ms ls gs m l gives s (omega (arith, e)) (omega (arith, f)) b))
+
+  -- ---- labels behind
+
+  module _ (more : List LabelLink) where
+    becomes_still : (i before : ℕ) (m : Made) (l : Label) (gives : List Made) → i < length links → Becomes protocol limits links marks i before m l gives → Becomes protocol limits (links ++ more) marks i before m l gives
+    becomes_still i before m l gives w (is_dead d) = is_dead d
+    becomes_still i before m l gives w (is_seen {n = n} d u s) = is_seen d u (least_still links more i w n s)
+    becomes_still i before m l gives w (is_realised d n a g s) = is_realised d (new_still links more i w n) a g s
+    becomes_still i before m l gives w (is_generalised d n a g) = is_generalised d (new_still links more i w n) a g
+    becomes_still i before m l gives w (above_bound d n u r b) = above_bound d (new_still links more i w n) u r b
+    becomes_still i before m l gives w (at_limit d n u r b e) = at_limit d (new_still links more i w n) u r b e
+    becomes_still i before m l gives w (is_tested d n u r b c x s) = is_tested d (new_still links more i w n) u r b c x s
+
+    pub resolved_still : (i before : ℕ) (made : List Made) (labels : List Label) (given : List Made) → i + length made ≤ length links → AreResolved protocol limits links marks i before made labels given → AreResolved protocol limits (links ++ more) marks i before made labels given
+    resolved_still i before made labels given w all_settled = all_settled
+    resolved_still i before made labels given w (then_settled {m = m} {l = l} {made = ms} {labels = ls} {from_this = fs} {from_others = gs} b s) =
+        then_settled (becomes_still i before m l fs (omega (arith, w)) b) (resolved_still (suc i) (before + is_expanded l.test) ms ls gs (omega (arith, w)) s)

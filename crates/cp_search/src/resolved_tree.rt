@@ -1,0 +1,191 @@
+// Builds the tree once all labels are resolved.
+ghost use Rattle.std.specs.Prelude.{◌≡◌, ◌↔◌, List, ◌∷◌, length, map, reverse, option_map, Some, IsTrue, IfOk};
+ghost use Rattle.cp_skel.specs.Trees.{mark_view, outcome_view, label_view, tree_view};
+ghost use Rattle.cp_tree.specs.Searched.{mark_by_children, IsMarked, HasOutcome};
+ghost use Rattle.cp_search.specs.Candidates.{open_from};
+ghost use Rattle.cp_skel.specs.View.{skeleton_view};
+ghost use Rattle.cp_model.specs.Tree.{Mark as PlainMark};
+ghost use Rattle.cp_search.specs.TreeLabels.{label_with, labels_with, AreCandidateMarks};
+ghost use Rattle.cp_search.specs.ResolvedLabels.{leaf_label, generalised_label, expanded_label, AreExpandedOf};
+ghost use Rattle.cp_search.specs.declared.made.Made as program;
+ghost use Rattle.cp_search.specs.declared.resolved.Resolved as program_resolved;
+ghost use Rattle.cp_search.specs.declared.resolved.Resolved.TheVariants as resolved_as;
+ghost use Rattle.cp_search.specs.declared.resolved.Expanded as program_expanded;
+
+use crate::candidates::candidate_marks;
+use crate::label_search::Search;
+use crate::made::Made;
+use crate::resolved::{Expanded, Resolved};
+use cp_skel::{Mark, Outcome, Tree, TreeNode};
+use std::alloc::{AllocError, Global};
+
+/// A leaf of the tree with this mark.
+fn leaf(alloc: Global, made: Made, mark: Option<Mark>) -> TreeNode
+    ensures { label_view result ≡ leaf_label made (option_map mark_view mark) }
+{
+    let Made {
+        parent,
+        operation,
+        skeleton,
+        unrealised,
+        ..
+    } = made;
+    TreeNode {
+        parent,
+        operation,
+        skeleton,
+        unrealised,
+        test: None,
+        patterns: Vec::new(alloc),
+        children: Vec::new(alloc),
+        mark,
+    }
+}
+
+/// The tree's label for one that generalises to the label with this number.
+fn generalised(alloc: Global, made: Made, child: usize) -> Result<TreeNode, AllocError>
+    ensures { IfOk result (λ l. label_view l ≡ generalised_label made child) }
+{
+    let mut label = leaf(alloc, made, None);
+    label.children.push(child)?;
+    Ok(label)
+}
+
+/// The mark of an expanded label with these children.
+fn mark_by(children: &[usize]) -> Option<Mark>
+    ensures { option_map mark_view result ≡ mark_by_children children.now }
+{
+    if children.is_empty() {
+        return Some(Mark::Dead);
+    }
+    None
+}
+
+/// The tree's label for an expanded one.
+fn expanded(made: Made, settled: Expanded) -> TreeNode
+    requires { skeleton_view settled.skeleton ≡ skeleton_view made.skeleton }
+    ensures { label_view result ≡ expanded_label made settled }
+{
+    let mark = mark_by(&settled.children);
+    let Made {
+        parent,
+        operation,
+        unrealised,
+        ..
+    } = made;
+    let Expanded {
+        skeleton,
+        test,
+        patterns,
+        children,
+    } = settled;
+    TreeNode {
+        parent,
+        operation,
+        skeleton,
+        unrealised,
+        test: Some(test),
+        patterns,
+        children,
+        mark,
+    }
+}
+
+/// The tree's label for one that was made and resolved like this. If its own mark is open, it gets `mark`.
+fn label(
+    alloc: Global,
+    made: Made,
+    settled: Resolved,
+    mark: Option<Mark>,
+) -> Result<TreeNode, AllocError>
+    requires { (e : program_expanded.Expanded) → settled ≡ resolved_as.Expanded e → skeleton_view e.skeleton ≡ skeleton_view made.skeleton }
+    ensures { IfOk result (λ l. label_view l ≡ label_with made settled (option_map mark_view mark)) }
+{
+    match settled {
+        Resolved::Expanded(expansion) => Ok(expanded(made, expansion)),
+        Resolved::Generalised(child) => generalised(alloc, made, child),
+        Resolved::Leaf(Some(own)) => Ok(leaf(alloc, made, Some(own))),
+        Resolved::Leaf(None) => Ok(leaf(alloc, made, mark)),
+    }
+}
+
+/// Takes the next mark, the last of these, if the label's own mark is open.
+fn next_mark(settled: &Resolved, marks: &mut Vec<Mark>) -> Option<Mark>
+    ensures { (m : program.Made) (ms : List program.Made) (ss : List program_resolved.Resolved) → labels_with (m ∷ ms) (settled.now ∷ ss) (map mark_view (reverse marks.old.items)) ≡ label_with m settled.now (option_map mark_view result) ∷ labels_with ms ss (map mark_view (reverse marks.new.items)) }
+{
+    match settled {
+        Resolved::Leaf(None) => marks.pop(),
+        _ => None,
+    }
+}
+
+/// The tree's labels. Those whose own mark is open get these marks, in order.
+fn labels(
+    alloc: Global,
+    made: Vec<Made>,
+    settled: Vec<Resolved>,
+    marks: Vec<Mark>,
+) -> Result<Vec<TreeNode>, AllocError>
+    requires same { AreExpandedOf made.items settled.items }
+    ensures { IfOk result (λ ls. map label_view ls.items ≡ labels_with made.items settled.items (map mark_view marks.items)) }
+{
+    let mut labels = Vec::with_capacity(alloc, made.len())?;
+    let mut rest_resolved = settled.into_iter();
+    let mut rest_marks = marks;
+    rest_marks.reverse();
+    for made in made {
+        let Some(settled) = rest_resolved.next() else {
+            return Ok(labels);
+        };
+        let mark = next_mark(&settled, &mut rest_marks);
+        let label = label(alloc, made, settled, mark)?;
+        labels.push(label)?;
+    }
+    Ok(labels)
+}
+
+/// Whether the label has this mark.
+fn has_mark(label: &TreeNode, mark: Mark) -> bool
+    ensures { IsTrue result ↔ (label.now.mark ≡ Some mark) }
+{
+    label.mark == Some(mark)
+}
+
+/// Whether some label has this mark.
+fn is_marked(labels: &[TreeNode], mark: Mark) -> bool
+    ensures { IsTrue result ↔ IsMarked (map label_view labels.now) (mark_view mark) }
+{
+    for label in labels {
+        if has_mark(label, mark) {
+            return true;
+        }
+    }
+    false
+}
+
+/// The outcome of a search that ended with these labels.
+fn outcome_of(labels: &[TreeNode]) -> Outcome
+    ensures { HasOutcome (map label_view labels.now) (outcome_view result) }
+{
+    if is_marked(labels, Mark::LimitSteps) {
+        return Outcome::LimitSteps;
+    }
+    if is_marked(labels, Mark::LimitStrands) {
+        return Outcome::LimitStrands;
+    }
+    Outcome::Complete
+}
+
+/// The tree of a search that has resolved all labels.
+pub(crate) fn tree_of(alloc: Global, search: Search) -> Result<Tree, AllocError>
+    requires all { length search.settled.items ≡ length search.made }
+    requires same { AreExpandedOf search.made search.settled.items }
+    ensures labels { IfOk result (λ t. (marks : List PlainMark) × AreCandidateMarks (open_from 0 search.made search.settled.items) marks × ((tree_view t).labels ≡ labels_with search.made search.settled.items marks)) }
+    ensures outcome { IfOk result (λ t. HasOutcome (tree_view t).labels (tree_view t).outcome) }
+{
+    let Search { made, settled, .. } = search;
+    let marks = candidate_marks(alloc, made.all(), &settled)?;
+    let nodes = labels(alloc, made.into_all(), settled, marks)?;
+    let outcome = outcome_of(&nodes);
+    Ok(Tree { nodes, outcome })
+}

@@ -1,8 +1,0 @@
-use Rattle.std.proofs.Common.{take}
-use Rattle.cp_settle.specs.Stages.{choices}
-use Rattle.cp_settle.specs.Views.{tried_view}
-use Rattle.cp_settle.specs.Candidates.{PutsBranches}
-use Rattle.cp_settle.proofs.branches.put_branches.Given as goal
-
-abbrev pub invariant-loop-encryption : goal.invariant-loop-encryption
-invariant-loop-encryption l = PutsBranches (tried_view l.tried) (choices (take l.encryption-index l.encryptions) l.patterns) l.initial.next.items l.next.items

@@ -1,5 +1,0 @@
-use Rattle.cp_guard.proofs.AllAbove.{all_above}
-use Rattle.cp_settle.proofs.encryptions.encryptions_above.Goals as goal
-
-pub returns : goal.returns
-returns c = all_above _ _ _ _ _ c.loop-step-test.false c.loop-step.invariant

@@ -1,7 +1,0 @@
-use Rattle.std.proofs.Common.{◌≡◌, ◌++◌, drop, map}
-use Rattle.cp_skel.specs.View.{skeleton_view}
-use Rattle.cp_fingerprint.specs.Fingerprints.{traits_of}
-use Rattle.cp_shapes.proofs.rows.fingerprints.Given as goal
-
-abbrev pub invariant-loop-candidate : goal.invariant-loop-candidate
-invariant-loop-candidate l = l.fingerprints.items ++ map (λ k. traits_of (skeleton_view k.now)) (drop l.candidate-index l.candidates) ≡ map (λ k. traits_of (skeleton_view k.now)) l.candidates

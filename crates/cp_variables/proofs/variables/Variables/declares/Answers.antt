@@ -1,7 +1,0 @@
-use Rattle.std.proofs.Common.{map, ◌∙◌}
-use Rattle.cp_strand.specs.View.{declaration_view}
-use Rattle.cp_variables.proofs.Tabled.{known-identifier}
-use Rattle.cp_variables.proofs.variables.Variables.declares.Goals as goal
-
-pub returns : goal.returns
-returns c = c.has.ensures ∙ known-identifier 0 (map declaration_view c.args.self.now) c.args.identifier.now

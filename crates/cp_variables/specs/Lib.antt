@@ -1,4 +1,0 @@
-pub mod FirstMisfit
-pub mod Tables
-pub mod LocalViews
-pub mod LocalParts

@@ -1,5 +1,0 @@
-use Rattle.cp_wellformed.proofs.Example.{states_problem}
-use Rattle.cp_wellformed.proofs.well_formed_example.Goals as goal
-
-pub returns-clause-stated : goal.returns-clause-stated
-returns-clause-stated c = states_problem
