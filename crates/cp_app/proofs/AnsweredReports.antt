@@ -1,7 +1,7 @@
 -- An answer of a command that prints trees is a report.
 use Rattle.std.proofs.Common.{ℕ, List, Option}
 use Rattle.cp_base.specs.declared.status.Status.{Status}
-use Rattle.cp_words.specs.Command.{Command}
+use Rattle.cp_words.specs.declared.command.Command.{Command}
 use Rattle.cp_app.specs.Headline.{IsReported}
 use Rattle.cp_app.specs.Commands.{Answers}
 use Rattle.cp_app.specs.Details.{AnswersInDetail, IsReportedInDetail}

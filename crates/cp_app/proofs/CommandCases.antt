@@ -3,7 +3,7 @@ use Rattle.std.proofs.Common.{◌≡◌, ◌↔◌, ℕ, List, true, false, refl
 use Rattle.cp_base.specs.declared.place.Refusal.{Refusal}
 use Rattle.cp_base.specs.declared.status.Status.{Status}
 use Rattle.cp_lists.proofs.Members.{none_in_empty}
-use Rattle.cp_model.specs.Tree.{Limits}
+use Rattle.cp_model.specs.declared.tree.Limits.{Limits}
 use Rattle.cp_sexpr.specs.Syntax.{Forms}
 use Rattle.cp_language.proofs.OneAnswer.{one_first}
 use Rattle.cp_language.specs.Input.{faults_of}

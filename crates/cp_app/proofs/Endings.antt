@@ -12,7 +12,7 @@ use Rattle.cp_model.specs.Tree.{Label, Tree, IsTrueOf}
 use Rattle.cp_sexpr.specs.Syntax.{Forms}
 use Rattle.cp_sexpr.specs.Reading.{IsReading}
 use Rattle.cp_sexpr.proofs.Unique.{one_reading_of}
-use Rattle.cp_words.specs.Command.{Command}
+use Rattle.cp_words.specs.declared.command.Command.{Command}
 use Rattle.cp_app.specs.Headline.{most_bytes, HaveTrees, IsAccepted, SaysOutcomes}
 use Rattle.cp_app.specs.Commands.{Accepts, Answers}
 use Rattle.cp_app.specs.Details.{AnswersInDetail, IsReportedInDetail}
@@ -25,7 +25,7 @@ use Rattle.cp_app.proofs.CommandCases.{accepts_well_formed, refuses_faulty, acce
 use Rattle.cp_app.specs.Analysis.{IsAnalysisOf}
 use Rattle.cp_app.proofs.Trees.{zip_onto}
 use Rattle.cp_printable.proofs.DenotedTrees.{report_true}
-use Rattle.cp_language.specs.Input.{Entry, input_of}
+use Rattle.cp_language.specs.Input.{Entry, stated, input_of}
 use Rattle.cp_language.specs.StatedInput.{IsInput}
 use Rattle.cp_language.specs.Report.{HasItsVariables}
 use Rattle.cp_load.specs.declared.error.LoadError.{LoadError}
@@ -186,7 +186,7 @@ stopped_behind_end command (Err stopped.Memory) bytes input left_new cause short
 pub whole_report : (command : Command) (bytes text : List ℕ) (fs : Forms) (entries : List Entry) (trees : List Tree) (b : Bool) → length bytes ≤ most_bytes → IsReading bytes (Ok fs) → IsInput fs (Ok entries)
     → HaveTrees (IsAnalysisOf command.limits) entries trees → SaysOutcomes (outcomes_status b) trees → text ≡ text_by command.name entries trees → IsWholeReport command bytes text b
 whole_report command bytes text fs entries trees b short reading loaded analysed says printed =
-    let problems = filter_map (λ e. e.problem) (input_of fs) in
+    let problems = filter_map stated (input_of fs) in
     let all : HaveTrees (IsAnalysisOf command.limits) (input_of fs) trees = subst (λ es. HaveTrees (IsAnalysisOf command.limits) es trees) loaded.1 analysed in
     let prints : text ≡ text_by command.name (input_of fs) trees = printed ∙ ap (λ es. text_by command.name es trees) loaded.1 in
     let true_trees : HaveTrees (λ p t. IsTrueOf p.protocol p.skeleton command.limits t) (input_of fs) trees =

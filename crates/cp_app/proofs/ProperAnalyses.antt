@@ -6,10 +6,11 @@ use Rattle.cp_lists.proofs.Members.{zip_listed}
 use Rattle.cp_model.specs.Strand.{Role}
 use Rattle.cp_model.specs.Skeleton.{IsSkeleton}
 use Rattle.cp_model.specs.PointOfView.{IsPointOfView}
-use Rattle.cp_model.specs.Tree.{Label, Tree, Limits}
+use Rattle.cp_model.specs.Tree.{Label, Tree}
+use Rattle.cp_model.specs.declared.tree.Limits.{Limits}
 use Rattle.cp_sexpr.specs.Syntax.{Forms, forms_of}
 use Rattle.cp_language.specs.Problems.{Problem}
-use Rattle.cp_language.specs.Input.{faults_of, input_of}
+use Rattle.cp_language.specs.Input.{stated, faults_of, input_of}
 use Rattle.cp_language.specs.Report.{tree_forms, report_forms}
 use Rattle.cp_language.proofs.Problems.{are_skeletons, map_to_themselves, roles_are_well_formed}
 use Rattle.cp_printable.specs.Proper.{IsStringText, IsSymbolText, AreProper}
@@ -36,9 +37,9 @@ pub analyses_are_proper : (limits : Limits) (input : Forms) (trees : List Tree) 
     → AreProper (forms_of (report_forms (input_of input) trees))
 analyses_are_proper limits input trees proper well_formed analysed =
     report_is_proper (input_of input) trees (λ e i. form_is_proper input e proper i)
-    (zip_listed (IsAnalysisOf limits) (λ p t. AreProper (forms_of (tree_forms p t))) (filter_map (λ e. e.problem) (input_of input)) trees each analysed)
+    (zip_listed (IsAnalysisOf limits) (λ p t. AreProper (forms_of (tree_forms p t))) (filter_map stated (input_of input)) trees each analysed)
   where
-    each : (p : Problem) (t : Tree) → IsIn p (filter_map (λ e. e.problem) (input_of input)) → IsAnalysisOf limits p t → AreProper (forms_of (tree_forms p t))
+    each : (p : Problem) (t : Tree) → IsIn p (filter_map stated (input_of input)) → IsAnalysisOf limits p t → AreProper (forms_of (tree_forms p t))
     each p t listed analysis =
         let found = entry_of (input_of input) p listed in
         tree_proper limits p t (problem_is_spelled input found.0 p proper well_formed found.1 found.2) (λ r i. (roles_are_well_formed input found.0 p r well_formed found.1 found.2 i).trace)

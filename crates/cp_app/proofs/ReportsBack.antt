@@ -10,7 +10,7 @@ use Rattle.cp_sexpr.specs.ReadBack.{top_spellings}
 use Rattle.cp_sexpr.specs.Spelling.{top_spelling}
 use Rattle.cp_sexpr.proofs.Unique.{one_reading_of}
 use Rattle.cp_language.specs.Problems.{Problem}
-use Rattle.cp_language.specs.Input.{Entry, faults_of, input_of}
+use Rattle.cp_language.specs.Input.{Entry, stated, faults_of, input_of}
 use Rattle.cp_language.specs.Report.{report_forms, text_of_forms}
 use Rattle.cp_report.specs.FittingTrees.{TreeFits, problem_onto, problems_in}
 use Rattle.cp_report.specs.Laws.{CanBeStated}
@@ -29,9 +29,9 @@ onto_same : (o : Option Problem) (ps qs : List Problem) → ps ≡ qs → proble
 onto_same None ps qs same = same
 onto_same (Some p) ps qs same = ap (λ rs. p ∷ rs) same
 
-problems_same : (es : List Entry) → problems_in es ≡ filter_map (λ e. e.problem) es
+problems_same : (es : List Entry) → problems_in es ≡ filter_map stated es
 problems_same [] = refl
-problems_same (e ∷ es) = onto_same e.problem (problems_in es) (filter_map (λ d. d.problem) es) (problems_same es)
+problems_same (e ∷ es) = onto_same (stated e) (problems_in es) (filter_map stated es) (problems_same es)
 
 paired : {A B : Type 0} (R : A → B → Type 0) (xs : List A) (ys : List B) → AllZip R xs ys → ArePaired R xs ys
 paired R [] [] all = tt
@@ -42,7 +42,7 @@ paired R (x ∷ xs) (y ∷ ys) all = (all.0, paired R xs ys all.1)
 can_be_stated : (input : Forms) (trees : List Tree) → faults_of input ≡ [] → HaveTrees TreeFits (input_of input) trees → CanBeStated input trees
 can_be_stated input trees well_formed fit = record {
   well_formed = well_formed;
-  fit = subst (λ ps. ArePaired TreeFits ps trees) (sym (problems_same (input_of input))) (paired TreeFits (filter_map (λ e. e.problem) (input_of input)) trees fit);
+  fit = subst (λ ps. ArePaired TreeFits ps trees) (sym (problems_same (input_of input))) (paired TreeFits (filter_map stated (input_of input)) trees fit);
 }
 
 -- ---- texts

@@ -1,33 +1,38 @@
 -- The trees of the problems of an input.
-use Rattle.std.proofs.Common.{◌≡◌, ℕ, zero, suc, ◌+◌, ◌<◌, ◌≤◌, List, [], ◌∷◌, ◌++◌, length, get_or, take, map, Option, Some, None, ◌⊎◌, inl, inr, refl, sym, ap, ◌∙◌, subst, arith, ⊎_elim, Ok, add-one, Bool, true, false}
+use Rattle.std.proofs.Common.{◌≡◌, ℕ, zero, suc, ◌+◌, ◌<◌, ◌≤◌, List, [], ◌∷◌, ◌++◌, length, get_or, take, map, Option, Some, None, ◌⊎◌, inl, inr, refl, sym, ap, ap₂, ◌∙◌, subst, arith, ⊎_elim, Ok, add-one, Bool, true, false}
 use Rattle.std.specs.Prelude.{◌^◌, option_map}
 use Rattle.std.specs.List.{AllZip, cons_option, filter_map}
 use Rattle.std.proofs.lemmas.List.{append-nil, length-map, map-append, take_all}
 use Rattle.std.proofs.lemmas.List.Elements.{filter_map-append}
 use Rattle.std.proofs.Math.Seq.{take-suc}
 use Rattle.std.proofs.lemmas.Slice.Zip.{all_zipped_more}
-use Rattle.cp_skel.specs.Trees.{declared_view, variables_view, outcome_view, label_view, tree_view}
+use Rattle.cp_skel.specs.Trees.{label_view, tree_view}
 use Rattle.cp_skel.specs.declared.tree.TreeNode.{TreeNode}
-use Rattle.cp_model.specs.Data.{Declared}
 use Rattle.cp_skel.specs.declared.tree.Tree.{Tree as ProgramTree}
 use Rattle.cp_app.specs.Steps.{is_complete}
 use Rattle.cp_lists.specs.Lists.{item_at, IsIn, here, there}
 use Rattle.cp_lists.proofs.Members.{in_append}
 use Rattle.cp_lists.proofs.Items.{place_of}
-use Rattle.cp_model.specs.Term.{Variable, variables_of}
-use Rattle.cp_model.specs.Strand.{Declaration}
+use Rattle.cp_model.specs.Term.{variables_of}
+use Rattle.cp_model.specs.declared.variable.Variable.{Variable}
+use Rattle.cp_model.specs.declared.variable.Declaration.{Declaration}
 use Rattle.cp_model.specs.Problem.{IsDeclared, variables_of_skeleton}
-use Rattle.cp_model.specs.Tree.{Pattern, Test, Outcome, complete, at_step_limit, at_strand_limit, Label, Tree, Limits, IsTrueOf}
+use Rattle.cp_model.specs.Tree.{Pattern, Test, Label, Tree, IsTrueOf}
+use Rattle.cp_model.specs.declared.tree.Outcome.{Outcome}
+use Rattle.cp_model.specs.declared.tree.Outcome.TheVariants.{Complete as complete, LimitSteps as at_step_limit, LimitStrands as at_strand_limit}
+use Rattle.cp_model.specs.declared.tree.Limits.{Limits}
 use Rattle.cp_sexpr.specs.Syntax as syntax
 use Rattle.cp_sexpr.specs.Syntax.{Forms}
 use Rattle.cp_sexpr.specs.View.{view, views}
 use Rattle.cp_language.specs.Problems.{Problem}
 use Rattle.cp_language.specs.Report.{variables_of_terms, variables_of_test, variables_but, variables_of_patterns, occurring, HasItsVariables}
-use Rattle.cp_language.specs.Input.{Entry, faults_of, input_of}
+use Rattle.cp_language.specs.Input.{Entry, stated, faults_of, input_of}
 use Rattle.cp_language.specs.StatedInput.{IsInput}
 use Rattle.cp_language.proofs.NoLocals.{from_but}
-use Rattle.cp_load.specs.Inputs.{problem_view, entries_view, input_entries}
+use Rattle.cp_load.specs.Inputs.{problem_view, problem_in, entries_view, input_entries}
 use Rattle.cp_load.specs.declared.input.Problem.{Problem as ProgramProblem}
+use Rattle.cp_load.specs.declared.input.Entry.{Entry as ProgramEntry}
+use Rattle.cp_load.proofs.Entries.{problem_viewed}
 use Rattle.cp_load.specs.declared.input.Input.{Input}
 use Rattle.cp_sexpr.specs.declared.form.Form as form
 use Rattle.cp_model.proofs.OccurringVariables.{term_with}
@@ -85,8 +90,8 @@ analysis_of limits p t truth searched declares fits =
 
 -- ---- fewer variables than can be counted
 
-pub few_counted : (ds : List Declared) (n : ℕ) → n ≡ length ds → n < 2 ^ 64 → length (variables_view ds) < 2 ^ 64
-few_counted ds n counted few = let same : length (variables_view ds) ≡ length ds = length-map ds declared_view in omega (arith, same, counted, few)
+pub few_counted : (ds : List Declaration) (n : ℕ) → n ≡ length ds → n < 2 ^ 64 → length ds < 2 ^ 64
+few_counted ds n counted few = omega (arith, counted, few)
 
 -- the labels before number i have few
 abbrev pub HaveFewBefore : List TreeNode → ℕ → Type 0
@@ -116,69 +121,78 @@ zip_onto P Q f [] (y ∷ ys) all = absurd all
 zip_onto P Q f (x ∷ xs) [] all = absurd all
 zip_onto P Q f (x ∷ xs) (y ∷ ys) all = (f x y all.0, zip_onto P Q f xs ys all.1)
 
--- ---- the loop over the problems
+-- ---- the loop over the entries
 
--- The problems of the program that are stated.
-abbrev pub stated : List (Option ProgramProblem) → List Problem
-stated = filter_map (option_map problem_view)
+-- The problem of an entry of the program, if it has one.
+abbrev pub problem_of : ProgramEntry → Option Problem
+problem_of e = option_map problem_view (problem_in e)
 
--- The trees of the first problems, i forms on.
-abbrev pub AreTreesUpTo : Limits → List (Option ProgramProblem) → ℕ → List ProgramTree → Type 0
-AreTreesUpTo limits ps i ts = AllZip (IsAnalysisOf limits) (stated (take i ps)) (map tree_view ts)
+-- The problems of entries of the program.
+abbrev pub problems_of : List ProgramEntry → List Problem
+problems_of = filter_map problem_of
 
-next_stated : (ps : List (Option ProgramProblem)) (i : ℕ) (o : Option ProgramProblem) → i < length ps → o ≡ get_or ps i o → stated (take (i + 1) ps) ≡ stated (take i ps) ++ stated (o ∷ [])
-next_stated ps i o lt is =
-    let one : take (i + 1) ps ≡ take i ps ++ o ∷ [] = rw add-one (take-suc ps i o lt ∙ ap (λ q. take i ps ++ q ∷ []) (sym is)) in
-    ap stated one ∙ filter_map-append (option_map problem_view) (take i ps) (o ∷ [])
+-- The trees of the problems of the first entries, as many as i.
+abbrev pub AreTreesUpTo : Limits → List ProgramEntry → ℕ → List ProgramTree → Type 0
+AreTreesUpTo limits es i ts = AllZip (IsAnalysisOf limits) (problems_of (take i es)) (map tree_view ts)
 
-pub none_next : (limits : Limits) (ps : List (Option ProgramProblem)) (i : ℕ) (o : Option ProgramProblem) (ts : List ProgramTree) → i < length ps → o ≡ get_or ps i o → o ≡ None → AreTreesUpTo limits ps i ts
-    → AreTreesUpTo limits ps (i + 1) ts
-none_next limits ps i o ts lt is none before =
-    subst (λ qs. AllZip (IsAnalysisOf limits) qs (map tree_view ts)) (sym (next_stated ps i o lt is ∙ ap (λ q. stated (take i ps) ++ stated (q ∷ [])) none ∙ append-nil (stated (take i ps)))) before
+next_problems : (es : List ProgramEntry) (i : ℕ) (e : ProgramEntry) → i < length es → e ≡ get_or es i e → problems_of (take (i + 1) es) ≡ problems_of (take i es) ++ cons_option (problem_of e) []
+next_problems es i e lt is =
+    let one : take (i + 1) es ≡ take i es ++ e ∷ [] = rw add-one (take-suc es i e lt ∙ ap (λ q. take i es ++ q ∷ []) (sym is)) in
+    ap problems_of one ∙ filter_map-append problem_of (take i es) (e ∷ [])
+
+pub none_next : (limits : Limits) (es : List ProgramEntry) (i : ℕ) (e : ProgramEntry) (ts : List ProgramTree) → i < length es → e ≡ get_or es i e → None ≡ problem_in e → AreTreesUpTo limits es i ts → AreTreesUpTo limits es (i + 1) ts
+none_next limits es i e ts lt is none before =
+    let same : problems_of (take (i + 1) es) ≡ problems_of (take i es) =
+    next_problems es i e lt is ∙ sym (ap (λ (o : Option ProgramProblem). problems_of (take i es) ++ cons_option (option_map problem_view o) []) none) ∙ append-nil (problems_of (take i es)) in
+    subst (λ qs. AllZip (IsAnalysisOf limits) qs (map tree_view ts)) (sym same) before
 
 -- Behind the old trees stands that of the problem.
 abbrev pub IsBehind : Limits → ProgramProblem → List ProgramTree → List ProgramTree → Type 0
 IsBehind limits p old new = (t : Tree) × IsAnalysisOf limits (problem_view p) t × (map tree_view new ≡ map tree_view old ++ t ∷ [])
 
-pub tree_next : (limits : Limits) (ps : List (Option ProgramProblem)) (i : ℕ) (o : Option ProgramProblem) (p : ProgramProblem) (old new : List ProgramTree) → i < length ps → o ≡ get_or ps i o → o ≡ Some p
-    → IsBehind limits p old new → AreTreesUpTo limits ps i old → AreTreesUpTo limits ps (i + 1) new
-tree_next limits ps i o p old new lt is some (t, one, grew) before =
-    let problems : stated (take (i + 1) ps) ≡ stated (take i ps) ++ problem_view p ∷ [] = next_stated ps i o lt is ∙ ap (λ q. stated (take i ps) ++ stated (q ∷ [])) some in
+pub tree_next : (limits : Limits) (es : List ProgramEntry) (i : ℕ) (e : ProgramEntry) (p : ProgramProblem) (old new : List ProgramTree) → i < length es → e ≡ get_or es i e → Some p ≡ problem_in e
+    → IsBehind limits p old new → AreTreesUpTo limits es i old → AreTreesUpTo limits es (i + 1) new
+tree_next limits es i e p old new lt is some (t, one, grew) before =
+    let problems : problems_of (take (i + 1) es) ≡ problems_of (take i es) ++ problem_view p ∷ [] =
+    next_problems es i e lt is ∙ sym (ap (λ (o : Option ProgramProblem). problems_of (take i es) ++ cons_option (option_map problem_view o) []) some) in
     subst (λ qs. AllZip (IsAnalysisOf limits) qs (map tree_view new)) (sym problems)
-    (subst (λ us. AllZip (IsAnalysisOf limits) (stated (take i ps) ++ problem_view p ∷ []) us) (sym grew) (all_zipped_more (IsAnalysisOf limits) (stated (take i ps)) (map tree_view old) (problem_view p) t before one))
+    (subst (λ us. AllZip (IsAnalysisOf limits) (problems_of (take i es) ++ problem_view p ∷ []) us) (sym grew) (all_zipped_more (IsAnalysisOf limits) (problems_of (take i es)) (map tree_view old) (problem_view p) t before one))
 
-pub trees_done : (limits : Limits) (ps : List (Option ProgramProblem)) (i : ℕ) (ts : List ProgramTree) → length ps ≤ i → AreTreesUpTo limits ps i ts → AllZip (IsAnalysisOf limits) (stated ps) (map tree_view ts)
-trees_done limits ps i ts h all = rw (take_all i ps h) at all
+pub trees_done : (limits : Limits) (es : List ProgramEntry) (i : ℕ) (ts : List ProgramTree) → length es ≤ i → AreTreesUpTo limits es i ts → AllZip (IsAnalysisOf limits) (problems_of es) (map tree_view ts)
+trees_done limits es i ts h all = rw (take_all i es h) at all
 
-pub is_stated : (ps : List (Option ProgramProblem)) (i : ℕ) (o : Option ProgramProblem) (p : ProgramProblem) → i < length ps → o ≡ get_or ps i o → o ≡ Some p → IsIn (problem_view p) (stated ps)
-is_stated [] i o p lt is some = absurd (omega arith)
-is_stated (q ∷ ps) zero o p lt is some = subst (λ r. IsIn (problem_view p) (stated (r ∷ ps))) (sym some ∙ is) here
-is_stated (None ∷ ps) (suc i) o p lt is some = is_stated ps i o p (omega arith) is some
-is_stated (Some q ∷ ps) (suc i) o p lt is some = there (is_stated ps i o p (omega arith) is some)
+in_behind : (o : Option Problem) (ps : List Problem) (p : Problem) → IsIn p ps → IsIn p (cons_option o ps)
+in_behind None ps p m = m
+in_behind (Some q) ps p m = there m
+
+pub is_listed : (es : List ProgramEntry) (i : ℕ) (e : ProgramEntry) (p : ProgramProblem) → i < length es → e ≡ get_or es i e → Some p ≡ problem_in e → IsIn (problem_view p) (problems_of es)
+is_listed [] i e p lt is some = absurd (omega arith)
+is_listed (d ∷ es) zero e p lt is some = subst (λ (o : Option ProgramProblem). IsIn (problem_view p) (cons_option (option_map problem_view o) (problems_of es))) (some ∙ ap problem_in is) here
+is_listed (d ∷ es) (suc i) e p lt is some = in_behind (problem_of d) (problems_of es) (problem_view p) (is_listed es i e p (omega arith) is some)
 
 -- ---- input of which nothing is refused
 
 -- the problems of the program are those of the entries
-stated_problems : (fs : List syntax.Form) (ps : List (Option ProgramProblem)) → length ps ≡ length fs → filter_map (λ e. e.problem) (entries_view fs ps) ≡ stated ps
-stated_problems [] [] same = refl
-stated_problems [] (p ∷ ps) same = absurd (omega (arith, same))
-stated_problems (f ∷ fs) [] same = absurd (omega (arith, same))
-stated_problems (f ∷ fs) (p ∷ ps) same = ap (λ qs. cons_option (option_map problem_view p) qs) (stated_problems fs ps (omega (arith, same)))
+same_problems : (fs : List syntax.Form) (es : List ProgramEntry) → length es ≡ length fs → filter_map stated (entries_view fs es) ≡ problems_of es
+same_problems [] [] same = refl
+same_problems [] (e ∷ es) same = absurd (omega (arith, same))
+same_problems (f ∷ fs) [] same = absurd (omega (arith, same))
+same_problems (f ∷ fs) (e ∷ es) same = ap₂ cons_option (problem_viewed e f) (same_problems fs es (omega (arith, same)))
 
-stated_in : (input : Input) (fs : List form.Form) → input.forms.now ≡ fs → length input.problems.items ≡ length fs → filter_map (λ e. e.problem) (input_entries input) ≡ stated input.problems.items
-stated_in input fs same counted = stated_problems (map view input.forms.now) input.problems.items (counted ∙ ap length (sym same) ∙ sym (length-map input.forms.now view))
+problems_in : (input : Input) (fs : List form.Form) → input.forms.now ≡ fs → length input.entries.items ≡ length fs → filter_map stated (input_entries input) ≡ problems_of input.entries.items
+problems_in input fs same counted = same_problems (map view input.forms.now) input.entries.items (counted ∙ ap length (sym same) ∙ sym (length-map input.forms.now view))
 
 in_next : (o : Option Problem) (ps : List Problem) (p : Problem) → IsIn p (cons_option o ps) → (o ≡ Some p) ⊎ IsIn p ps
 in_next None ps p m = inr m
 in_next (Some q) ps _ here = inl refl
 in_next (Some q) ps p (there m) = inr m
 
-pub entry_of : (es : List Entry) (p : Problem) → IsIn p (filter_map (λ e. e.problem) es) → (e : Entry) × IsIn e es × (e.problem ≡ Some p)
+pub entry_of : (es : List Entry) (p : Problem) → IsIn p (filter_map stated es) → (e : Entry) × IsIn e es × (stated e ≡ Some p)
 entry_of [] p m = elim m [ ]
-entry_of (e ∷ es) p m = ⊎_elim (λ is. (e, here, is)) (λ q. let r = entry_of es p q in (r.0, there r.1, r.2)) (in_next e.problem (filter_map (λ d. d.problem) es) p m)
+entry_of (e ∷ es) p m = ⊎_elim (λ is. (e, here, is)) (λ q. let r = entry_of es p q in (r.0, there r.1, r.2)) (in_next (stated e) (filter_map stated es) p m)
 
 -- The problems of an input of which nothing is refused are analysable.
-analysable_input : (fs : Forms) (es : List Entry) → faults_of fs ≡ [] → es ≡ input_of fs → (p : Problem) → IsIn p (filter_map (λ e. e.problem) es) → IsAnalysable p
+analysable_input : (fs : Forms) (es : List Entry) → faults_of fs ≡ [] → es ≡ input_of fs → (p : Problem) → IsIn p (filter_map stated es) → IsAnalysable p
 analysable_input fs es none same p listed =
     let found = entry_of (input_of fs) p (rw same at listed) in
     record {
@@ -186,12 +200,12 @@ analysable_input fs es none same p listed =
       own = wellformed.map_to_themselves fs found.0 p none found.1 found.2;
     }
 
-pub analysable_problems : (input : Input) (fs : List form.Form) → IsInput (views fs) (Ok (input_entries input)) → input.forms.now ≡ fs → length input.problems.items ≡ length fs → (p : Problem) → IsIn p (stated input.problems.items) → IsAnalysable p
-analysable_problems input fs loaded same counted p listed = analysable_input (views fs) (input_entries input) loaded.0 loaded.1 p (rw (sym (stated_in input fs same counted)) at listed)
+pub analysable_problems : (input : Input) (fs : List form.Form) → IsInput (views fs) (Ok (input_entries input)) → input.forms.now ≡ fs → length input.entries.items ≡ length fs → (p : Problem) → IsIn p (problems_of input.entries.items) → IsAnalysable p
+analysable_problems input fs loaded same counted p listed = analysable_input (views fs) (input_entries input) loaded.0 loaded.1 p (rw (sym (problems_in input fs same counted)) at listed)
 
-pub all_analysed : (limits : Limits) (input : Input) (fs : List form.Form) (ts : List Tree) → input.forms.now ≡ fs → length input.problems.items ≡ length fs → AllZip (IsAnalysisOf limits) (stated input.problems.items) ts
+pub all_analysed : (limits : Limits) (input : Input) (fs : List form.Form) (ts : List Tree) → input.forms.now ≡ fs → length input.entries.items ≡ length fs → AllZip (IsAnalysisOf limits) (problems_of input.entries.items) ts
     → HaveTrees (IsAnalysisOf limits) (input_entries input) ts
-all_analysed limits input fs ts same counted all = rw (sym (stated_in input fs same counted)) at all
+all_analysed limits input fs ts same counted all = rw (sym (problems_in input fs same counted)) at all
 
 -- ---- outcomes
 
@@ -205,7 +219,7 @@ complete_is complete is = refl
 complete_is at_step_limit is = absurd (cc)
 complete_is at_strand_limit is = absurd (cc)
 
-pub incomplete : (ts : List ProgramTree) (i : ℕ) (t : ProgramTree) (b : Bool) → i < length ts → t ≡ get_or ts i t → b ≡ is_complete (outcome_view t.outcome) → b ≡ false
+pub incomplete : (ts : List ProgramTree) (i : ℕ) (t : ProgramTree) (b : Bool) → i < length ts → t ≡ get_or ts i t → b ≡ is_complete t.outcome → b ≡ false
     → (u : Tree) × IsIn u (map tree_view ts) × (u.outcome ≡ complete → ⊥)
 incomplete ts i t b lt is test not = (tree_view t, listed_at ts i t lt is, λ done. let e : false ≡ true = sym not ∙ test ∙ ap is_complete done in cc)
 
@@ -216,15 +230,15 @@ AreCompleteBefore ts i = (t : Tree) → IsIn t (map tree_view (take i ts)) → t
 pub none_before : (ts : List ProgramTree) → AreCompleteBefore ts 0
 none_before ts t listed = elim listed [ ]
 
-next : (ts : List ProgramTree) (i : ℕ) (t : ProgramTree) → i < length ts → t ≡ get_or ts i t → outcome_view t.outcome ≡ complete → AreCompleteBefore ts i → AreCompleteBefore ts (suc i)
+next : (ts : List ProgramTree) (i : ℕ) (t : ProgramTree) → i < length ts → t ≡ get_or ts i t → t.outcome ≡ complete → AreCompleteBefore ts i → AreCompleteBefore ts (suc i)
 next [] i t lt is done before v listed = absurd (omega arith)
-next (u ∷ ts) zero t lt is done before _ here = ap (λ v. outcome_view v.outcome) (sym is) ∙ done
+next (u ∷ ts) zero t lt is done before _ here = ap (λ v. v.outcome) (sym is) ∙ done
 next (u ∷ ts) zero t lt is done before v (there listed) = elim listed [ ]
 next (u ∷ ts) (suc i) t lt is done before _ here = before (tree_view u) here
 next (u ∷ ts) (suc i) t lt is done before v (there listed) = next ts i t (omega arith) is done (λ w m. before w (there m)) v listed
 
-pub complete_next : (ts : List ProgramTree) (i : ℕ) (t : ProgramTree) (b : Bool) → i < length ts → t ≡ get_or ts i t → b ≡ is_complete (outcome_view t.outcome) → b ≡ true → AreCompleteBefore ts i → AreCompleteBefore ts (i + 1)
-complete_next ts i t b lt is test done before = rw add-one (next ts i t lt is (complete_is (outcome_view t.outcome) (sym test ∙ done)) before)
+pub complete_next : (ts : List ProgramTree) (i : ℕ) (t : ProgramTree) (b : Bool) → i < length ts → t ≡ get_or ts i t → b ≡ is_complete t.outcome → b ≡ true → AreCompleteBefore ts i → AreCompleteBefore ts (i + 1)
+complete_next ts i t b lt is test done before = rw add-one (next ts i t lt is (complete_is t.outcome (sym test ∙ done)) before)
 
 pub all_complete : (ts : List ProgramTree) (i : ℕ) → length ts ≤ i → AreCompleteBefore ts i → (t : Tree) → IsIn t (map tree_view ts) → t.outcome ≡ complete
 all_complete ts i h before t listed = before t (rw (sym (take_all i ts h)) at listed)

@@ -2,7 +2,8 @@
 use Rattle.std.specs.Prelude.{◌<◌, ◌^◌, List, length}
 use Rattle.cp_lists.specs.Lists.{IsIn}
 use Rattle.cp_model.specs.PointOfView.{IsPointOfView}
-use Rattle.cp_model.specs.Tree.{Limits, Label, Tree, IsTrueOf}
+use Rattle.cp_model.specs.Tree.{Label, Tree, IsTrueOf}
+use Rattle.cp_model.specs.declared.tree.Limits.{Limits}
 use Rattle.cp_language.specs.Problems.{Problem}
 use Rattle.cp_language.specs.Report.{HasItsVariables}
 use Rattle.cp_report.specs.FittingTrees.{TreeFits}

@@ -2,7 +2,7 @@
 use Rattle.std.specs.Prelude.{◌≡◌, ℕ, ◌<◌, ◌⊎◌, List, [], ◌++◌, length, take, true, Option, Some}
 use Rattle.cp_base.specs.declared.status.Status.{Status}
 use Rattle.cp_base.specs.declared.status.Status.TheVariants.{Done, Limit}
-use Rattle.cp_words.specs.Command.{Command}
+use Rattle.cp_words.specs.declared.command.Command.{Command}
 use Rattle.cp_app.specs.Commands.{reads}
 
 -- The status says that the whole text was put.

@@ -3,9 +3,9 @@
 use Rattle.std.specs.Prelude.{ℕ, List, Bool, true}
 use Rattle.cp_base.specs.declared.place.Refusal.{Refusal}
 use Rattle.cp_base.specs.declared.status.Status.{Status}
-use Rattle.cp_model.specs.Tree.{Limits}
+use Rattle.cp_model.specs.declared.tree.Limits.{Limits}
 use Rattle.cp_sexpr.specs.Syntax.{Forms}
-use Rattle.cp_words.specs.Command.{Command}
+use Rattle.cp_words.specs.declared.command.Command.{Command}
 use Rattle.cp_words.specs.declared.command.CommandName.{CommandName}
 use Rattle.cp_words.specs.declared.command.CommandName.TheVariants.{Analyse, Shapes}
 use Rattle.cp_app.specs.Headline.{AreWellFormed, AreFaulty, AnalyseAnswers}

@@ -2,14 +2,15 @@
 -- the report are read back as these trees, and what they denote is true.
 use Rattle.std.specs.Prelude.{ℕ, List}
 use Rattle.cp_base.specs.declared.status.Status.{Status}
-use Rattle.cp_model.specs.Tree.{Limits, Tree, IsTrueOf}
+use Rattle.cp_model.specs.Tree.{Tree, IsTrueOf}
+use Rattle.cp_model.specs.declared.tree.Limits.{Limits}
 use Rattle.cp_sexpr.specs.Syntax.{Forms}
 use Rattle.cp_language.specs.Input.{Entry}
 use Rattle.cp_language.specs.Report.{report_text}
 use Rattle.cp_language.specs.ShapesText.{shapes_text}
 use Rattle.cp_report.specs.ReadBack.{report_of}
 use Rattle.cp_report.specs.UpToNames.{IsReport}
-use Rattle.cp_words.specs.Command.{Command}
+use Rattle.cp_words.specs.declared.command.Command.{Command}
 use Rattle.cp_words.specs.declared.command.CommandName.{CommandName}
 use Rattle.cp_words.specs.declared.command.CommandName.TheVariants.{Analyse, Shapes}
 use Rattle.cp_app.specs.Headline.{HaveTrees, IsReported}

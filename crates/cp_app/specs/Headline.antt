@@ -6,13 +6,15 @@ use Rattle.std.specs.List.{AllZip, filter_map}
 use Rattle.cp_base.specs.declared.place.Refusal.{Refusal}
 use Rattle.cp_base.specs.declared.status.Status.{Status}
 use Rattle.cp_base.specs.declared.status.Status.TheVariants.{Done, Limit}
-use Rattle.cp_model.specs.Tree.{complete, Label, Limits, Tree, IsTrueOf}
+use Rattle.cp_model.specs.Tree.{Label, Tree, IsTrueOf}
+use Rattle.cp_model.specs.declared.tree.Outcome.TheVariants.{Complete as complete}
+use Rattle.cp_model.specs.declared.tree.Limits.{Limits}
 use Rattle.cp_lists.specs.Lists.{IsIn}
 use Rattle.cp_sexpr.specs.Syntax.{Forms}
 use Rattle.cp_sexpr.specs.Written.{IsWritten}
 use Rattle.cp_language.specs.FirstFault.{IsFirstFault}
 use Rattle.cp_language.specs.Problems.{Problem}
-use Rattle.cp_language.specs.Input.{Entry, faults_of, input_of}
+use Rattle.cp_language.specs.Input.{Entry, stated, faults_of, input_of}
 use Rattle.cp_language.specs.Report.{HasItsVariables, report_text}
 
 -- ---- the input
@@ -39,7 +41,7 @@ pub record IsAccepted (Accepts : Forms → Type 0) (input : List ℕ) (fs : Form
 
 -- The problems that entries state have these trees, each its own, in the same order; and P holds of each problem and its tree.
 abbrev pub HaveTrees : (Problem → Tree → Type 0) → List Entry → List Tree → Type 0
-HaveTrees P entries trees = AllZip P (filter_map (λ e. e.problem) entries) trees
+HaveTrees P entries trees = AllZip P (filter_map stated entries) trees
 
 -- The text is what is printed of one report over the forms of the input: each problem has its tree, which is true of it and
 -- whose labels have their variables, and the text is what `printed_of` gives for the forms and these trees.

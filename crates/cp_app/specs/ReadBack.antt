@@ -12,7 +12,7 @@ use Rattle.cp_printable.specs.Proper.{AreProper, AreWithinBounds}
 use Rattle.cp_words.specs.declared.command.CommandName.{CommandName}
 use Rattle.cp_words.specs.declared.command.CommandName.TheVariants.{Analyse}
 
--- The forms of an input, each with the problem that it states, and the trees of these problems.
+-- The forms of an input, each with what it states, and the trees of their problems.
 abbrev pub report_over : Forms → List Tree → Report
 report_over forms trees = record { entries = input_of forms; trees = trees }
 

@@ -9,7 +9,7 @@ use Rattle.cp_language.specs.Report.{report_text}
 use Rattle.cp_language.specs.ShapesText.{shapes_text}
 use Rattle.cp_report.specs.ReadBack.{report_of}
 use Rattle.cp_report.specs.UpToNames.{IsReport}
-use Rattle.cp_words.specs.Command.{Command}
+use Rattle.cp_words.specs.declared.command.Command.{Command}
 use Rattle.cp_words.specs.declared.command.CommandName.{CommandName}
 use Rattle.cp_words.specs.declared.command.CommandName.TheVariants.{Analyse, Shapes}
 use Rattle.cp_app.specs.Headline.{HaveTrees, IsReportOf, SaysOutcomes}

@@ -1,6 +1,7 @@
 -- Which trees a report has: those of the search.
 use Rattle.std.specs.Prelude.{List}
-use Rattle.cp_model.specs.Tree.{Limits, Tree}
+use Rattle.cp_model.specs.Tree.{Tree}
+use Rattle.cp_model.specs.declared.tree.Limits.{Limits}
 use Rattle.cp_sexpr.specs.Syntax.{Forms}
 use Rattle.cp_language.specs.Input.{input_of}
 use Rattle.cp_tree.specs.Searched.{IsTreeOf}

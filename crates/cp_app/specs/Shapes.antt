@@ -1,7 +1,7 @@
 -- The command `shapes`.
 use Rattle.std.specs.Prelude.{ℕ, List}
 use Rattle.cp_base.specs.declared.status.Status.{Status}
-use Rattle.cp_model.specs.Tree.{Limits}
+use Rattle.cp_model.specs.declared.tree.Limits.{Limits}
 use Rattle.cp_language.specs.ShapesText.{shapes_text}
 use Rattle.cp_app.specs.Headline.{IsReported}
 

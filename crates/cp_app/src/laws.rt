@@ -8,7 +8,7 @@ ghost use Rattle.cp_app.specs.Reported.{HasReported, HasReportedSearch, HasRepor
 ghost use Rattle.cp_base.specs.declared.place.Refusal.{Refusal as RefusalData};
 ghost use Rattle.cp_base.specs.declared.status.Status.{Status as StatusData};
 ghost use Rattle.cp_sexpr.specs.Syntax.{Forms};
-ghost use Rattle.cp_words.specs.Command.{Command as CommandData};
+ghost use Rattle.cp_words.specs.declared.command.Command.{Command as CommandData};
 
 /// Law: an answer of `analyse` or `shapes` is a report on the whole input, which was read to its end, with trees that are true of
 /// their problems. In detail, its trees are those of the search; the forms of the whole report, and the text of `analyse` if it can

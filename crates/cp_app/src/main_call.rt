@@ -14,9 +14,8 @@ ghost use Rattle.cp_base.specs.declared.status.Status.TheVariants.{Usage, Refuse
 ghost use Rattle.cp_sexpr.specs.Syntax.{Forms};
 ghost use Rattle.cp_load.specs.Inputs.{input_entries};
 ghost use Rattle.cp_skel.specs.Trees.{tree_view};
-ghost use Rattle.cp_words.specs.Command.{Command as CommandData};
+ghost use Rattle.cp_words.specs.declared.command.Command.{Command as CommandData};
 ghost use Rattle.cp_words.specs.CommandWords.{command_of};
-ghost use Rattle.cp_words.specs.Settings.{command_view};
 
 use crate::analysis::{are_complete, trees_of};
 use crate::input::read_all;
@@ -70,12 +69,12 @@ fn print_by(
 // The report on an input, or the reason why there is none.
 fn report_of(alloc: Global, command: Command, input: &[u8]) -> Result<Report, Stopped>
     requires short { length input.now ≤ most_bytes }
-    ensures report { IfOk result (λ report. IsWholeReport (command_view command) input.now report.text.items report.complete) }
-    ensures cause { IfErr result (IsCauseFor (command_view command) input.now) }
+    ensures report { IfOk result (λ report. IsWholeReport command input.now report.text.items report.complete) }
+    ensures cause { IfErr result (IsCauseFor command input.now) }
 {
     let forms = read(alloc, input)?;
     let loaded = load(alloc, &forms)?;
-    let trees = trees_of(alloc, &loaded.problems, command.limits)?;
+    let trees = trees_of(alloc, &loaded.entries, command.limits)?;
     let complete = are_complete(&trees);
     let mut text = Vec::new(alloc);
     let mut ends = Vec::new(alloc);
@@ -94,9 +93,9 @@ fn make_report<S: Source>(
     source: &mut S,
 ) -> Result<Report, Stopped>
     ensures report { (input : List ℕ) → S.left source.old ≡ Some input
-        → IfOk result (λ report. IsWholeReport (command_view command) input report.text.items report.complete × (S.left source.new ≡ Some [])) }
+        → IfOk result (λ report. IsWholeReport command input report.text.items report.complete × (S.left source.new ≡ Some [])) }
     ensures stopped { (input : List ℕ) → S.left source.old ≡ Some input
-        → IfErr result (HasStopped (command_view command) input (S.left source.new)) }
+        → IfErr result (HasStopped command input (S.left source.new)) }
     ensures read_fault { IfErr result (λ cause. cause ≡ stopped.ReadFault
         → Rose (S.faults source.old) (S.faults source.new)) }
 {
@@ -121,7 +120,7 @@ fn analyse<S: Source, O: Sink>(
     out: &mut O,
 ) -> Status
     ensures ended { (input : List ℕ) → S.left source.old ≡ Some input
-        → HasEnded (command_view command) input (S.left source.new) (O.held out.old) (O.held out.new) result }
+        → HasEnded command input (S.left source.new) (O.held out.old) (O.held out.new) result }
     ensures not_usage { result ≢ Usage }
     ensures read_fault { result ≡ ReadFault → Rose (S.faults source.old) (S.faults source.new) }
     ensures write_fault { result ≡ WriteFault → Rose (O.faults out.old) (O.faults out.new) }

@@ -3,11 +3,12 @@ use Rattle.std.proofs.Common.{◌≡◌, ℕ, ◌<◌, List, [], ◌∷◌, ◌+
 use Rattle.cp_lists.specs.Lists.{item_at, one_step, more_steps}
 use Rattle.cp_lists.proofs.Items.{item_still, item_last}
 use Rattle.cp_model.specs.Term.{Term}
-use Rattle.cp_model.specs.Strand.{recv, Declaration}
+use Rattle.cp_model.specs.declared.strand.Event.TheVariants.{Receive as recv}
+use Rattle.cp_model.specs.declared.variable.Declaration.{Declaration}
 use Rattle.cp_model.specs.Bundle.{node_at}
 use Rattle.cp_model.specs.declared.node.Node.{Node}
 use Rattle.cp_model.specs.Skeleton.{SkeletonStrand, listener, skeleton_trace_or_none, Skeleton, Before, OrderStep, along_strand_of, along_pair, IsOrderPair}
-use Rattle.cp_model.specs.Tree.{by_added_listener}
+use Rattle.cp_model.specs.declared.tree.Operation.TheVariants.{AddedListener as by_added_listener}
 use Rattle.cp_theory.specs.Critical.{IsTest}
 use Rattle.cp_model.specs.Extensions.{AddsListener}
 use Rattle.cp_model.specs.Data.{SkeletonData}

@@ -3,10 +3,10 @@ use Rattle.std.proofs.Common.{◌≡◌, List, [], ◌∷◌, Bool, true, false,
 use Rattle.cp_lists.specs.Lists.{here, there}
 use Rattle.cp_lists.proofs.Members.{head_or_behind, not_in_none}
 use Rattle.cp_model.specs.Message.{symmetric, asymmetric, key}
-use Rattle.cp_model.specs.Term.{SymmetricTerm, skey_variable, ltk_term, PairTerm, akey_variable, pubk_term, symmetric_term, asymmetric_term, AtomTerm, text_variable, datum_variable, name_variable, key_term, Term, tag_term, atom_term, pair_term, enc_term, atom_of_variable, Assignment, value_of_atom, value_of, Substitution, apply_to_atom, apply_to, after}
+use Rattle.cp_model.specs.Term.{SymmetricTerm, skey_variable, ltk_term, PairTerm, akey_variable, pubk_term, symmetric_term, asymmetric_term, AtomTerm, text_variable, datum_variable, name_variable, key_term, Term, tag_term, atom_term, pair_term, enc_term, Assignment, value_of_atom, value_of, Substitution, apply_to_atom, apply_to, after, variable_term}
 use Rattle.cp_model.specs.Tree.{Pattern}
-use Rattle.cp_model.proofs.LawTerms.{atom_after, value_after}
-use Rattle.cp_term.specs.Code.{own_numbers, atom_from, term_from, atom_term_back, term_back}
+use Rattle.cp_model.proofs.LawTerms.{value_after}
+use Rattle.cp_term.specs.Code.{own_numbers, atom_from, term_from, term_back}
 use Rattle.cp_theory.specs.Matches.{Matches, MatchesMessage}
 use Rattle.cp_theory.proofs.Decided.{dec_matches}
 use Rattle.cp_cohort.specs.Candidates.{OneMatches}
@@ -54,7 +54,7 @@ term_value f (enc_term a k) = ap₂ encrypted_by (term_value f a) (atom_value f 
 to_message : (p : Pattern) (s : Substitution) (t : Term) → Matches p s t → MatchesMessage p (after own_numbers s) (value_of own_numbers t)
 to_message p s t m = record {
   filled = after own_numbers m.filled;
-  as_said = λ x free. atom_after own_numbers m.filled (atom_of_variable x) ∙ ap (value_of_atom own_numbers) (m.as_said x free) ∙ sym (atom_after own_numbers s (atom_of_variable x));
+  as_said = λ x free. value_after own_numbers m.filled (variable_term x) ∙ ap (value_of own_numbers) (m.as_said x free) ∙ sym (value_after own_numbers s (variable_term x));
   same = value_after own_numbers m.filled p.term ∙ ap (value_of own_numbers) m.same;
 }
 
@@ -62,7 +62,7 @@ to_message p s t m = record {
 to_term : (p : Pattern) (s : Substitution) (t : Term) → MatchesMessage p (after own_numbers s) (value_of own_numbers t) → Matches p s t
 to_term p s t m = record {
   filled = as_substitution m.filled;
-  as_said = λ x free. atom_value m.filled (atom_of_variable x) ∙ ap atom_from (m.as_said x free ∙ atom_after own_numbers s (atom_of_variable x)) ∙ atom_term_back (apply_to_atom s (atom_of_variable x));
+  as_said = λ x free. term_value m.filled (variable_term x) ∙ ap term_from (m.as_said x free ∙ value_after own_numbers s (variable_term x)) ∙ term_back (apply_to s (variable_term x));
   same = term_value m.filled p.term ∙ ap term_from m.same ∙ term_back t;
 }
 

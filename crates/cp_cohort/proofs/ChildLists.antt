@@ -2,7 +2,7 @@
 use Rattle.std.proofs.Common.{append_assoc, ◌≡◌, ℕ, ◌+◌, ◌<◌, ◌≤◌, List, [], ◌∷◌, ◌++◌, length, take, map, Some, sym, ap, ◌∙◌, subst, add-one, arith}
 use Rattle.std.proofs.lemmas.List.{append-nil, take_all}
 use Rattle.cp_model.specs.Problem.{numbers_from}
-use Rattle.cp_model.proofs.Numbers.{numbers_length}
+use Rattle.cp_model.proofs.NumbersFrom.{numbers_length}
 use Rattle.cp_collapse.proofs.Lowest.{numbers_at}
 use Rattle.cp_lists.specs.Lists.{item_at}
 use Rattle.cp_lists.proofs.Items.{take_to_item}

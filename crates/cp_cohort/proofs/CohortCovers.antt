@@ -4,16 +4,21 @@ use Rattle.std.specs.Prelude.{◌≢◌}
 use Rattle.cp_lists.specs.Lists.{item_at, IsIn, here}
 use Rattle.cp_lists.proofs.Items.{item_below}
 use Rattle.cp_lists.proofs.Members.{in_append_left, in_append_right, into_map}
-use Rattle.cp_model.specs.Term.{Variable, KeyTerm, key_term, inverse_term, Term, atom_term, enc_term, variables_of, Assignment, value_of, Substitution, apply_to}
+use Rattle.cp_model.specs.Term.{KeyTerm, key_term, inverse_term, Term, atom_term, enc_term, variables_of, Assignment, value_of, Substitution, apply_to}
+use Rattle.cp_model.specs.declared.variable.Variable.{Variable}
 use Rattle.cp_model.specs.Identity.{unchanged}
-use Rattle.cp_model.specs.Strand.{send, recv, Declaration, Role, Protocol, IsHeight}
+use Rattle.cp_model.specs.Strand.{Role, Protocol, IsHeight}
+use Rattle.cp_model.specs.declared.strand.Event.TheVariants.{Send as send, Receive as recv}
+use Rattle.cp_model.specs.declared.variable.Declaration.{Declaration}
 use Rattle.cp_model.specs.Bundle.{node_at}
 use Rattle.cp_model.specs.declared.node.Node.{Node}
 use Rattle.cp_model.specs.Skeleton.{SkeletonStrand, instance, listener, skeleton_trace_or_none, term_event_at, Skeleton, Before, IsSkeleton}
 use Rattle.cp_model.specs.Derivable.{IsOnInstance}
 use Rattle.cp_model.specs.Problem.{numbers_from, IsDeclared}
 use Rattle.cp_model.specs.PointOfView.{HasDeclaredVariables}
-use Rattle.cp_model.specs.Tree.{Operation, by_displacement, Pattern}
+use Rattle.cp_model.specs.Tree.{Pattern}
+use Rattle.cp_model.specs.declared.tree.Operation.{Operation}
+use Rattle.cp_model.specs.declared.tree.Operation.TheVariants.{Displaced as by_displacement}
 use Rattle.cp_model.proofs.StrandParts.{same_instance}
 use Rattle.cp_model.proofs.LawPrefixes.{in_front_of_trace}
 use Rattle.cp_model.proofs.DeclaredVariables.{still_declared}
@@ -28,7 +33,8 @@ use Rattle.cp_collapse.proofs.NoNewVariables.{KeepsDeclared}
 use Rattle.cp_model.specs.PrefixVariables.{prefix_variables, added_variables}
 use Rattle.cp_strand.specs.Declares.{DeclaresItsVariables}
 use Rattle.cp_model.specs.Extensions.{IsClosedPrefix, AddsStrand, CanExtend, Extends}
-use Rattle.cp_skel.specs.Events.{LocatedEvent, is_role_strand, events_of}
+use Rattle.cp_skel.specs.Events.{is_role_strand, events_of}
+use Rattle.cp_skel.specs.declared.events.LocatedEvent.{LocatedEvent}
 use Rattle.cp_skel.proofs.DeclaredChanges.{more_declared, strand_declared, extended_declared, ordered_declared}
 use Rattle.cp_model.proofs.PrefixVariables.{in-prefix, in-added}
 use Rattle.cp_skel.proofs.StaySkeletons.{strand-stays-skeleton, appended-grows, appended-last, extended-grows, extended-stays-skeleton}

@@ -3,9 +3,10 @@ use Rattle.std.proofs.Common.{◌≡◌, ◌≢◌, List, [], ◌∷◌, ◌++�
 use Rattle.cp_lists.specs.Lists.{IsIn}
 use Rattle.cp_model.specs.Term.{Term, Substitution}
 use Rattle.cp_model.specs.Identity.{unchanged}
-use Rattle.cp_model.specs.Strand.{Declaration, payload}
+use Rattle.cp_model.specs.Strand.{payload}
+use Rattle.cp_model.specs.declared.variable.Declaration.{Declaration}
 use Rattle.cp_model.specs.Skeleton.{Skeleton, IsNodeOf}
-use Rattle.cp_model.specs.Tree.{by_contraction}
+use Rattle.cp_model.specs.declared.tree.Operation.TheVariants.{Contracted as by_contraction}
 use Rattle.cp_theory.specs.Normal.{skeleton_under}
 use Rattle.cp_collapse.specs.SameSkeletons.{SaysTheSame}
 use Rattle.cp_theory.specs.Inside.{IsInside}
@@ -15,10 +16,9 @@ use Rattle.cp_pattern.specs.Unifiers.{UnifiesMostGenerally}
 use Rattle.cp_pattern.proofs.DifferentTerms as differing
 use Rattle.cp_skel.proofs.EventLists.{listed_event}
 use Rattle.cp_model.specs.Data.{SkeletonData}
-use Rattle.cp_skel.specs.Events.{LocatedEvent, located_event_view, events_of}
-use Rattle.cp_skel.specs.Trees.{variables_view}
+use Rattle.cp_skel.specs.Events.{events_of}
+use Rattle.cp_skel.specs.declared.events.LocatedEvent.{LocatedEvent}
 use Rattle.cp_skel.specs.View.{skeleton_view}
-use Rattle.cp_skel.specs.declared.events.LocatedEvent as program
 use Rattle.cp_model.specs.declared.step.Step.{Step}
 use Rattle.cp_model.specs.Positions.{term_at, positions_where}
 use Rattle.cp_lists.proofs.Mapped.{map_then, map_alike}
@@ -28,9 +28,9 @@ use Rattle.cp_cohort.specs.Cohort.{GuardedTest, positions, Contracts, never_equa
 use Rattle.cp_cohort.specs.Children.{AreChildrenOfForms, ContractsEvent, not_before, is_before}
 use Rattle.cp_cohort.specs.Views.{child_view, child_of, PutsChildren}
 use Rattle.cp_cohort.specs.declared.child.Child as program_child
-use Rattle.cp_cohort.proofs.ChildLists.{gives_all}
 use Rattle.cp_cohort.proofs.Positions.{wider}
-use Rattle.cp_model.specs.Tree.{Operation, Pattern}
+use Rattle.cp_model.specs.Tree.{Pattern}
+use Rattle.cp_model.specs.declared.tree.Operation.{Operation}
 use Rattle.cp_unify.specs.Bindings.{Binding, as_substitution}
 
 -- An event that is listed is at a node.
@@ -39,12 +39,12 @@ listed_node k o i = (o.event, listed_event k o i)
 
 -- Normal forms with the variables of a skeleton are children of it.
 pub forms_put : (k : SkeletonData) (ks : List SkeletonData) (operation : Operation) (path : List Step) (old new : List program_child.Child) → ((r : SkeletonData) → IsIn r ks → r.variables ≡ k.variables) →
-    HasForms (skeleton_view k) (map skeleton_view ks) → map child_view new ≡ map child_view old ++ map (child_of operation path) ks → PutsChildren (AreChildrenOfForms (variables_view k.variables) operation path (skeleton_view k)) old new
+    HasForms (skeleton_view k) (map skeleton_view ks) → map child_view new ≡ map child_view old ++ map (child_of operation path) ks → PutsChildren (AreChildrenOfForms k.variables operation path (skeleton_view k)) old new
 forms_put k ks operation path old new same forms p =
-    let each : map (child_of operation path) ks ≡ map (λ r. child (variables_view k.variables) operation path (skeleton_view r)) ks =
-    map_alike (child_of operation path) (λ r. child (variables_view k.variables) operation path (skeleton_view r)) ks (λ r i. ap (λ vs. child (variables_view vs) operation path (skeleton_view r)) (same r i)) in
-    let parts : map (λ r. child (variables_view k.variables) operation path (skeleton_view r)) ks ≡ map (child (variables_view k.variables) operation path) (map skeleton_view ks) =
-    map_then skeleton_view (child (variables_view k.variables) operation path) (λ r. child (variables_view k.variables) operation path (skeleton_view r)) (λ r. refl) ks in
+    let each : map (child_of operation path) ks ≡ map (λ r. child k.variables operation path (skeleton_view r)) ks =
+    map_alike (child_of operation path) (λ r. child k.variables operation path (skeleton_view r)) ks (λ r i. ap (λ vs. child vs operation path (skeleton_view r)) (same r i)) in
+    let parts : map (λ r. child k.variables operation path (skeleton_view r)) ks ≡ map (child k.variables operation path) (map skeleton_view ks) =
+    map_then skeleton_view (child k.variables operation path) (λ r. child k.variables operation path (skeleton_view r)) (λ r. refl) ks in
     record { added = map (child_of operation path) ks; behind = p; given = record { forms = map skeleton_view ks; normal = forms; are_children = each ∙ parts } }
 
 module _ (q : GuardedTest) (o : LocatedEvent) where
@@ -74,9 +74,9 @@ module _ (q : GuardedTest) where
   pick [] _ nothing_given = record { sent = []; before = none_left; each = nothing_given }
   pick (o ∷ os) _ (then_given {ys = ys} {zs = zs} h rest) = pick_one o os ys zs h (pick os zs rest)
 
-  pub all_contracted : (os : List program.LocatedEvent) → map located_event_view os ≡ events_of q.skeleton → (cs : List Child) → EachGives (λ o. ContractsEvent q (located_event_view o)) os cs → AreContracted q cs
+  pub all_contracted : (os : List LocatedEvent) → os ≡ events_of q.skeleton → (cs : List Child) → EachGives (ContractsEvent q) os cs → AreContracted q cs
   all_contracted os all cs e =
-      let p = pick (events_of q.skeleton) cs (subst (λ xs. EachGives (ContractsEvent q) xs cs) all (gives_all (ContractsEvent q) located_event_view os cs e)) in
+      let p = pick (events_of q.skeleton) cs (subst (λ (xs : List LocatedEvent). EachGives (ContractsEvent q) xs cs) all e) in
       record { sent = p.sent; before = p.before; each = p.each }
 
 -- Whether a position is inside, where nothing is substituted.

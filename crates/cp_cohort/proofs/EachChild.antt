@@ -3,18 +3,23 @@ use Rattle.std.proofs.Common.{◌≡◌, ◌≢◌, ℕ, List, [], ◌++◌, len
 use Rattle.cp_lists.specs.Lists.{item_at, IsIn}
 use Rattle.cp_lists.proofs.Members.{not_in_none, only_item, in_append, from_map}
 use Rattle.cp_model.specs.Term.{Term, Substitution}
-use Rattle.cp_model.specs.Strand.{send, payload, Declaration, Role, Protocol}
+use Rattle.cp_model.specs.Strand.{payload, Role, Protocol}
+use Rattle.cp_model.specs.declared.strand.Event.TheVariants.{Send as send}
+use Rattle.cp_model.specs.declared.variable.Declaration.{Declaration}
 use Rattle.cp_model.specs.Bundle.{node_at}
 use Rattle.cp_model.specs.declared.node.Node.{Node}
 use Rattle.cp_model.specs.Skeleton.{instance, term_event_at, Skeleton, Before}
-use Rattle.cp_model.specs.Tree.{Operation, by_contraction, by_displacement, by_added_listener, Pattern}
+use Rattle.cp_model.specs.Tree.{Pattern}
+use Rattle.cp_model.specs.declared.tree.Operation.{Operation}
+use Rattle.cp_model.specs.declared.tree.Operation.TheVariants.{Contracted as by_contraction, Displaced as by_displacement, AddedListener as by_added_listener}
 use Rattle.cp_model.specs.declared.step.Step.{Step}
 use Rattle.cp_model.specs.Positions.{term_at}
 use Rattle.cp_theory.specs.Normal.{skeleton_under}
 use Rattle.cp_collapse.specs.SameSkeletons.{SaysTheSame}
 use Rattle.cp_normal.specs.Exact.{HasForms}
 use Rattle.cp_model.specs.Extensions.{AddsListener}
-use Rattle.cp_skel.specs.Events.{LocatedEvent, events_of}
+use Rattle.cp_skel.specs.Events.{events_of}
+use Rattle.cp_skel.specs.declared.events.LocatedEvent.{LocatedEvent}
 use Rattle.cp_theory.specs.Covering.{put_before}
 use Rattle.cp_pattern.specs.Unifiers.{UnifiesMostGenerally}
 use Rattle.cp_cohort.specs.Releases.{Release, PartialSolution}

@@ -2,9 +2,11 @@
 use Rattle.std.proofs.Common.{◌≡◌, ℕ, suc, List, [], ◌∷◌, map, Some, refl, sym, ap, ◌∙◌, ⊎_elim}
 use Rattle.cp_lists.specs.Lists.{item_at, here, there}
 use Rattle.cp_lists.proofs.Members.{not_in_none, in_append, in_append_left, in_append_right}
-use Rattle.cp_model.specs.Message.{asymmetric, name, key}
+use Rattle.cp_model.specs.Message.{Key, asymmetric, name, key, atom}
 use Rattle.cp_model.specs.Term.{skey_variable, ltk_term, akey_variable, pubk_term, KeyTerm, symmetric_term, asymmetric_term, AtomTerm, text_variable, datum_variable, name_variable, key_term, Term, tag_term, atom_term, pair_term, enc_term, flag_of, variables_of_key, variables_of_atom, variables_of, Assignment, value_of, value_of_key, value_of_atom, after, AgreeOn, Substitution, apply_to}
-use Rattle.cp_model.specs.Strand.{Event, send, recv, payload, event_map, variables_of_trace}
+use Rattle.cp_model.specs.Strand.{payload, event_map, variables_of_trace}
+use Rattle.cp_model.specs.declared.strand.Event.{Event}
+use Rattle.cp_model.specs.declared.strand.Event.TheVariants.{Send as send, Receive as recv}
 use Rattle.cp_model.specs.Skeleton.{SkeletonStrand, skeleton_trace}
 use Rattle.cp_model.specs.Problem.{variables_of_strands}
 use Rattle.cp_model.proofs.LawTerms.{value_after, flag_same}
@@ -12,26 +14,26 @@ use Rattle.cp_model.proofs.LawAgreement.{agree_value}
 use Rattle.cp_theory.specs.Normal.{variables_of_terms}
 
 key_agreed : (g h : Assignment) (k : KeyTerm) → value_of_key g k ≡ value_of_key h k → AgreeOn (variables_of_key k) g h
-key_agreed g h (symmetric_term (skey_variable n)) e x here = ap key e
+key_agreed g h (symmetric_term (skey_variable n)) e x here = ap (λ (k : Key). atom (key k)) e
 key_agreed g h (symmetric_term (skey_variable n)) e x (there p) = absurd (not_in_none p)
-key_agreed g h (symmetric_term (ltk_term m n)) e x here = let f : g.names m ≡ h.names m = cc in ap name f
-key_agreed g h (symmetric_term (ltk_term m n)) e x (there here) = let f : g.names n ≡ h.names n = cc in ap name f
+key_agreed g h (symmetric_term (ltk_term m n)) e x here = let f : g.names m ≡ h.names m = cc in ap (λ (m : ℕ). atom (name m)) f
+key_agreed g h (symmetric_term (ltk_term m n)) e x (there here) = let f : g.names n ≡ h.names n = cc in ap (λ (m : ℕ). atom (name m)) f
 key_agreed g h (symmetric_term (ltk_term m n)) e x (there (there p)) = absurd (not_in_none p)
 key_agreed g h (asymmetric_term flag (akey_variable n)) e x here =
     let f : flag_of flag (g.akeys n).0 ≡ flag_of flag (h.akeys n).0 = cc in
     let p : (g.akeys n).0 ≡ (h.akeys n).0 = flag_same flag (g.akeys n).0 (h.akeys n).0 f in
     let r : (g.akeys n).1 ≡ (h.akeys n).1 = cc in
-    λ i. key (asymmetric (p i) (r i))
+    λ i. atom (key (asymmetric (p i) (r i)))
 key_agreed g h (asymmetric_term flag (akey_variable n)) e x (there p) = absurd (not_in_none p)
-key_agreed g h (asymmetric_term flag (pubk_term purpose n)) e x here = let f : g.names n ≡ h.names n = cc in ap name f
+key_agreed g h (asymmetric_term flag (pubk_term purpose n)) e x here = let f : g.names n ≡ h.names n = cc in ap (λ (m : ℕ). atom (name m)) f
 key_agreed g h (asymmetric_term flag (pubk_term purpose n)) e x (there p) = absurd (not_in_none p)
 
 atom_agreed : (g h : Assignment) (v : AtomTerm) → value_of_atom g v ≡ value_of_atom h v → AgreeOn (variables_of_atom v) g h
-atom_agreed g h (text_variable n) e x here = e
+atom_agreed g h (text_variable n) e x here = ap atom e
 atom_agreed g h (text_variable n) e x (there p) = absurd (not_in_none p)
-atom_agreed g h (datum_variable n) e x here = e
+atom_agreed g h (datum_variable n) e x here = ap atom e
 atom_agreed g h (datum_variable n) e x (there p) = absurd (not_in_none p)
-atom_agreed g h (name_variable n) e x here = e
+atom_agreed g h (name_variable n) e x here = ap atom e
 atom_agreed g h (name_variable n) e x (there p) = absurd (not_in_none p)
 atom_agreed g h (key_term k) e x p = let f : value_of_key g k ≡ value_of_key h k = cc in key_agreed g h k f x p
 

@@ -5,8 +5,14 @@ use Rattle.cp_lists.specs.Lists.{item_at, IsIn, here, there, one_step, more_step
 use Rattle.cp_lists.proofs.Items.{item_below, item_behind}
 use Rattle.cp_lists.proofs.Members.{in_pushed, head_or_behind, at_head}
 use Rattle.cp_lists.proofs.Reached.{steps_alike}
-use Rattle.cp_model.specs.Term.{Sort, Term, text_sort, datum_sort, name_sort, skey_sort, akey_sort, Variable, atom_term, atom_of_variable, variables_of}
-use Rattle.cp_model.specs.Strand.{Event, send, recv, Declaration, Role, Protocol}
+use Rattle.cp_model.specs.Term.{Term, variables_of, variable_term}
+use Rattle.cp_model.specs.declared.sort.Sort.{Sort}
+use Rattle.cp_model.specs.declared.sort.Sort.TheVariants.{Text as text_sort, Datum as datum_sort, Name as name_sort, Skey as skey_sort, Akey as akey_sort}
+use Rattle.cp_model.specs.declared.variable.Variable.{Variable}
+use Rattle.cp_model.specs.Strand.{Role, Protocol}
+use Rattle.cp_model.specs.declared.strand.Event.{Event}
+use Rattle.cp_model.specs.declared.strand.Event.TheVariants.{Send as send, Receive as recv}
+use Rattle.cp_model.specs.declared.variable.Declaration.{Declaration}
 use Rattle.cp_model.specs.Bundle.{node_at}
 use Rattle.cp_model.specs.declared.node.Node.{Node}
 use Rattle.cp_model.specs.declared.node.OrderPair.{OrderPair}
@@ -114,7 +120,7 @@ pub fresh_fit : (n : ℕ) (xs : List Variable) → AreTermsFor xs (fresh_terms n
 fresh_fit n [] = tt
 fresh_fit n (x ∷ xs) = (of_sort x.sort n, fresh_fit (suc n) xs)
   where
-    of_sort : (s : Sort) (m : ℕ) → fits s (atom_term (atom_of_variable (variable s m))) ≡ true
+    of_sort : (s : Sort) (m : ℕ) → fits s (variable_term (variable s m)) ≡ true
     of_sort text_sort m = refl
     of_sort datum_sort m = refl
     of_sort name_sort m = refl
@@ -126,19 +132,19 @@ record IsFresh (n : ℕ) (xs : List Variable) (t : Term) : Type 0 where
   place : ℕ
   of : Variable
   there_is : item_at xs place ≡ Some of
-  same : t ≡ atom_term (atom_of_variable (variable of.sort (n + place)))
+  same : t ≡ variable_term (variable of.sort (n + place))
 
 fresh_one : (n : ℕ) (xs : List Variable) (t : Term) → IsIn t (fresh_terms n xs) → IsFresh n xs t
 fresh_one n [] t i = elim i [ ]
 fresh_one n (x ∷ xs) t i = ⊎_elim first (λ j. behind (fresh_one (suc n) xs t j)) (head_or_behind i)
   where
-    first : t ≡ atom_term (atom_of_variable (variable x.sort n)) → IsFresh n (x ∷ xs) t
-    first e = let number : n ≡ n + 0 = omega arith in record { place = 0; of = x; there_is = refl; same = e ∙ ap (λ (m : ℕ). atom_term (atom_of_variable (variable x.sort m))) number }
+    first : t ≡ variable_term (variable x.sort n) → IsFresh n (x ∷ xs) t
+    first e = let number : n ≡ n + 0 = omega arith in record { place = 0; of = x; there_is = refl; same = e ∙ ap (λ (m : ℕ). variable_term (variable x.sort m)) number }
 
     behind : IsFresh (suc n) xs t → IsFresh n (x ∷ xs) t
     behind r =
         let number : suc n + r.place ≡ n + suc r.place = omega arith in
-        record { place = suc r.place; of = r.of; there_is = r.there_is; same = r.same ∙ ap (λ (m : ℕ). atom_term (atom_of_variable (variable r.of.sort m))) number }
+        record { place = suc r.place; of = r.of; there_is = r.there_is; same = r.same ∙ ap (λ (m : ℕ). variable_term (variable r.of.sort m)) number }
 
 -- The declarations of variables that the role declares are one for each.
 declared_place : (role : Role) (xs : List Variable) → ((x : Variable) → IsIn x xs → IsDeclared role.variables x) → (i : ℕ) (x : Variable) → item_at xs i ≡ Some x → declared_sort (item_at (declarations_among role xs) i) ≡ Some x.sort

@@ -1,9 +1,12 @@
 -- Strands that are made high enough, or added, with new variables.
 use Rattle.std.proofs.Common.{◌≡◌, ℕ, suc, ◌<◌, ◌≤◌, List, [], ◌∷◌, ◌++◌, length, true, refl, sym, ap, ◌∙◌, subst, arith, inl, inr}
-use Rattle.std.proofs.lemmas.List.{length-map}
 use Rattle.cp_lists.specs.Lists.{item_at}
-use Rattle.cp_model.specs.Term.{Sort, text_sort, datum_sort, name_sort, skey_sort, akey_sort, Variable, Term, atom_term, atom_of_variable}
-use Rattle.cp_model.specs.Strand.{Declaration, Role}
+use Rattle.cp_model.specs.Term.{Term, variable_term}
+use Rattle.cp_model.specs.declared.sort.Sort.{Sort}
+use Rattle.cp_model.specs.declared.sort.Sort.TheVariants.{Text as text_sort, Datum as datum_sort, Name as name_sort, Skey as skey_sort, Akey as akey_sort}
+use Rattle.cp_model.specs.declared.variable.Variable.{Variable}
+use Rattle.cp_model.specs.Strand.{Role}
+use Rattle.cp_model.specs.declared.variable.Declaration.{Declaration}
 use Rattle.cp_model.specs.declared.node.Node.{Node}
 use Rattle.cp_model.specs.Skeleton.{Skeleton}
 use Rattle.cp_model.specs.Tree.{Pattern}
@@ -11,7 +14,6 @@ use Rattle.cp_model.specs.Homomorphism.{substitution_by}
 use Rattle.cp_model.specs.Data.{InstanceData, SkeletonData}
 use Rattle.cp_model.specs.PrefixVariables.{prefix_variables, added_variables, fits, AreTermsFor}
 use Rattle.cp_model.specs.Extensions.{AddsStrand, CanExtend, Extends}
-use Rattle.cp_skel.specs.Trees.{variables_view, declared_view}
 use Rattle.cp_skel.specs.View.{skeleton_view}
 use Rattle.cp_skel.proofs.ValuedTerms.{all-added}
 use Rattle.cp_theory.specs.Fresh.{fresh_terms}
@@ -20,7 +22,7 @@ use Rattle.cp_cohort.specs.Children.{IsThere, IsGrown, AddsRoleStrand}
 use Rattle.cp_cohort.specs.Views.{guarded_test_of}
 
 -- New variables are of the sorts of those whose places they take.
-fits_its_sort : (s : Sort) (n : ℕ) → fits s (atom_term (atom_of_variable (record { sort = s; number = n }))) ≡ true
+fits_its_sort : (s : Sort) (n : ℕ) → fits s (variable_term (record { sort = s; number = n })) ≡ true
 fits_its_sort text_sort n = refl
 fits_its_sort datum_sort n = refl
 fits_its_sort name_sort n = refl
@@ -35,9 +37,6 @@ pub values_fit : (n : ℕ) (xs : List Variable) (values : List Term) → values 
 values_fit n xs values e = subst (AreTermsFor xs) (sym e) (fresh_fit n xs)
 
 module _ (k : SkeletonData) (h : ℕ) where
-  count : length k.variables ≡ length (variables_view k.variables)
-  count = sym (length-map k.variables declared_view)
-
   module _ (declared : SkeletonData) (rest : declared ≡ record k { variables = declared.variables }) where
     unchanged_view : skeleton_view declared ≡ skeleton_view k
     unchanged_view = ap skeleton_view rest
@@ -54,13 +53,13 @@ module _ (k : SkeletonData) (h : ℕ) where
         fitting = values_fit (length k.variables) (added_variables i.role i.height h) values are;
       }
 
-      pub grown_by : i.height < h → (j : ℕ) → h ≡ suc j → (grown : SkeletonData) → variables_view declared.variables ≡ variables_view k.variables ++ declarations_among i.role (added_variables i.role i.height h) → Extends s h values (skeleton_view declared) (skeleton_view grown) →
-          grown.variables ≡ declared.variables → HasGrown s i.role i.height j (variables_view k.variables) (skeleton_view k) (variables_view grown.variables) (skeleton_view grown)
+      pub grown_by : i.height < h → (j : ℕ) → h ≡ suc j → (grown : SkeletonData) → declared.variables ≡ k.variables ++ declarations_among i.role (added_variables i.role i.height h) → Extends s h values (skeleton_view declared) (skeleton_view grown) →
+          grown.variables ≡ declared.variables → HasGrown s i.role i.height j k.variables (skeleton_view k) grown.variables (skeleton_view grown)
       grown_by higher j is grown more extends kept =
-          let vs : List Declaration = variables_view k.variables in
-          let terms : values ≡ fresh_terms (length vs) (added_variables i.role i.height (suc j)) = are ∙ ap (λ (m : ℕ). fresh_terms m (added_variables i.role i.height h)) count ∙ ap (λ (m : ℕ). fresh_terms (length vs) (added_variables i.role i.height m)) is in
-          let more_of : variables_view grown.variables ≡ vs ++ declarations_among i.role (added_variables i.role i.height (suc j)) =
-          ap variables_view kept ∙ more ∙ ap (λ (m : ℕ). vs ++ declarations_among i.role (added_variables i.role i.height m)) is in
+          let vs : List Declaration = k.variables in
+          let terms : values ≡ fresh_terms (length vs) (added_variables i.role i.height (suc j)) = are ∙ ap (λ (m : ℕ). fresh_terms (length vs) (added_variables i.role i.height m)) is in
+          let more_of : grown.variables ≡ vs ++ declarations_among i.role (added_variables i.role i.height (suc j)) =
+          kept ∙ more ∙ ap (λ (m : ℕ). vs ++ declarations_among i.role (added_variables i.role i.height m)) is in
           let one : Extends s h values (skeleton_view k) (skeleton_view grown) = subst (λ (l : Skeleton). Extends s h values l (skeleton_view grown)) unchanged_view extends in
           let two : Extends s (suc j) values (skeleton_view k) (skeleton_view grown) = subst (λ (m : ℕ). Extends s m values (skeleton_view k) (skeleton_view grown)) is one in
           record { how = inr (omega (arith, higher, is), more_of, subst (λ (us : List Term). Extends s (suc j) us (skeleton_view k) (skeleton_view grown)) terms two) }
@@ -75,27 +74,25 @@ module _ (k : SkeletonData) (h : ℕ) where
           let one : AddsStrand role h values (skeleton_view k) (skeleton_view grown) = subst (λ (l : Skeleton). AddsStrand role h values l (skeleton_view grown)) unchanged_view adds in
           subst (λ (us : List Term). AddsStrand role h us (skeleton_view k) (skeleton_view grown)) terms one
 
-      pub declared_by : (grown : SkeletonData) → variables_view declared.variables ≡ variables_view k.variables ++ declarations_among role (added_variables role 0 h) → grown.variables ≡ declared.variables →
-          variables_view grown.variables ≡ variables_view k.variables ++ declarations_among role (prefix_variables role h)
-      declared_by grown more kept = ap variables_view kept ∙ more ∙ ap (λ xs. variables_view k.variables ++ declarations_among role xs) (all-added role h)
+      pub declared_by : (grown : SkeletonData) → declared.variables ≡ k.variables ++ declarations_among role (added_variables role 0 h) → grown.variables ≡ declared.variables →
+          grown.variables ≡ k.variables ++ declarations_among role (prefix_variables role h)
+      declared_by grown more kept = kept ∙ more ∙ ap (λ xs. k.variables ++ declarations_among role xs) (all-added role h)
 
   -- A strand that is high enough stays as it is.
-  pub high_enough : (s : ℕ) (i : InstanceData) → h ≤ i.height → (j : ℕ) → h ≡ suc j → HasGrown s i.role i.height j (variables_view k.variables) (skeleton_view k) (variables_view k.variables) (skeleton_view k)
+  pub high_enough : (s : ℕ) (i : InstanceData) → h ≤ i.height → (j : ℕ) → h ≡ suc j → HasGrown s i.role i.height j k.variables (skeleton_view k) k.variables (skeleton_view k)
   high_enough s i below j is = record { how = inl (omega (arith, below, is), refl, refl) }
 
 -- What has grown in a copy of a test's skeleton, or was added there.
 module _ (k : SkeletonData) (n : Node) (c : Term) (ps : List Pattern) (copied : SkeletonData) (same : copied ≡ k) (grown : SkeletonData) where
-  pub grown_in_copy : (s : ℕ) (role : Role) (height j : ℕ) → HasGrown s role height j (variables_view copied.variables) (skeleton_view copied) (variables_view grown.variables) (skeleton_view grown) → IsGrown (guarded_test_of k n c ps) s role height j grown
-  grown_in_copy s role height j grows = record { grows = subst (λ (l : SkeletonData). HasGrown s role height j (variables_view l.variables) (skeleton_view l) (variables_view grown.variables) (skeleton_view grown)) same grows }
+  pub grown_in_copy : (s : ℕ) (role : Role) (height j : ℕ) → HasGrown s role height j copied.variables (skeleton_view copied) grown.variables (skeleton_view grown) → IsGrown (guarded_test_of k n c ps) s role height j grown
+  grown_in_copy s role height j grows = record { grows = subst (λ (l : SkeletonData). HasGrown s role height j l.variables (skeleton_view l) grown.variables (skeleton_view grown)) same grows }
 
   pub added_in_copy : (role : Role) (h j : ℕ) → h ≡ suc j → AddsStrand role h (fresh_terms (length copied.variables) (prefix_variables role h)) (skeleton_view copied) (skeleton_view grown) →
-      variables_view grown.variables ≡ variables_view copied.variables ++ declarations_among role (prefix_variables role h) → AddsRoleStrand (guarded_test_of k n c ps) role j grown
+      grown.variables ≡ copied.variables ++ declarations_among role (prefix_variables role h) → AddsRoleStrand (guarded_test_of k n c ps) role j grown
   added_in_copy role h j is adds more =
       let one : AddsStrand role h (fresh_terms (length k.variables) (prefix_variables role h)) (skeleton_view k) (skeleton_view grown) =
       subst (λ (l : SkeletonData). AddsStrand role h (fresh_terms (length l.variables) (prefix_variables role h)) (skeleton_view l) (skeleton_view grown)) same adds in
-      let two : AddsStrand role h (fresh_terms (length (variables_view k.variables)) (prefix_variables role h)) (skeleton_view k) (skeleton_view grown) =
-      subst (λ (m : ℕ). AddsStrand role h (fresh_terms m (prefix_variables role h)) (skeleton_view k) (skeleton_view grown)) (sym (length-map k.variables declared_view)) one in
       record {
-        adds = subst (λ (m : ℕ). AddsStrand role m (fresh_terms (length (variables_view k.variables)) (prefix_variables role m)) (skeleton_view k) (skeleton_view grown)) is two;
-        variables = more ∙ ap (λ (l : SkeletonData). variables_view l.variables ++ declarations_among role (prefix_variables role h)) same ∙ ap (λ (m : ℕ). variables_view k.variables ++ declarations_among role (prefix_variables role m)) is;
+        adds = subst (λ (m : ℕ). AddsStrand role m (fresh_terms (length k.variables) (prefix_variables role m)) (skeleton_view k) (skeleton_view grown)) is one;
+        variables = more ∙ ap (λ (l : SkeletonData). l.variables ++ declarations_among role (prefix_variables role h)) same ∙ ap (λ (m : ℕ). k.variables ++ declarations_among role (prefix_variables role m)) is;
       }

@@ -6,7 +6,6 @@ use Rattle.cp_lists.specs.Lists.{IsIn, here, there}
 use Rattle.cp_lists.proofs.Members.{from_map, only_item, not_in_none}
 use Rattle.cp_model.specs.Term.{Substitution, apply_to, composed}
 use Rattle.cp_model.specs.Senders.{ArePaired}
-use Rattle.cp_skel.specs.Trees.{variables_view}
 use Rattle.cp_normal.specs.declared.form.Form.{Form}
 use Rattle.cp_normal.specs.Formed.{Formed, IsFormedFrom, IsFormBeside, AreFormsBeside}
 use Rattle.cp_cohort.specs.Releases.{Release, PartialSolution, IsReleasedInside, MeetsBoth}
@@ -65,7 +64,7 @@ module _ (r : Release) (x y : program.PartialSolution) (old mid new : List Candi
 -- A normal form with the given substitution in front says what it says as one of the partial solution.
 form_is : (x : program.PartialSolution) (answer : Form) (f : Formed) → IsFormBeside x.skeleton x.substitution answer f → partial_solution_view (tried_form answer) ≡ with_form_of (partial_solution_view x) f
 form_is x answer f is = λ i. record {
-  variables = ap variables_view is.variables i;
+  variables = is.variables i;
   substitution = is.substitution i;
   skeleton = is.skeleton i;
 }

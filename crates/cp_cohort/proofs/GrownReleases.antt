@@ -2,16 +2,20 @@
 use Rattle.std.proofs.Common.{◌≡◌, ◌≢◌, ℕ, suc, ◌<◌, List, [], ◌∷◌, ◌++◌, length, get_or, map, Option, Some, None, refl, sym, ap, ◌∙◌, subst, arith, inl, inr}
 use Rattle.std.specs.Borrow.{Bor}
 use Rattle.cp_lists.specs.Lists.{item_at, one_step}
-use Rattle.cp_lists.proofs.Items.{item_still, item_last, item_below, map_of_read}
-use Rattle.cp_lists.proofs.Mapped.{map_then, length_of}
+use Rattle.cp_lists.proofs.Items.{item_still, item_last, item_below, item_of_read}
+use Rattle.cp_lists.proofs.Mapped.{map_then}
 use Rattle.cp_lists.proofs.Members.{in_append_left, in_last}
 use Rattle.cp_lists.proofs.Reached.{steps_append}
 use Rattle.cp_model.specs.Term.{Term, Substitution, apply_to}
-use Rattle.cp_model.specs.Strand.{Event, send, recv, Declaration, Role}
+use Rattle.cp_model.specs.Strand.{Role}
+use Rattle.cp_model.specs.declared.strand.Event.{Event}
+use Rattle.cp_model.specs.declared.strand.Event.TheVariants.{Send as send, Receive as recv}
+use Rattle.cp_model.specs.declared.variable.Declaration.{Declaration}
 use Rattle.cp_model.specs.Bundle.{node_at}
 use Rattle.cp_model.specs.declared.node.Node.{Node}
 use Rattle.cp_model.specs.Skeleton.{SkeletonStrand, instance, listener, skeleton_trace_or_none, term_event_at, Skeleton, Before, along_pair, IsOrderPair}
-use Rattle.cp_model.specs.Tree.{Operation, by_displacement, by_added_strand}
+use Rattle.cp_model.specs.declared.tree.Operation.{Operation}
+use Rattle.cp_model.specs.declared.tree.Operation.TheVariants.{Displaced as by_displacement, AddedStrand as by_added_strand}
 use Rattle.cp_model.proofs.LawOrder.{before_wider}
 use Rattle.cp_model.proofs.LawStandings.{event_of_higher}
 use Rattle.cp_theory.specs.Critical.{IsTest}
@@ -24,11 +28,10 @@ use Rattle.cp_model.specs.Extensions.{AddsStrand, Extends}
 use Rattle.cp_model.specs.Data.{SkeletonData, InstanceData, StrandData}
 use Rattle.cp_skel.specs.Ordered.{ChangesOrderOnly}
 use Rattle.cp_skel.specs.View.{skeleton_view}
-use Rattle.cp_strand.specs.View.{event_view, strand_view}
+use Rattle.cp_strand.specs.View.{strand_view}
 use Rattle.cp_strand.specs.Shapes.{strand_of_shape}
 use Rattle.cp_strand.specs.declared.strand.StrandShape.{StrandShape}
 use Rattle.cp_strand.specs.declared.strand.StrandShape.TheVariants.{Instance, Listener}
-use Rattle.cp_strand.specs.declared.protocol.Event as program_events
 use Rattle.cp_model.specs.PrefixVariables.{prefix_variables, added_variables}
 use Rattle.cp_model.specs.declared.step.Step.{Step}
 use Rattle.cp_model.specs.Positions.{term_at, positions_where}
@@ -194,12 +197,12 @@ listens (Instance i) d is other = absurd (other i refl)
 listens (Listener t) d is other = (t.now, ap strand_view (sym is))
 
 -- The events of a role of the program are those of its trace.
-module _ (es : List program_events.Event) (trace : List (Event Term)) (same : map event_view es ≡ trace) (i : ℕ) (reached : i < length trace) where
+module _ (es trace : List (Event Term)) (same : es ≡ trace) (i : ℕ) (reached : i < length trace) where
   pub is_within : i < length es
-  is_within = let as_long : length es ≡ length trace = length_of event_view es trace same in omega (arith, as_long, reached)
+  is_within = let as_long : length es ≡ length trace = ap length same in omega (arith, as_long, reached)
 
-  pub event_there : (e read : program_events.Event) → read ≡ get_or es i read → read ≡ e → item_at trace i ≡ Some (event_view e)
-  event_there e read is same_event = ap (λ (xs : List (Event Term)). item_at xs i) (sym same) ∙ map_of_read event_view es i read is_within is ∙ ap (λ (x : program_events.Event). Some (event_view x)) same_event
+  pub event_there : (e read : Event Term) → read ≡ get_or es i read → read ≡ e → item_at trace i ≡ Some e
+  event_there e read is same_event = ap (λ (xs : List (Event Term)). item_at xs i) (sym same) ∙ item_of_read es i read is_within is ∙ ap (λ (x : Event Term). Some x) same_event
 
 module _ (q : GuardedTest) (role : Role) (j : ℕ) (t : Term) (sent : item_at role.trace j ≡ Some (send t)) (grown : Skeleton)
     (adds : AddsStrand role (suc j) (fresh_terms (length q.variables) (prefix_variables role (suc j))) q.skeleton grown) (n : ℕ) (number : n ≡ length q.skeleton.strands) where

@@ -1,30 +1,19 @@
 -- Skeletons with a strand that is higher, or one more.
-use Rattle.std.proofs.Common.{append_assoc, ◌≡◌, ℕ, suc, ◌+◌, ◌<◌, ◌≤◌, List, [], ◌∷◌, ◌++◌, length, get_or, map, drop, Some, refl, sym, ap, ◌∙◌, subst, add-one, arith, Bool, true, false, cond}
+use Rattle.std.proofs.Common.{append_assoc, ◌≡◌, ℕ, suc, ◌+◌, ◌<◌, ◌≤◌, List, [], ◌∷◌, ◌++◌, length, get_or, drop, Some, refl, sym, ap, ◌∙◌, subst, add-one, arith, Bool, true, false, cond}
 use Rattle.std.specs.List.{filter}
 use Rattle.std.proofs.lemmas.List.{append-nil, drop_all}
 use Rattle.cp_lists.specs.Lists.{item_at}
 use Rattle.cp_lists.proofs.Members.{drop_read}
-use Rattle.cp_model.specs.Term.{Variable, Term, atom_term, atom_of_variable}
-use Rattle.cp_model.specs.Strand.{Event, Declaration, Role, prefix_of, variables_of_trace, variables_of_prefix}
-use Rattle.cp_term.specs.Variables.{variable_term}
-use Rattle.cp_model.specs.declared.sort.Sort.{Sort}
-use Rattle.cp_model.specs.declared.sort.Sort.TheVariants as sorts
+use Rattle.cp_model.specs.Term.{Term, variable_term}
+use Rattle.cp_model.specs.declared.variable.Variable.{Variable}
+use Rattle.cp_model.specs.Strand.{Role, prefix_of, variables_of_trace, variables_of_prefix}
+use Rattle.cp_model.specs.declared.strand.Event.{Event}
+use Rattle.cp_model.specs.declared.variable.Declaration.{Declaration}
 use Rattle.cp_model.specs.PrefixVariables.{declared_variables, is_added, added_variables}
-use Rattle.cp_strand.specs.View.{sort_view, declaration_view}
-use Rattle.cp_strand.specs.declared.protocol.Declaration as program
 use Rattle.cp_model.specs.Data.{SkeletonData}
-use Rattle.cp_skel.specs.Trees.{variables_view}
 use Rattle.cp_theory.specs.Fresh.{fresh_terms}
 use Rattle.cp_cohort.specs.CoveringChildren.{declaration_onto, declarations_among}
 use Rattle.cp_cohort.specs.Children.{Declares}
-
--- A variable as a term.
-pub variable_is : (s : Sort) (n : ℕ) → variable_term s n ≡ atom_term (atom_of_variable (record { sort = sort_view s; number = n }))
-variable_is sorts.Text n = refl
-variable_is sorts.Datum n = refl
-variable_is sorts.Name n = refl
-variable_is sorts.Skey n = refl
-variable_is sorts.Akey n = refl
 
 -- Those of the declarations, the first of which is that of variable number n, whose variables are wanted.
 abbrev pub declared_from : (Variable → Bool) → ℕ → List Declaration → List Declaration
@@ -34,7 +23,7 @@ declared_from wanted n (d ∷ ds) = cond (wanted (record { sort = d.sort; number
 -- Of these declarations, the first of which is that of variable number n, new variables are still to be declared.
 pub record IsDeclaredSoFar (wanted : Variable → Bool) (n : ℕ) (ds : List Declaration) (terms : List Term) (all : List Declaration) (old new : SkeletonData) (values : List Term) : Type 0 where
   pub values_all : values ++ fresh_terms (length new.variables) (filter wanted (declared_variables n ds)) ≡ terms
-  pub declared_all : variables_view new.variables ++ declared_from wanted n ds ≡ all
+  pub declared_all : new.variables ++ declared_from wanted n ds ≡ all
   pub rest : new ≡ record old { variables = new.variables }
 
 module _ (wanted : Variable → Bool) (terms : List Term) (all : List Declaration) (old : SkeletonData) where
@@ -45,7 +34,7 @@ module _ (wanted : Variable → Bool) (terms : List Term) (all : List Declaratio
       let xs : List Variable = filter wanted (declared_variables (suc n) ds) in
       record {
         values_all = ap (λ (b : Bool). values ++ fresh_terms (length new.variables) (cond b (x ∷ xs) xs)) (sym fails) ∙ h.values_all;
-        declared_all = ap (λ (b : Bool). variables_view new.variables ++ cond b (d ∷ declared_from wanted (suc n) ds) (declared_from wanted (suc n) ds)) (sym fails) ∙ h.declared_all;
+        declared_all = ap (λ (b : Bool). new.variables ++ cond b (d ∷ declared_from wanted (suc n) ds) (declared_from wanted (suc n) ds)) (sym fails) ∙ h.declared_all;
         rest = h.rest;
       }
 
@@ -53,43 +42,43 @@ module _ (wanted : Variable → Bool) (terms : List Term) (all : List Declaratio
       IsDeclaredSoFar wanted n (d ∷ ds) terms all old new values → IsDeclaredSoFar wanted (suc n) ds terms all old new' values'
   declared n d ds new new' values values' holds e h =
       let x : Variable = record { sort = d.sort; number = n } in
-      let t : Term = atom_term (atom_of_variable (record { sort = d.sort; number = length new.variables })) in
+      let t : Term = variable_term (record { sort = d.sort; number = length new.variables }) in
       let xs : List Variable = filter wanted (declared_variables (suc n) ds) in
       let more : List Declaration = declared_from wanted (suc n) ds in
       record {
         values_all = ap (λ (us : List Term). us ++ fresh_terms (length new'.variables) xs) e.put ∙ ap (λ (m : ℕ). (values ++ t ∷ []) ++ fresh_terms m xs) e.count ∙ append_assoc values (t ∷ []) (fresh_terms (suc (length new.variables)) xs)
             ∙ ap (λ (b : Bool). values ++ fresh_terms (length new.variables) (cond b (x ∷ xs) xs)) (sym holds) ∙ h.values_all;
-        declared_all = ap (λ (vs : List Declaration). vs ++ more) e.declared ∙ append_assoc (variables_view new.variables) (d ∷ []) more
-            ∙ ap (λ (b : Bool). variables_view new.variables ++ cond b (d ∷ more) more) (sym holds) ∙ h.declared_all;
+        declared_all = ap (λ (vs : List Declaration). vs ++ more) e.declared ∙ append_assoc new.variables (d ∷ []) more
+            ∙ ap (λ (b : Bool). new.variables ++ cond b (d ∷ more) more) (sym holds) ∙ h.declared_all;
         rest = e.rest ∙ ap (λ (k : SkeletonData). record k { variables = new'.variables }) h.rest;
       }
 
-  module _ (ds : List program.Declaration) (n : ℕ) (d : program.Declaration) (lt : n < length ds) (is : d ≡ get_or ds n d) (id : ℕ) (same : id ≡ n) where
-    opened : map declaration_view (drop n ds) ≡ declaration_view d ∷ map declaration_view (drop (n + 1) ds)
-    opened = ap (map declaration_view) (drop_read ds n d lt is)
+  module _ (ds : List Declaration) (n : ℕ) (d : Declaration) (lt : n < length ds) (is : d ≡ get_or ds n d) (id : ℕ) (same : id ≡ n) where
+    opened : drop n ds ≡ d ∷ drop (n + 1) ds
+    opened = drop_read ds n d lt is
 
-    moved : (new : SkeletonData) (values : List Term) → IsDeclaredSoFar wanted n (map declaration_view (drop n ds)) terms all old new values →
-        IsDeclaredSoFar wanted n (declaration_view d ∷ map declaration_view (drop (n + 1) ds)) terms all old new values
+    moved : (new : SkeletonData) (values : List Term) → IsDeclaredSoFar wanted n (drop n ds) terms all old new values →
+        IsDeclaredSoFar wanted n (d ∷ drop (n + 1) ds) terms all old new values
     moved new values h = subst (λ es. IsDeclaredSoFar wanted n es terms all old new values) opened h
 
-    back : (new : SkeletonData) (values : List Term) → IsDeclaredSoFar wanted (suc n) (map declaration_view (drop (n + 1) ds)) terms all old new values →
-        IsDeclaredSoFar wanted (n + 1) (map declaration_view (drop (n + 1) ds)) terms all old new values
-    back new values h = subst (λ m. IsDeclaredSoFar wanted m (map declaration_view (drop (n + 1) ds)) terms all old new values) (sym (add-one n)) h
+    back : (new : SkeletonData) (values : List Term) → IsDeclaredSoFar wanted (suc n) (drop (n + 1) ds) terms all old new values →
+        IsDeclaredSoFar wanted (n + 1) (drop (n + 1) ds) terms all old new values
+    back new values h = subst (λ m. IsDeclaredSoFar wanted m (drop (n + 1) ds) terms all old new values) (sym (add-one n)) h
 
-    asked : (b : Bool) → b ≡ wanted (record { sort = sort_view d.sort; number = id }) → wanted (record { sort = sort_view d.sort; number = n }) ≡ b
-    asked b e = ap (λ m. wanted (record { sort = sort_view d.sort; number = m })) (sym same) ∙ sym e
+    asked : (b : Bool) → b ≡ wanted (record { sort = d.sort; number = id }) → wanted (record { sort = d.sort; number = n }) ≡ b
+    asked b e = ap (λ m. wanted (record { sort = d.sort; number = m })) (sym same) ∙ sym e
 
-    pub one_skipped : (b : Bool) → b ≡ wanted (record { sort = sort_view d.sort; number = id }) → b ≡ false → (new : SkeletonData) (values : List Term) → IsDeclaredSoFar wanted n (map declaration_view (drop n ds)) terms all old new values →
-        IsDeclaredSoFar wanted (n + 1) (map declaration_view (drop (n + 1) ds)) terms all old new values
-    one_skipped b e fails new values h = back new values (skipped n (declaration_view d) (map declaration_view (drop (n + 1) ds)) new values (asked b e ∙ fails) (moved new values h))
+    pub one_skipped : (b : Bool) → b ≡ wanted (record { sort = d.sort; number = id }) → b ≡ false → (new : SkeletonData) (values : List Term) → IsDeclaredSoFar wanted n (drop n ds) terms all old new values →
+        IsDeclaredSoFar wanted (n + 1) (drop (n + 1) ds) terms all old new values
+    one_skipped b e fails new values h = back new values (skipped n d (drop (n + 1) ds) new values (asked b e ∙ fails) (moved new values h))
 
-    pub one_declared : (b : Bool) → b ≡ wanted (record { sort = sort_view d.sort; number = id }) → b ≡ true → (new new' : SkeletonData) (values values' : List Term) → Declares (declaration_view d) new new' values values' →
-        IsDeclaredSoFar wanted n (map declaration_view (drop n ds)) terms all old new values → IsDeclaredSoFar wanted (n + 1) (map declaration_view (drop (n + 1) ds)) terms all old new' values'
-    one_declared b e holds new new' values values' f h = back new' values' (declared n (declaration_view d) (map declaration_view (drop (n + 1) ds)) new new' values values' (asked b e ∙ holds) f (moved new values h))
+    pub one_declared : (b : Bool) → b ≡ wanted (record { sort = d.sort; number = id }) → b ≡ true → (new new' : SkeletonData) (values values' : List Term) → Declares d new new' values values' →
+        IsDeclaredSoFar wanted n (drop n ds) terms all old new values → IsDeclaredSoFar wanted (n + 1) (drop (n + 1) ds) terms all old new' values'
+    one_declared b e holds new new' values values' f h = back new' values' (declared n d (drop (n + 1) ds) new new' values values' (asked b e ∙ holds) f (moved new values h))
 
-  pub declared_last : (ds : List program.Declaration) (n : ℕ) → length ds ≤ n → (new : SkeletonData) (values : List Term) → IsDeclaredSoFar wanted n (map declaration_view (drop n ds)) terms all old new values →
+  pub declared_last : (ds : List Declaration) (n : ℕ) → length ds ≤ n → (new : SkeletonData) (values : List Term) → IsDeclaredSoFar wanted n (drop n ds) terms all old new values →
       IsDeclaredSoFar wanted n [] terms all old new values
-  declared_last ds n past new values h = subst (λ es. IsDeclaredSoFar wanted n (map declaration_view es) terms all old new values) (drop_all n ds past) h
+  declared_last ds n past new values h = subst (λ es. IsDeclaredSoFar wanted n es terms all old new values) (drop_all n ds past) h
 
 -- ---- the declarations of variables of a role
 
@@ -113,28 +102,28 @@ module _ (role : Role) (wanted : Variable → Bool) where
 -- ---- at the first declaration, and behind the last
 
 pub declared_at_first : (wanted : Variable → Bool) (ds : List Declaration) (k : SkeletonData) (values : List Term) → values ≡ [] →
-    IsDeclaredSoFar wanted 0 ds (fresh_terms (length k.variables) (filter wanted (declared_variables 0 ds))) (variables_view k.variables ++ declared_from wanted 0 ds) k k values
+    IsDeclaredSoFar wanted 0 ds (fresh_terms (length k.variables) (filter wanted (declared_variables 0 ds))) (k.variables ++ declared_from wanted 0 ds) k k values
 declared_at_first wanted ds k values none = record { values_all = ap (λ (us : List Term). us ++ fresh_terms (length k.variables) (filter wanted (declared_variables 0 ds))) none; declared_all = refl; rest = refl }
 
 abbrev pub tests_for : List (Event Term) → List (Event Term) → Variable → Bool
 tests_for earlier prefix = is_added (variables_of_trace earlier) (variables_of_trace prefix)
 
-pub all_declared : (role : Role) (before height : ℕ) (earlier prefix : List (Event Term)) → earlier ≡ prefix_of role before → prefix ≡ prefix_of role height → (ds : List program.Declaration) → map declaration_view ds ≡ role.variables → (n : ℕ) → length ds ≤ n →
+pub all_declared : (role : Role) (before height : ℕ) (earlier prefix : List (Event Term)) → earlier ≡ prefix_of role before → prefix ≡ prefix_of role height → (ds : List Declaration) → ds ≡ role.variables → (n : ℕ) → length ds ≤ n →
     (old new : SkeletonData) (values : List Term) →
-    IsDeclaredSoFar (tests_for earlier prefix) n (map declaration_view (drop n ds)) (fresh_terms (length old.variables) (filter (tests_for earlier prefix) (declared_variables 0 (map declaration_view ds))))
-    (variables_view old.variables ++ declared_from (tests_for earlier prefix) 0 (map declaration_view ds)) old new values →
+    IsDeclaredSoFar (tests_for earlier prefix) n (drop n ds) (fresh_terms (length old.variables) (filter (tests_for earlier prefix) (declared_variables 0 ds)))
+    (old.variables ++ declared_from (tests_for earlier prefix) 0 ds) old new values →
     (values ≡ fresh_terms (length old.variables) (added_variables role before height))
-    × (variables_view new.variables ≡ variables_view old.variables ++ declarations_among role (added_variables role before height))
+    × (new.variables ≡ old.variables ++ declarations_among role (added_variables role before height))
     × (new ≡ record old { variables = new.variables })
 all_declared role before height earlier prefix first second ds all n past old new values h =
     let wanted = tests_for earlier prefix in
     let e = declared_last wanted _ _ old ds n past new values h in
     let same_test : wanted ≡ is_added (variables_of_prefix role before) (variables_of_prefix role height) = ap (λ (es : List (Event Term)). tests_for es prefix) first ∙ ap (λ (es : List (Event Term)). tests_for (prefix_of role before) es) second in
-    let filtered : filter wanted (declared_variables 0 (map declaration_view ds)) ≡ added_variables role before height =
+    let filtered : filter wanted (declared_variables 0 ds) ≡ added_variables role before height =
     ap (λ (es : List Declaration). filter wanted (declared_variables 0 es)) all ∙ ap (λ (w : Variable → Bool). filter w (declared_variables 0 role.variables)) same_test in
-    let listed : declared_from wanted 0 (map declaration_view ds) ≡ declarations_among role (added_variables role before height) =
+    let listed : declared_from wanted 0 ds ≡ declarations_among role (added_variables role before height) =
     ap (declared_from wanted 0) all ∙ sym (declarations_filtered role wanted) ∙ ap (λ (w : Variable → Bool). declarations_among role (filter w (declared_variables 0 role.variables))) same_test in (
       sym (append-nil values) ∙ e.values_all ∙ ap (fresh_terms (length old.variables)) filtered,
-      sym (append-nil (variables_view new.variables)) ∙ e.declared_all ∙ ap (λ (zs : List Declaration). variables_view old.variables ++ zs) listed,
+      sym (append-nil new.variables) ∙ e.declared_all ∙ ap (λ (zs : List Declaration). old.variables ++ zs) listed,
       e.rest,
     )

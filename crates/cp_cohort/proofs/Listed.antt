@@ -7,7 +7,7 @@ use Rattle.cp_model.specs.Term.{Term}
 use Rattle.cp_model.specs.Problem.{numbers_from}
 use Rattle.cp_model.specs.Same.{same_term}
 use Rattle.cp_model.proofs.SameTests.{term_is}
-use Rattle.cp_model.proofs.Numbers.{number_from}
+use Rattle.cp_model.proofs.NumbersFrom.{number_from}
 use Rattle.cp_cohort.specs.GatheredLists.{EachGives, nothing_given, then_given, AreThoseWith, none_left, taken, left_out, has_term, terms_onto}
 
 -- ---- what items give

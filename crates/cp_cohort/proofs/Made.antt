@@ -1,6 +1,5 @@
 -- The branch by one choice, from what the program makes.
 use Rattle.std.proofs.Common.{◌≡◌, List, [], ◌∷◌, ◌++◌, length, sym, ap, ◌∙◌, subst}
-use Rattle.std.proofs.lemmas.List.{length-map}
 use Rattle.cp_model.specs.Term.{Term, apply_to, composed}
 use Rattle.cp_model.specs.Skeleton.{Skeleton}
 use Rattle.cp_model.specs.Tree.{Pattern}
@@ -9,7 +8,6 @@ use Rattle.cp_theory.specs.Normal.{skeleton_under}
 use Rattle.cp_unify.specs.Bindings.{Binding, as_substitution}
 use Rattle.cp_model.specs.Data.{SkeletonData}
 use Rattle.cp_skel.specs.View.{skeleton_view}
-use Rattle.cp_skel.specs.Trees.{declared_view, variables_view}
 use Rattle.cp_collapse.specs.SameSkeletons.{SaysTheSame}
 use Rattle.cp_normal.proofs.FormedBeside.{same_substitution}
 use Rattle.cp_pattern.specs.Opened.{opened_pattern, declared_as}
@@ -31,15 +29,14 @@ module _ (x : program.PartialSolution) (p : Pattern) (k wider : SkeletonData) (o
   in_x =
       is_opened
       ∙ ap (λ (z : SkeletonData). opened_pattern p (as_substitution x.substitution) (length z.variables)) copied
-      ∙ ap (opened_pattern p (as_substitution x.substitution)) (sym (length-map x.skeleton.variables declared_view))
 
   abbrev made_wider : Widened
   made_wider = record { skeleton = wider; term = o }
 
-  pub is_widened : variables_view wider.variables ≡ variables_view k.variables ++ declared_as (variables_view k.variables) p.locals → skeleton_view wider ≡ skeleton_view k → IsWidened (partial_solution_view x) p made_wider
+  pub is_widened : wider.variables ≡ k.variables ++ declared_as k.variables p.locals → skeleton_view wider ≡ skeleton_view k → IsWidened (partial_solution_view x) p made_wider
   is_widened declared rest = record {
     term = in_x;
-    variables = declared ∙ ap (λ (z : SkeletonData). variables_view z.variables ++ declared_as (variables_view z.variables) p.locals) copied;
+    variables = declared ∙ ap (λ (z : SkeletonData). z.variables ++ declared_as z.variables p.locals) copied;
     rest = rest ∙ ap skeleton_view copied;
   }
 
@@ -56,8 +53,8 @@ module _ (x : program.PartialSolution) (w : Widened) (e : Term) (p : Pattern) (w
   nothing_made never = never_put (partial_solution_view x) e p old (subst (NeverEqual e) wide.term never)
 
   module _ (u : List Binding) (y : program.PartialSolution) (made : IsPartialSolutionUnder x w (as_substitution u) y) where
-    variables_made : variables_view y.skeleton.variables ≡ variables_view x.skeleton.variables ++ declared_as (variables_view x.skeleton.variables) p.locals
-    variables_made = ap variables_view made.variables ∙ wide.variables
+    variables_made : y.skeleton.variables ≡ x.skeleton.variables ++ declared_as x.skeleton.variables p.locals
+    variables_made = made.variables ∙ wide.variables
 
     made_is : partial_solution_view y ≡ branch_of (partial_solution_view x) p (as_substitution u) (skeleton_view y.skeleton)
     made_is = λ i. record { variables = variables_made i; substitution = made.substitution i; skeleton = skeleton_view y.skeleton }

@@ -3,15 +3,17 @@ use Rattle.std.proofs.Common.{◌≡◌, ℕ, List, ◌++◌, Bool, true, false,
 use Rattle.cp_lists.specs.Lists.{IsIn}
 use Rattle.cp_lists.proofs.Items.{map_of_item}
 use Rattle.cp_lists.proofs.Members.{into_map}
-use Rattle.cp_model.specs.Term.{Variable, Term, atom_of_variable, variables_of_atom, variables_of, value_of, Substitution, apply_to_atom, composed}
-use Rattle.cp_model.specs.Strand.{Declaration, Protocol}
+use Rattle.cp_model.specs.Term.{Term, variables_of, value_of, Substitution, composed, variable_term, apply_to}
+use Rattle.cp_model.specs.declared.variable.Variable.{Variable}
+use Rattle.cp_model.specs.Strand.{Protocol}
+use Rattle.cp_model.specs.declared.variable.Declaration.{Declaration}
 use Rattle.cp_model.specs.Bundle.{node_at}
 use Rattle.cp_model.specs.Skeleton.{instance, Skeleton}
 use Rattle.cp_model.specs.Derivable.{IsOnInstance}
 use Rattle.cp_model.specs.Problem.{IsDeclared}
 use Rattle.cp_model.specs.Same.{has_variable}
 use Rattle.cp_model.specs.Tree.{Pattern}
-use Rattle.cp_model.proofs.LawTerms.{atom_composed}
+use Rattle.cp_model.proofs.LawTerms.{term_composed}
 use Rattle.cp_model.proofs.SameTests.{variable_in, in_has_variable}
 use Rattle.cp_model.proofs.DeclaredVariables.{still_declared}
 use Rattle.cp_theory.specs.Normal.{strand_under, skeleton_under}
@@ -19,7 +21,7 @@ use Rattle.cp_theory.proofs.Skeletons.{skeleton_under_is_skeleton}
 use Rattle.cp_collapse.specs.SameSkeletons.{AreSameStrands, SaysTheSame}
 use Rattle.cp_collapse.proofs.SameStrands.{all_same_back, instance_at}
 use Rattle.cp_collapse.proofs.SameSkeletons.{same_is_skeleton}
-use Rattle.cp_collapse.proofs.NoNewVariables.{KeepsDeclared, made_equal, no_new, of_atom}
+use Rattle.cp_collapse.proofs.NoNewVariables.{KeepsDeclared, made_equal, no_new, of_term}
 use Rattle.cp_skel.proofs.DeclaredChanges.{more_declared}
 use Rattle.cp_normal.specs.BySubstitution.{all_variables, StaysWithin}
 use Rattle.cp_normal.specs.Formed.{Formed, AreFormedNormalForms}
@@ -42,7 +44,7 @@ unifier_keeps ds a b s of_a of_b m = no_new ds (λ g. value_of g a ≡ value_of 
 -- One substitution after another.
 pub then_gives : (ds : List Declaration) (first : Skeleton) (s t : Substitution) → GivesDeclared ds first s → KeepsDeclared ds t → GivesDeclared ds first (composed s t)
 then_gives ds first s t gives keeps x y used i =
-    of_atom ds t keeps (apply_to_atom s (atom_of_variable x)) (λ z j. gives x z used j) y (subst (λ z. IsIn y (variables_of_atom z)) (atom_composed s t (atom_of_variable x)) i)
+    of_term ds t keeps (apply_to s (variable_term x)) (λ z j. gives x z used j) y (subst (λ z. IsIn y (variables_of z)) (term_composed s t (variable_term x)) i)
 
 pub more_given : (ds more : List Declaration) (first : Skeleton) (s : Substitution) → GivesDeclared ds first s → GivesDeclared (ds ++ more) first s
 more_given ds more first s gives x y used i = still_declared ds more y.number y.sort (gives x y used i)
@@ -63,7 +65,7 @@ module _ (protocol : Protocol) (first : Skeleton) (r : Release) (used : AreUsedV
     abbrev all : List Declaration
     all = x.variables ++ declared_as x.variables p.locals
 
-    of_free : (y z : Variable) → IsFreeIn y p → IsIn z (variables_of_atom (apply_to_atom x.substitution (atom_of_variable y))) → IsDeclared x.variables z
+    of_free : (y z : Variable) → IsFreeIn y p → IsIn z (variables_of (apply_to x.substitution (variable_term y))) → IsDeclared x.variables z
     of_free y z is i = w.gives_declared y z (used p y listed is) i
 
     module _ (u : Substitution) (m : UnifiesMostGenerally e (pattern_in x p) u) where
@@ -87,7 +89,7 @@ module _ (protocol : Protocol) (first : Skeleton) (r : Release) (used : AreUsedV
       by_test true e = all_declared x.variables x.skeleton w.declared z (stays.within y z (variable_in (all_variables x.skeleton) y e) i)
       by_test false e =
           let left = stays.leaves y (λ j. let has : has_variable (all_variables x.skeleton) y ≡ true = in_has_variable (all_variables x.skeleton) y j in absurd (cc)) in
-          subst (IsDeclared x.variables) (sym (only_itself y z (subst (λ v. IsIn z (variables_of_atom v)) left i))) is
+          subst (IsDeclared x.variables) (sym (only_itself y z (subst (λ v. IsIn z (variables_of v)) left i))) is
 
   pub form_on_the_way : (forms : List Formed) → AreFormedNormalForms x.skeleton forms → (f : Formed) → IsIn f forms → IsSoundPartial protocol first r (with_form_of x f)
   form_on_the_way forms are f i =

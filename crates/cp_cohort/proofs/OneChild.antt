@@ -2,17 +2,21 @@
 use Rattle.std.proofs.Common.{◌≡◌, ℕ, zero, suc, ◌+◌, ◌-◌, ◌<◌, List, [], ◌∷◌, Some, true, false, refl, sym, ap, subst, inl, inr, ⊎_elim, arith}
 use Rattle.cp_lists.specs.Lists.{IsIn, here, there, one_step, more_steps}
 use Rattle.cp_lists.proofs.Members.{not_in_none, only_item}
-use Rattle.cp_model.specs.Message.{symmetric, text, key}
-use Rattle.cp_model.specs.Term.{text_sort, skey_sort, Variable, skey_variable, symmetric_term, text_variable, AtomTerm, key_term, Term, atom_term, IsCarriedByTerm, itself_term, atom_of_variable, variables_of_atom, variables_of, Assignment, value_of, Substitution, apply_to, apply_to_atom, composed}
+use Rattle.cp_model.specs.Message.{symmetric, text, key, atom}
+use Rattle.cp_model.specs.Term.{skey_variable, symmetric_term, text_variable, AtomTerm, key_term, Term, atom_term, IsCarriedByTerm, itself_term, variables_of, Assignment, value_of, Substitution, apply_to, composed, variable_term}
+use Rattle.cp_model.specs.declared.sort.Sort.TheVariants.{Text as text_sort, Skey as skey_sort}
+use Rattle.cp_model.specs.declared.variable.Variable.{Variable}
 use Rattle.cp_model.specs.Identity.{unchanged}
-use Rattle.cp_model.specs.Strand.{Event, send, recv, payload, Role}
+use Rattle.cp_model.specs.Strand.{payload, Role}
+use Rattle.cp_model.specs.declared.strand.Event.{Event}
+use Rattle.cp_model.specs.declared.strand.Event.TheVariants.{Send as send, Receive as recv}
 use Rattle.cp_model.specs.Bundle.{node_at}
 use Rattle.cp_model.specs.declared.node.Node.{Node}
 use Rattle.cp_model.specs.declared.node.OrderPair.{OrderPair}
 use Rattle.cp_model.specs.Skeleton.{term_event_at, OrderStep, along_strand_of, along_pair, Skeleton, Before}
 use Rattle.cp_model.specs.Problem.{IsDeclared}
 use Rattle.cp_model.specs.PointOfView.{HasDeclaredVariables}
-use Rattle.cp_model.proofs.LawTerms.{term_unchanged, atom_unchanged}
+use Rattle.cp_model.proofs.LawTerms.{term_unchanged}
 use Rattle.cp_model.specs.declared.step.Step.{Step}
 use Rattle.cp_model.specs.declared.step.Step.TheVariants.{Left, Right, Plaintext}
 use Rattle.cp_model.specs.Positions.{term_at}
@@ -101,8 +105,8 @@ bindings = record { number = 2; term = text_variable 0 } ∷ record { number = 3
 
 met : (g : Assignment) → value_of g new_locked ≡ value_of g locked → Meets g bindings
 met g same =
-    let of_text : text (g.texts 2) ≡ text (g.texts 0) = cc in
-    let of_key : key (symmetric (g.skeys 3)) ≡ key (symmetric (g.skeys 1)) = cc in
+    let of_text : atom (text (g.texts 2)) ≡ atom (text (g.texts 0)) = cc in
+    let of_key : atom (key (symmetric (g.skeys 3))) ≡ atom (key (symmetric (g.skeys 1))) = cc in
     (of_text, (of_key, tt))
 
 unifies : UnifiesMostGenerally new_locked locked as_old
@@ -170,11 +174,11 @@ comes = record {
   substitution = unchanged;
   stays_within = record {
     idempotent = λ t. term_unchanged (apply_to unchanged t);
-    within = λ x y i j. subst (λ (z : Variable). IsIn z (all_variables sent_before)) (sym (only_itself x y (subst (λ (v : AtomTerm). IsIn y (variables_of_atom v)) (atom_unchanged (atom_of_variable x)) j))) i;
-    leaves = λ x none. atom_unchanged (atom_of_variable x);
+    within = λ x y i j. subst (λ (z : Variable). IsIn z (all_variables sent_before)) (sym (only_itself x y (subst (λ (v : Term). IsIn y (variables_of v)) (term_unchanged (variable_term x)) j))) i;
+    leaves = λ x none. term_unchanged (variable_term x);
   };
   same = record {
-    strands = same_strands same_listener (same_strands (same_instance (λ x i. ap (λ (s : Substitution). apply_to_atom s (atom_of_variable x)) (composed_stays (composed new_terms as_old)))) no_strands);
+    strands = same_strands same_listener (same_strands (same_instance (λ x i. ap (λ (s : Substitution). apply_to s (variable_term x)) (composed_stays (composed new_terms as_old)))) no_strands);
     pairs = refl;
     assumptions = refl;
     from_problem = refl;

@@ -3,12 +3,15 @@ use Rattle.std.proofs.Common.{◌≡◌, ℕ, suc, ◌+◌, List, [], ◌∷◌,
 use Rattle.cp_lists.specs.Lists.{item_at, IsIn}
 use Rattle.cp_lists.proofs.Items.{map_of_item, item_behind}
 use Rattle.cp_lists.proofs.Members.{not_in_none, only_item, in_cases}
-use Rattle.cp_model.specs.Term.{Sort, text_sort, datum_sort, name_sort, skey_sort, akey_sort, Variable, atom_of_variable, variables_of_atom, variables_of, Assignment, value_of, value_of_atom, after, Substitution, apply_to_atom}
-use Rattle.cp_model.specs.Strand.{Declaration}
+use Rattle.cp_model.specs.Term.{atom_of_variable, variables_of, Assignment, value_of, after, Substitution, variable_term, apply_to, atom_term}
+use Rattle.cp_model.specs.declared.sort.Sort.{Sort}
+use Rattle.cp_model.specs.declared.sort.Sort.TheVariants.{Text as text_sort, Datum as datum_sort, Name as name_sort, Skey as skey_sort, Akey as akey_sort}
+use Rattle.cp_model.specs.declared.variable.Variable.{Variable}
+use Rattle.cp_model.specs.declared.variable.Declaration.{Declaration}
 use Rattle.cp_model.specs.Problem.{declared_sort, IsDeclared}
 use Rattle.cp_model.specs.Tree.{Pattern}
-use Rattle.cp_model.proofs.LawTerms.{atom_after, value_after}
-use Rattle.cp_model.proofs.LawAgreement.{agree_atom_value, agree_value}
+use Rattle.cp_model.proofs.LawTerms.{value_after}
+use Rattle.cp_model.proofs.LawAgreement.{agree_value}
 use Rattle.cp_model.proofs.DeclaredVariables.{still_declared}
 use Rattle.cp_unify.specs.Bindings.{Binding, variable_of}
 use Rattle.cp_unify.proofs.VariableTests.{is_variable_tells}
@@ -26,10 +29,10 @@ variable s n = record { sort = s; number = n }
 
 -- A variable that has a place in the list becomes the new one for that place; any other what s gives it.
 abbrev IsNew : ℕ → List Variable → Substitution → Variable → Type 0
-IsNew n xs s x = (i : ℕ) × (item_at xs i ≡ Some x) × (apply_to_atom (with_new n xs s) (atom_of_variable x) ≡ atom_of_variable (variable x.sort (n + i)))
+IsNew n xs s x = (i : ℕ) × (item_at xs i ≡ Some x) × (apply_to (with_new n xs s) (variable_term x) ≡ variable_term (variable x.sort (n + i)))
 
 abbrev IsOld : ℕ → List Variable → Substitution → Variable → Type 0
-IsOld n xs s x = (IsIn x xs → ⊥) × (apply_to_atom (with_new n xs s) (atom_of_variable x) ≡ apply_to_atom s (atom_of_variable x))
+IsOld n xs s x = (IsIn x xs → ⊥) × (apply_to (with_new n xs s) (variable_term x) ≡ apply_to s (variable_term x))
 
 module _ (n : ℕ) (y : Variable) (ys : List Variable) (s : Substitution) (x : Variable) where
   abbrev binding : Binding
@@ -43,20 +46,20 @@ module _ (n : ℕ) (y : Variable) (ys : List Variable) (s : Substitution) (x : V
       let number : n ≡ n + 0 = omega arith in (
         0,
         ap Some (sym e),
-        ap (λ (z : Variable). apply_to_atom (with_new n (y ∷ ys) s) (atom_of_variable z)) (e ∙ sym binds)
-            ∙ bound binding (with_new (suc n) ys s)
-            ∙ ap (λ (z : Variable). atom_of_variable (variable z.sort n)) (sym e)
-            ∙ ap (λ (m : ℕ). atom_of_variable (variable x.sort m)) number,
+        ap (λ (z : Variable). apply_to (with_new n (y ∷ ys) s) (variable_term z)) (e ∙ sym binds)
+            ∙ ap atom_term (bound binding (with_new (suc n) ys s))
+            ∙ ap (λ (z : Variable). variable_term (variable z.sort n)) (sym e)
+            ∙ ap (λ (m : ℕ). variable_term (variable x.sort m)) number,
       )
 
   module _ (differs : x ≡ y → ⊥) where
-    as_behind : apply_to_atom (with_new n (y ∷ ys) s) (atom_of_variable x) ≡ apply_to_atom (with_new (suc n) ys s) (atom_of_variable x)
-    as_behind = other binding (with_new (suc n) ys s) x (λ q. differs (q ∙ binds))
+    as_behind : apply_to (with_new n (y ∷ ys) s) (variable_term x) ≡ apply_to (with_new (suc n) ys s) (variable_term x)
+    as_behind = ap atom_term (other binding (with_new (suc n) ys s) x (λ q. differs (q ∙ binds)))
 
     still_new : IsNew (suc n) ys s x → IsNew n (y ∷ ys) s x
     still_new r =
         let number : suc n + r.0 ≡ n + suc r.0 = omega arith in
-        (suc r.0, r.1, as_behind ∙ r.2 ∙ ap (λ (m : ℕ). atom_of_variable (variable x.sort m)) number)
+        (suc r.0, r.1, as_behind ∙ r.2 ∙ ap (λ (m : ℕ). variable_term (variable x.sort m)) number)
 
     not_there : (IsIn x ys → ⊥) → IsIn x (y ∷ ys) → ⊥
     not_there none i = ⊎_elim (λ e. differs (sym e)) none (in_cases i)
@@ -74,25 +77,25 @@ new_or_old n (y ∷ ys) s x =
 -- ---- values
 
 -- Where the locals have values that make the pattern a message, so has the opened pattern, if new variables have them.
-module _ (p : Pattern) (s : Substitution) (n : ℕ) (g filled : Assignment) (said : (x : Variable) → IsFreeIn x p → value_of_atom filled (atom_of_variable x) ≡ value_of_atom (after g s) (atom_of_variable x))
-    (below : (x : Variable) → IsFreeIn x p → AreBelow n (variables_of_atom (apply_to_atom s (atom_of_variable x)))) where
+module _ (p : Pattern) (s : Substitution) (n : ℕ) (g filled : Assignment) (said : (x : Variable) → IsFreeIn x p → value_of filled (variable_term x) ≡ value_of (after g s) (variable_term x))
+    (below : (x : Variable) → IsFreeIn x p → AreBelow n (variables_of (apply_to s (variable_term x)))) where
   abbrev values : Assignment
   values = beside n p.locals g filled
 
   abbrev terms : Substitution
   terms = with_new n p.locals s
 
-  of_new : (x : Variable) → IsNew n p.locals s x → value_of_atom (after values terms) (atom_of_variable x) ≡ value_of_atom filled (atom_of_variable x)
-  of_new x r = atom_after values terms (atom_of_variable x) ∙ ap (value_of_atom values) r.2 ∙ new_value_at n p.locals g filled r.0 x r.1
+  of_new : (x : Variable) → IsNew n p.locals s x → value_of (after values terms) (variable_term x) ≡ value_of filled (variable_term x)
+  of_new x r = value_after values terms (variable_term x) ∙ ap (value_of values) r.2 ∙ new_value_at n p.locals g filled r.0 x r.1
 
-  of_old : (x : Variable) → IsIn x (variables_of p.term) → IsOld n p.locals s x → value_of_atom (after values terms) (atom_of_variable x) ≡ value_of_atom filled (atom_of_variable x)
+  of_old : (x : Variable) → IsIn x (variables_of p.term) → IsOld n p.locals s x → value_of (after values terms) (variable_term x) ≡ value_of filled (variable_term x)
   of_old x i r =
       let free : IsFreeIn x p = record { occurs = i; no_local = r.0 } in
-      let u = apply_to_atom s (atom_of_variable x) in
-      atom_after values terms (atom_of_variable x)
-      ∙ ap (value_of_atom values) r.1
-      ∙ sym (agree_atom_value g values u (old_values n p.locals g filled (variables_of_atom u) (below x free)))
-      ∙ sym (atom_after g s (atom_of_variable x))
+      let u = apply_to s (variable_term x) in
+      value_after values terms (variable_term x)
+      ∙ ap (value_of values) r.1
+      ∙ sym (agree_value g values u (old_values n p.locals g filled (variables_of u) (below x free)))
+      ∙ sym (value_after g s (variable_term x))
       ∙ sym (said x free)
 
   pub opened_value : value_of values (opened_pattern p s n) ≡ value_of filled p.term
@@ -100,17 +103,17 @@ module _ (p : Pattern) (s : Substitution) (n : ℕ) (g filled : Assignment) (sai
 
 -- ---- declarations
 
-alone : (s : Sort) (n : ℕ) → variables_of_atom (atom_of_variable (variable s n)) ≡ variable s n ∷ []
+alone : (s : Sort) (n : ℕ) → variables_of (variable_term (variable s n)) ≡ variable s n ∷ []
 alone text_sort n = refl
 alone datum_sort n = refl
 alone name_sort n = refl
 alone skey_sort n = refl
 alone akey_sort n = refl
 
-pub only_itself : (x y : Variable) → IsIn y (variables_of_atom (atom_of_variable x)) → y ≡ x
+pub only_itself : (x y : Variable) → IsIn y (variables_of (variable_term x)) → y ≡ x
 only_itself x y i = only_item (subst (IsIn y) (alone x.sort x.number) i)
 
-module _ (ds : List Declaration) (p : Pattern) (s : Substitution) (said : (x y : Variable) → IsFreeIn x p → IsIn y (variables_of_atom (apply_to_atom s (atom_of_variable x))) → IsDeclared ds y) where
+module _ (ds : List Declaration) (p : Pattern) (s : Substitution) (said : (x y : Variable) → IsFreeIn x p → IsIn y (variables_of (apply_to s (variable_term x))) → IsDeclared ds y) where
   abbrev all : List Declaration
   all = ds ++ declared_as ds p.locals
 
@@ -120,14 +123,14 @@ module _ (ds : List Declaration) (p : Pattern) (s : Substitution) (said : (x y :
   new_declared : (x : Variable) (i : ℕ) → item_at p.locals i ≡ Some x → IsOne (variable x.sort (length ds + i))
   new_declared x i at = ap declared_sort (item_behind ds (declared_as ds p.locals) i ∙ map_of_item (declared_after ds) p.locals i x at)
 
-  new_gives : (x y : Variable) → IsNew (length ds) p.locals s x → IsIn y (variables_of_atom (apply_to_atom (with_new (length ds) p.locals s) (atom_of_variable x))) → IsOne y
+  new_gives : (x y : Variable) → IsNew (length ds) p.locals s x → IsIn y (variables_of (apply_to (with_new (length ds) p.locals s) (variable_term x))) → IsOne y
   new_gives x y r j =
-      let same : y ≡ variable x.sort (length ds + r.0) = only_itself (variable x.sort (length ds + r.0)) y (subst (λ z. IsIn y (variables_of_atom z)) r.2 j) in
+      let same : y ≡ variable x.sort (length ds + r.0) = only_itself (variable x.sort (length ds + r.0)) y (subst (λ z. IsIn y (variables_of z)) r.2 j) in
       subst IsOne (sym same) (new_declared x r.0 r.1)
 
-  old_gives : (x y : Variable) → IsIn x (variables_of p.term) → IsOld (length ds) p.locals s x → IsIn y (variables_of_atom (apply_to_atom (with_new (length ds) p.locals s) (atom_of_variable x))) → IsOne y
+  old_gives : (x y : Variable) → IsIn x (variables_of p.term) → IsOld (length ds) p.locals s x → IsIn y (variables_of (apply_to (with_new (length ds) p.locals s) (variable_term x))) → IsOne y
   old_gives x y i r j =
-      still_declared ds (declared_as ds p.locals) y.number y.sort (said x y (record { occurs = i; no_local = r.0 }) (subst (λ z. IsIn y (variables_of_atom z)) r.1 j))
+      still_declared ds (declared_as ds p.locals) y.number y.sort (said x y (record { occurs = i; no_local = r.0 }) (subst (λ z. IsIn y (variables_of z)) r.1 j))
 
   pub opened_declared : (y : Variable) → IsIn y (variables_of (opened_pattern p s (length ds))) → IsOne y
   opened_declared y i = given_term IsOne (with_new (length ds) p.locals s) p.term (λ x m z j. ⊎_elim (λ r. new_gives x z r j) (λ r. old_gives x z m r j) (new_or_old (length ds) p.locals s x)) y i

@@ -2,7 +2,8 @@
 use Rattle.std.proofs.Common.{◌≡◌, ◌⊎◌, inl, inr, ◌<◌, ◌≤◌, ◌+◌, ℕ, suc, List, take, Bool, true, false, refl, sym, subst, arith}
 use Rattle.cp_lists.specs.Lists.{IsIn}
 use Rattle.cp_model.specs.Term.{Term, apply_to}
-use Rattle.cp_model.specs.Strand.{Event, payload}
+use Rattle.cp_model.specs.Strand.{payload}
+use Rattle.cp_model.specs.declared.strand.Event.{Event}
 use Rattle.cp_collapse.specs.Property.{Has}
 use Rattle.cp_normal.proofs.Greatest.{greatest, greatest_falls}
 use Rattle.cp_cohort.specs.Releases.{Release, PartialSolution}

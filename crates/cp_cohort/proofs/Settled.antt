@@ -3,8 +3,11 @@ use Rattle.std.proofs.Common.{◌≡◌, List, [], ◌∷◌, ◌++◌, length, 
 use Rattle.std.proofs.lemmas.List.{append-nil}
 use Rattle.cp_lists.specs.Lists.{item_at, IsIn, here, there}
 use Rattle.cp_lists.proofs.Members.{not_in_none, in_append_left, in_append_right, in_append, into_map, from_map}
-use Rattle.cp_model.specs.Term.{Variable, KeyTerm, Term, pair_term, enc_term, tag_term, atom_term, atom_of_variable, variables_of, variables_of_atom, variables_of_key, Assignment, value_of, after, Substitution, apply_to, apply_to_atom, composed}
-use Rattle.cp_model.specs.Strand.{Declaration, Event, payload, Protocol}
+use Rattle.cp_model.specs.Term.{KeyTerm, Term, pair_term, enc_term, tag_term, atom_term, variables_of, variables_of_key, Assignment, value_of, after, Substitution, apply_to, composed, variable_term}
+use Rattle.cp_model.specs.declared.variable.Variable.{Variable}
+use Rattle.cp_model.specs.Strand.{payload, Protocol}
+use Rattle.cp_model.specs.declared.variable.Declaration.{Declaration}
+use Rattle.cp_model.specs.declared.strand.Event.{Event}
 use Rattle.cp_model.specs.Bundle.{node_at}
 use Rattle.cp_model.specs.declared.node.Node.{Node}
 use Rattle.cp_model.specs.Skeleton.{skeleton_trace, term_event_at, Skeleton}
@@ -12,8 +15,8 @@ use Rattle.cp_model.specs.Problem.{IsDeclared}
 use Rattle.cp_model.specs.PointOfView.{HasDeclaredVariables}
 use Rattle.cp_model.specs.Same.{same_term}
 use Rattle.cp_model.specs.Tree.{Pattern}
-use Rattle.cp_model.proofs.LawTerms.{atom_after}
-use Rattle.cp_model.proofs.LawAgreement.{agree_value, agree_atom_value}
+use Rattle.cp_model.proofs.LawTerms.{value_after}
+use Rattle.cp_model.proofs.LawAgreement.{agree_value}
 use Rattle.cp_model.proofs.LawPrefixes.{in_trace}
 use Rattle.cp_model.proofs.LawStandings.{strand_with_event}
 use Rattle.cp_model.proofs.DeclaredVariables.{declared_below}
@@ -110,7 +113,7 @@ module _ (protocol : Protocol) (first : Skeleton) (r : Release) (used : AreUsedV
     abbrev new : Assignment
     new = beside (length x.variables) p.locals g filled
 
-    below_given : (y : Variable) → IsIn y (used_variables first) → AreBelow (length x.variables) (variables_of_atom (apply_to_atom x.substitution (atom_of_variable y)))
+    below_given : (y : Variable) → IsIn y (used_variables first) → AreBelow (length x.variables) (variables_of (apply_to x.substitution (variable_term y)))
     below_given y is z i = declared_below x.variables z.number z.sort (w.gives_declared y z is i)
 
     e_declared : (y : Variable) → IsIn y (variables_of e) → IsDeclared x.variables y
@@ -129,10 +132,10 @@ module _ (protocol : Protocol) (first : Skeleton) (r : Release) (used : AreUsedV
       values = new;
       same_inside = old_values (length x.variables) p.locals g filled (used_variables x.skeleton) (used_below x.variables x.skeleton w.declared);
       same_of_first = λ y is.
-          let v = apply_to_atom x.substitution (atom_of_variable y) in
-          atom_after g x.substitution (atom_of_variable y)
-          ∙ agree_atom_value g new v (old_values (length x.variables) p.locals g filled (variables_of_atom v) (below_given y is))
-          ∙ sym (atom_after new x.substitution (atom_of_variable y));
+          let v = apply_to x.substitution (variable_term y) in
+          value_after g x.substitution (variable_term y)
+          ∙ agree_value g new v (old_values (length x.variables) p.locals g filled (variables_of v) (below_given y is))
+          ∙ sym (value_after new x.substitution (variable_term y));
       fits = m.general new made_equal;
     }
 

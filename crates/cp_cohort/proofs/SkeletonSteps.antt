@@ -3,13 +3,14 @@ use Rattle.std.proofs.Common.{◌≡◌, ℕ, map, Some, sym, ap, ◌∙◌, sub
 use Rattle.cp_lists.specs.Lists.{item_at, IsIn}
 use Rattle.cp_lists.proofs.Items.{map_of_item}
 use Rattle.cp_lists.proofs.Mapped.{map_same, map_then}
-use Rattle.cp_model.specs.Term.{AtomTerm, atom_of_variable, Term, Substitution, apply_to, apply_to_atom, composed}
+use Rattle.cp_model.specs.Term.{AtomTerm, Term, Substitution, apply_to, apply_to_atom, composed, variable_term}
 use Rattle.cp_model.specs.Identity.{unchanged}
-use Rattle.cp_model.specs.Strand.{Event, event_map, Role}
+use Rattle.cp_model.specs.Strand.{event_map, Role}
+use Rattle.cp_model.specs.declared.strand.Event.{Event}
 use Rattle.cp_model.specs.declared.node.Node.{Node}
 use Rattle.cp_model.specs.Skeleton.{instance, listener, Assumptions, FromProblem, term_event_at, Skeleton, Before}
 use Rattle.cp_model.specs.Homomorphism.{SkeletonMap, IsHomomorphism, GoesToInstance}
-use Rattle.cp_model.proofs.LawTerms.{atom_unchanged, term_unchanged, atom_composed, term_composed}
+use Rattle.cp_model.proofs.LawTerms.{atom_unchanged, term_unchanged, term_composed}
 use Rattle.cp_model.proofs.LawEmbeddings.{then_homomorphism}
 use Rattle.cp_theory.specs.Normal.{strand_under, skeleton_under, with_pairs}
 use Rattle.cp_theory.proofs.Mapped.{to_under, before_under, before_more}
@@ -94,7 +95,7 @@ more_homomorphism : (k l : Skeleton) → SaysMore k l → IsHomomorphism k l (al
 more_homomorphism k l more = record {
   instances = λ a role height terms at.
       let r = more.instances a role height terms at in
-      record { to_height = r.0; to_terms = r.1; on_instance = r.2; at_least = r.3; equal_terms = λ x i. atom_composed terms unchanged (atom_of_variable x) ∙ atom_unchanged (apply_to_atom terms (atom_of_variable x)) ∙ r.4 x i };
+      record { to_height = r.0; to_terms = r.1; on_instance = r.2; at_least = r.3; equal_terms = λ x i. term_composed terms unchanged (variable_term x) ∙ term_unchanged (apply_to terms (variable_term x)) ∙ r.4 x i };
   listeners = λ a t at. more.listeners a t at ∙ ap (λ (u : Term). Some (listener u)) (sym (term_unchanged t));
   ordered = λ x y b. more.ordered x y b;
   non = λ v i. subst (λ (w : AtomTerm). IsIn w l.assumptions.non_originating) (sym (atom_unchanged v)) (more.non v i);

@@ -4,13 +4,17 @@ use Rattle.std.specs.Prelude.{◌≢◌}
 use Rattle.std.proofs.lemmas.List.{append-nil}
 use Rattle.cp_lists.specs.Lists.{item_at, IsIn}
 use Rattle.cp_lists.proofs.Members.{in_append_left, in_append_right}
-use Rattle.cp_model.specs.Term.{Variable, KeyTerm, symmetric_term, asymmetric_term, inverse_term, Term, variables_of, variables_of_key, Substitution}
-use Rattle.cp_model.specs.Strand.{send, payload, Declaration, Role, Protocol}
+use Rattle.cp_model.specs.Term.{KeyTerm, symmetric_term, asymmetric_term, inverse_term, Term, variables_of, variables_of_key, Substitution}
+use Rattle.cp_model.specs.declared.variable.Variable.{Variable}
+use Rattle.cp_model.specs.Strand.{payload, Role, Protocol}
+use Rattle.cp_model.specs.declared.strand.Event.TheVariants.{Send as send}
+use Rattle.cp_model.specs.declared.variable.Declaration.{Declaration}
 use Rattle.cp_model.specs.Bundle.{node_at}
 use Rattle.cp_model.specs.Skeleton.{instance, Skeleton, IsSkeleton}
 use Rattle.cp_model.specs.Problem.{IsDeclared}
 use Rattle.cp_model.specs.PointOfView.{HasDeclaredVariables}
-use Rattle.cp_model.specs.Tree.{Operation, by_contraction, by_added_listener}
+use Rattle.cp_model.specs.declared.tree.Operation.{Operation}
+use Rattle.cp_model.specs.declared.tree.Operation.TheVariants.{Contracted as by_contraction, AddedListener as by_added_listener}
 use Rattle.cp_model.specs.declared.step.Step.{Step}
 use Rattle.cp_theory.specs.Normal.{skeleton_under}
 use Rattle.cp_theory.proofs.Skeletons.{skeleton_under_is_skeleton}
@@ -19,7 +23,8 @@ use Rattle.cp_collapse.proofs.NoNewVariables.{KeepsDeclared}
 use Rattle.cp_model.specs.PrefixVariables.{prefix_variables, added_variables}
 use Rattle.cp_strand.specs.Declares.{DeclaresItsVariables}
 use Rattle.cp_model.specs.Extensions.{Extends}
-use Rattle.cp_skel.specs.Events.{LocatedEvent, events_of}
+use Rattle.cp_skel.specs.Events.{events_of}
+use Rattle.cp_skel.specs.declared.events.LocatedEvent.{LocatedEvent}
 use Rattle.cp_skel.proofs.CarriedHomomorphisms.{listener_says_more, strand_says_more, extended_says_more}
 use Rattle.cp_skel.proofs.DeclaredChanges.{listener_declared, ordered_declared}
 use Rattle.cp_skel.proofs.EventLists.{listed_event}

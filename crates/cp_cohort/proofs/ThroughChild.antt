@@ -3,8 +3,9 @@ use Rattle.std.proofs.Common.{◌≡◌, ℕ, List, [], ◌++◌, map, Some, ref
 use Rattle.cp_lists.specs.Lists.{item_at}
 use Rattle.cp_lists.proofs.Mapped.{map_same}
 use Rattle.cp_lists.proofs.Members.{not_in_none, in_append, in_append_right, from_map}
-use Rattle.cp_model.specs.Term.{Term, atom_of_variable, variables_of, Assignment, value_of, value_of_atom, after, AgreeOn, Substitution, apply_to}
-use Rattle.cp_model.specs.Strand.{recv, Role, Protocol, prefix_of, variables_of_prefix, variables_of_trace, regular}
+use Rattle.cp_model.specs.Term.{Term, variables_of, Assignment, value_of, after, AgreeOn, Substitution, apply_to, variable_term}
+use Rattle.cp_model.specs.Strand.{Role, Protocol, prefix_of, variables_of_prefix, variables_of_trace, regular}
+use Rattle.cp_model.specs.declared.strand.Event.TheVariants.{Receive as recv}
 use Rattle.cp_model.specs.Bundle.{Bundle, event_at}
 use Rattle.cp_model.specs.declared.node.Node.{Node}
 use Rattle.cp_model.specs.Skeleton.{SkeletonStrand, instance, listener, skeleton_trace, Skeleton}
@@ -36,9 +37,9 @@ module _ (q : GuardedTest) (c : Child) (by : IsChildBySubstitution q c) (b : Bun
       sym first.on_regular ∙ ap (λ (n : Node). item_at b.strands n.strand) (nodes s (instance role height terms) at) ∙ second.on_regular in
       let same : first.to_values ≡ second.to_values = cc in
       first.equal_values x i
-      ∙ ap (λ (f : Assignment). value_of_atom f (atom_of_variable x)) same
+      ∙ ap (λ (f : Assignment). value_of f (variable_term x)) same
       ∙ sym (second.equal_values x (variables_of_higher role height goes.to_height goes.at_least x i))
-      ∙ sym (after_further by.substitution terms goes.to_terms g.values (atom_of_variable x) (goes.equal_terms x i))
+      ∙ sym (after_further by.substitution terms goes.to_terms g.values (variable_term x) (goes.equal_terms x i))
 
   listener_values : (s : ℕ) (t : Term) → item_at q.skeleton.strands s ≡ Some (listener t) → value_of h.values t ≡ value_of to t
   listener_values s t at =

@@ -3,7 +3,8 @@ use Rattle.std.proofs.Common.{◌≡◌, ◌<◌, ◌≤◌, ◌+◌, ℕ, zero,
 use Rattle.cp_lists.specs.Lists.{item_at, IsIn}
 use Rattle.cp_lists.proofs.Members.{head_or_behind, not_in_none}
 use Rattle.cp_model.specs.Term.{KeyTerm, Term, tag_term, atom_term, pair_term, enc_term, Substitution, apply_to, apply_to_key}
-use Rattle.cp_model.specs.Strand.{Event, payload, event_map}
+use Rattle.cp_model.specs.Strand.{payload, event_map}
+use Rattle.cp_model.specs.declared.strand.Event.{Event}
 use Rattle.cp_model.specs.Tree.{Pattern}
 use Rattle.cp_model.proofs.LawEvents.{payload_map}
 use Rattle.cp_model.specs.declared.step.Step.{Step}

@@ -2,7 +2,8 @@
 use Rattle.std.specs.Prelude.{◌≡◌, ℕ, ◌<◌, Bool, true, false, List, [], ◌∷◌, ◌++◌, map, Option, Some, MatchOption}
 use Rattle.cp_lists.specs.Lists.{item_at, IsIn}
 use Rattle.cp_model.specs.Term.{Term, Substitution, apply_to}
-use Rattle.cp_model.specs.Strand.{Event, payload, event_map}
+use Rattle.cp_model.specs.Strand.{payload, event_map}
+use Rattle.cp_model.specs.declared.strand.Event.{Event}
 use Rattle.cp_model.specs.Skeleton.{skeleton_trace_or_none, Skeleton}
 use Rattle.cp_model.specs.Tree.{Pattern}
 use Rattle.cp_theory.specs.Normal.{skeleton_under}

@@ -1,20 +1,21 @@
 -- How a list of children grows, and how skeletons do.
 use Rattle.std.specs.Prelude.{◌≡◌, ℕ, suc, List, [], ◌∷◌, ◌++◌, length, map, Some}
 use Rattle.cp_lists.specs.Lists.{item_at}
-use Rattle.cp_model.specs.Term.{Term, atom_term, atom_of_variable}
-use Rattle.cp_model.specs.Strand.{send, payload, Declaration, Role}
+use Rattle.cp_model.specs.Term.{Term, variable_term}
+use Rattle.cp_model.specs.Strand.{payload, Role}
+use Rattle.cp_model.specs.declared.strand.Event.TheVariants.{Send as send}
+use Rattle.cp_model.specs.declared.variable.Declaration.{Declaration}
 use Rattle.cp_model.specs.declared.node.Node.{Node}
 use Rattle.cp_model.specs.Skeleton.{term_event_at, listener, Skeleton}
-use Rattle.cp_model.specs.Tree.{Operation}
+use Rattle.cp_model.specs.declared.tree.Operation.{Operation}
 use Rattle.cp_model.specs.declared.step.Step.{Step}
 use Rattle.cp_model.specs.Positions.{term_at}
 use Rattle.cp_model.specs.PrefixVariables.{prefix_variables}
 use Rattle.cp_normal.specs.Exact.{HasForms}
 use Rattle.cp_model.specs.Extensions.{AddsStrand}
 use Rattle.cp_model.specs.Data.{SkeletonData, InstanceData}
-use Rattle.cp_skel.specs.Events.{LocatedEvent}
+use Rattle.cp_skel.specs.declared.events.LocatedEvent.{LocatedEvent}
 use Rattle.cp_skel.specs.View.{skeleton_view}
-use Rattle.cp_skel.specs.Trees.{variables_view}
 use Rattle.cp_strand.specs.View.{instance_view}
 use Rattle.cp_theory.specs.Covering.{put_before}
 use Rattle.cp_theory.specs.Fresh.{fresh_terms}
@@ -39,10 +40,10 @@ pub data ContractsEvent (q : GuardedTest) (o : LocatedEvent) : List Child → Ty
 
 -- A new variable is declared as d is, later than all others, and put behind the values as a term; all else stays.
 pub record Declares (d : Declaration) (old new : SkeletonData) (values values' : List Term) : Type 0 where
-  pub declared : variables_view new.variables ≡ variables_view old.variables ++ d ∷ []
+  pub declared : new.variables ≡ old.variables ++ d ∷ []
   pub count : length new.variables ≡ suc (length old.variables)
   pub rest : new ≡ record old { variables = new.variables }
-  pub put : values' ≡ values ++ atom_term (atom_of_variable (record { sort = d.sort; number = length old.variables })) ∷ []
+  pub put : values' ≡ values ++ variable_term (record { sort = d.sort; number = length old.variables }) ∷ []
 
 -- The path is a carried position of the term.
 pub record IsPosition (t : Term) (path : List Step) : Type 0 where
@@ -55,12 +56,12 @@ IsThere k s i = item_at k.strands s ≡ Some (instance_view i)
 
 -- The strand has grown, and is an instance of its role that has event j.
 pub record IsGrown (q : GuardedTest) (s : ℕ) (role : Role) (height j : ℕ) (k : SkeletonData) : Type 0 where
-  pub grows : HasGrown s role height j q.variables q.skeleton (variables_view k.variables) (skeleton_view k)
+  pub grows : HasGrown s role height j q.variables q.skeleton k.variables (skeleton_view k)
 
 -- A strand of the role is added, which ends with event j.
 pub record AddsRoleStrand (q : GuardedTest) (role : Role) (j : ℕ) (k : SkeletonData) : Type 0 where
   pub adds : AddsStrand role (suc j) (fresh_terms (length q.variables) (prefix_variables role (suc j))) q.skeleton (skeleton_view k)
-  pub variables : variables_view k.variables ≡ q.variables ++ declarations_among role (prefix_variables role (suc j))
+  pub variables : k.variables ≡ q.variables ++ declarations_among role (prefix_variables role (suc j))
 
 -- What a grown skeleton gives at one position of the message that is sent at the node.
 abbrev pub ReleasesAt : GuardedTest → List Declaration → Operation → Node → Skeleton → List Step → List Child → Type 0

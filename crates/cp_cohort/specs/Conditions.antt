@@ -1,7 +1,8 @@
 -- The conditions on a release, event by event.
 use Rattle.std.specs.Prelude.{◌≡◌, ℕ, ◌<◌, List, Some}
 use Rattle.cp_model.specs.Term.{Term, apply_to}
-use Rattle.cp_model.specs.Strand.{Event, payload}
+use Rattle.cp_model.specs.Strand.{payload}
+use Rattle.cp_model.specs.declared.strand.Event.{Event}
 use Rattle.cp_model.specs.Bundle.{node_at}
 use Rattle.cp_model.specs.Skeleton.{term_event_at}
 use Rattle.cp_model.specs.declared.step.Step.{Step}

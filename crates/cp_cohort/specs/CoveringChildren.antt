@@ -1,15 +1,18 @@
 -- Children of a test, and what they are made of: new variables, transmissions, grown strands and normal forms.
 use Rattle.std.specs.Prelude.{◌≡◌, ◌⊎◌, ℕ, suc, ◌<◌, ◌≤◌, List, [], ◌∷◌, ◌++◌, length, Option, Some, None, true}
 use Rattle.cp_lists.specs.Lists.{item_at}
-use Rattle.cp_model.specs.Term.{Variable, Term}
-use Rattle.cp_model.specs.Strand.{send, Declaration, Role}
+use Rattle.cp_model.specs.Term.{Term}
+use Rattle.cp_model.specs.declared.variable.Variable.{Variable}
+use Rattle.cp_model.specs.Strand.{Role}
+use Rattle.cp_model.specs.declared.strand.Event.TheVariants.{Send as send}
+use Rattle.cp_model.specs.declared.variable.Declaration.{Declaration}
 use Rattle.cp_model.specs.declared.node.Node.{Node}
 use Rattle.cp_model.specs.Skeleton.{Skeleton, Before}
-use Rattle.cp_model.specs.Tree.{Operation}
+use Rattle.cp_model.specs.declared.tree.Operation.{Operation}
 use Rattle.cp_model.specs.declared.step.Step.{Step}
 use Rattle.cp_model.specs.PrefixVariables.{added_variables}
 use Rattle.cp_model.specs.Extensions.{Extends}
-use Rattle.cp_skel.specs.Events.{LocatedEvent}
+use Rattle.cp_skel.specs.declared.events.LocatedEvent.{LocatedEvent}
 use Rattle.cp_theory.specs.Fresh.{fresh_terms}
 
 -- A child of a test: its skeleton with the variables made for it, the operation that made it, and the position at which the

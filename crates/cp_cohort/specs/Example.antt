@@ -1,6 +1,6 @@
 -- An example: the children of a test of an encryption that is heard, under a key that does not originate.
 use Rattle.std.specs.Prelude.{[], ◌++◌}
-use Rattle.cp_model.specs.Tree.{by_added_strand}
+use Rattle.cp_model.specs.declared.tree.Operation.TheVariants.{AddedStrand as by_added_strand}
 use Rattle.cp_model.specs.PrefixVariables.{prefix_variables}
 use Rattle.cp_cohort.specs.CoveringChildren.{Child, child, declarations_among}
 use Rattle.cp_cohort.specs.Cohort.{GuardedTest}

@@ -2,13 +2,17 @@
 use Rattle.std.specs.Prelude.{◌≡◌, ◌≢◌, ℕ, suc, ◌<◌, length, map, Some}
 use Rattle.cp_lists.specs.Lists.{item_at, IsIn}
 use Rattle.cp_model.specs.Term.{KeyTerm, key_term, inverse_term, Term, atom_term, enc_term, Substitution, apply_to}
-use Rattle.cp_model.specs.Strand.{Event, send, payload, Role}
+use Rattle.cp_model.specs.Strand.{payload, Role}
+use Rattle.cp_model.specs.declared.strand.Event.{Event}
+use Rattle.cp_model.specs.declared.strand.Event.TheVariants.{Send as send}
 use Rattle.cp_model.specs.Bundle.{node_at}
 use Rattle.cp_model.specs.declared.node.Node.{Node}
 use Rattle.cp_model.specs.Skeleton.{instance, listener, term_event_at, Before}
 use Rattle.cp_model.specs.Derivable.{IsOnInstance, DerivableAt}
 use Rattle.cp_model.specs.Homomorphism.{IsHomomorphism}
-use Rattle.cp_model.specs.Tree.{Operation, by_contraction, by_displacement, by_added_strand, by_added_listener, Pattern}
+use Rattle.cp_model.specs.Tree.{Pattern}
+use Rattle.cp_model.specs.declared.tree.Operation.{Operation}
+use Rattle.cp_model.specs.declared.tree.Operation.TheVariants.{Contracted as by_contraction, Displaced as by_displacement, AddedStrand as by_added_strand, AddedListener as by_added_listener}
 use Rattle.cp_model.specs.Positions.{term_at}
 use Rattle.cp_theory.specs.Inside.{IsInside, CarriesInsideAlone}
 use Rattle.cp_cohort.specs.CoveringChildren.{Child}

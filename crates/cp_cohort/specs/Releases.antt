@@ -2,7 +2,9 @@
 -- carries the term is outside the patterns, and each earlier event of the strand carries it inside them alone.
 use Rattle.std.specs.Prelude.{◌≡◌, ℕ, ◌<◌, List, Some}
 use Rattle.cp_model.specs.Term.{Term, Substitution, apply_to}
-use Rattle.cp_model.specs.Strand.{Event, payload, Declaration}
+use Rattle.cp_model.specs.Strand.{payload}
+use Rattle.cp_model.specs.declared.strand.Event.{Event}
+use Rattle.cp_model.specs.declared.variable.Declaration.{Declaration}
 use Rattle.cp_model.specs.Bundle.{node_at}
 use Rattle.cp_model.specs.Skeleton.{term_event_at, Skeleton}
 use Rattle.cp_model.specs.Tree.{Pattern}

@@ -1,6 +1,7 @@
 -- Children that are sound: skeletons over the protocol, with declared variables, that keep what is known of the test's skeleton.
 use Rattle.std.specs.Prelude.{List}
-use Rattle.cp_model.specs.Strand.{Declaration, Protocol}
+use Rattle.cp_model.specs.Strand.{Protocol}
+use Rattle.cp_model.specs.declared.variable.Declaration.{Declaration}
 use Rattle.cp_model.specs.Skeleton.{Skeleton, IsSkeleton}
 use Rattle.cp_model.specs.Homomorphism.{CarriesHomomorphism}
 use Rattle.cp_model.specs.PointOfView.{IsPointOfView, HasDeclaredVariables}

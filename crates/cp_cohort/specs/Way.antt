@@ -1,8 +1,10 @@
 -- Skeletons on the way from a first one to those in which both conditions on a release hold.
 use Rattle.std.specs.Prelude.{◌≡◌, List, ◌++◌}
 use Rattle.cp_lists.specs.Lists.{IsIn}
-use Rattle.cp_model.specs.Term.{Variable, atom_of_variable, variables_of_atom, Substitution, apply_to_atom}
-use Rattle.cp_model.specs.Strand.{Declaration, Protocol}
+use Rattle.cp_model.specs.Term.{Substitution, variable_term, apply_to, variables_of}
+use Rattle.cp_model.specs.declared.variable.Variable.{Variable}
+use Rattle.cp_model.specs.Strand.{Protocol}
+use Rattle.cp_model.specs.declared.variable.Declaration.{Declaration}
 use Rattle.cp_model.specs.Bundle.{node_at}
 use Rattle.cp_model.specs.Skeleton.{Skeleton, IsSkeleton}
 use Rattle.cp_model.specs.Derivable.{IsOnInstance}
@@ -24,7 +26,7 @@ AreUsedVariables first r = (p : Pattern) (x : Variable) → IsIn p r.patterns �
 
 -- The substitution gives the variables of the first skeleton terms of declared variables.
 abbrev pub GivesDeclared : List Declaration → Skeleton → Substitution → Type 0
-GivesDeclared ds first s = (x y : Variable) → IsIn x (used_variables first) → IsIn y (variables_of_atom (apply_to_atom s (atom_of_variable x))) → IsDeclared ds y
+GivesDeclared ds first s = (x y : Variable) → IsIn x (used_variables first) → IsIn y (variables_of (apply_to s (variable_term x))) → IsDeclared ds y
 
 -- The partial solution is a skeleton over the protocol, with an instance on the strand of the release. Its variables are
 -- declared, as are those of what its substitution gives the variables of the first skeleton.

@@ -5,7 +5,6 @@ use Rattle.cp_model.specs.Tree.{Pattern}
 use Rattle.cp_theory.specs.Normal.{skeleton_under}
 use Rattle.cp_unify.specs.Bindings.{as_substitution}
 use Rattle.cp_skel.specs.View.{skeleton_view}
-use Rattle.cp_skel.specs.Trees.{variables_view}
 use Rattle.cp_collapse.specs.SameSkeletons.{SaysTheSame}
 use Rattle.cp_pattern.specs.Opened.{declared_as}
 use Rattle.cp_cohort.specs.Releases.{PartialSolution}
@@ -16,7 +15,7 @@ use Rattle.cp_cohort.specs.declared.branches.Widened.{Widened}
 -- The term is the pattern's in the partial solution; the skeleton is its own, with the pattern's locals as new variables.
 pub record IsWidened (x : PartialSolution) (p : Pattern) (w : Widened) : Type 0 where
   pub term : w.term ≡ pattern_in x p
-  pub variables : variables_view w.skeleton.variables ≡ x.variables ++ declared_as x.variables p.locals
+  pub variables : w.skeleton.variables ≡ x.variables ++ declared_as x.variables p.locals
   pub rest : skeleton_view w.skeleton ≡ x.skeleton
 
 -- y has the skeleton under the unifier, and a substitution that does what that of x does, and then what the unifier does.

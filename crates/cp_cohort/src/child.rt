@@ -1,7 +1,6 @@
 // Children of a test.
 ghost use Rattle.std.specs.Prelude.{◌≡◌, ◌++◌, ◌∷◌, [], map, IfOk, OnOk};
 ghost use Rattle.cp_model.specs.Data.{SkeletonData};
-ghost use Rattle.cp_skel.specs.Trees.{operation_view};
 ghost use Rattle.cp_cohort.specs.Views.{child_view, operation_of_made, child_of};
 
 use crate::PartialSolution;
@@ -30,7 +29,7 @@ pub(crate) enum Made {
 impl Made {
     /// The operation, as a report names it.
     fn operation(self) -> Operation
-        ensures { operation_view result ≡ operation_of_made self }
+        ensures { result ≡ operation_of_made self }
     {
         match self {
             Made::Contracted(node) => Operation::Contracted(node),

@@ -4,8 +4,6 @@ ghost use Rattle.cp_theory.specs.Inside.{IsInside};
 ghost use Rattle.cp_model.specs.Identity.{unchanged};
 ghost use Rattle.cp_model.specs.Skeleton.{IsNodeOf};
 ghost use Rattle.cp_model.specs.Strand.{payload};
-ghost use Rattle.cp_skel.specs.Events.{located_event_view};
-ghost use Rattle.cp_skel.specs.Trees.{variables_view};
 ghost use Rattle.cp_skel.specs.View.{skeleton_view};
 ghost use Rattle.cp_cohort.specs.Cohort.{Contracts, AreContracted};
 ghost use Rattle.cp_cohort.specs.Children.{AreChildrenOfForms, ContractsEvent, IsPosition};
@@ -29,7 +27,7 @@ pub(crate) fn put_forms(
     path: &Path,
     children: &mut Vec<Child>,
 ) -> Result<(), AllocError>
-    ensures { OnOk result (PutsChildren (AreChildrenOfForms (variables_view skeleton.variables) (operation_of_made made) path.now (skeleton_view skeleton)) children.old.items children.new.items) }
+    ensures { OnOk result (PutsChildren (AreChildrenOfForms skeleton.variables (operation_of_made made) path.now (skeleton_view skeleton)) children.old.items children.new.items) }
 {
     let forms = normalise(alloc, skeleton)?;
     put_children(forms, made, path, children)
@@ -62,8 +60,8 @@ fn contract_at(
     path: &Path,
     children: &mut Vec<Child>,
 ) -> Result<(), AllocError>
-    requires { IsPosition (payload (located_event_view occurrence.now).event) path.now }
-    ensures { OnOk result (PutsChildren (Contracts (guarded_test_view guarded_test.now) (located_event_view occurrence.now) path.now) children.old.items children.new.items) }
+    requires { IsPosition (payload occurrence.now.event) path.now }
+    ensures { OnOk result (PutsChildren (Contracts (guarded_test_view guarded_test.now) occurrence.now path.now) children.old.items children.new.items) }
 {
     let message = occurrence.event.payload();
     if is_guarded(alloc, guarded_test, message, path)? {
@@ -97,7 +95,7 @@ fn contract_event(
 ) -> Result<(), AllocError>
     requires there { IsNodeOf (guarded_test_view guarded_test.now).skeleton.strands (guarded_test_view guarded_test.now).node }
     requires gathered { HasPredecessors guarded_test.now }
-    ensures { OnOk result (PutsChildren (ContractsEvent (guarded_test_view guarded_test.now) (located_event_view occurrence.now)) children.old.items children.new.items) }
+    ensures { OnOk result (PutsChildren (ContractsEvent (guarded_test_view guarded_test.now) occurrence.now) children.old.items children.new.items) }
 {
     if !is_sent_before(
         guarded_test.skeleton,

@@ -1,11 +1,9 @@
 // Skeletons with one strand made longer, or with one strand more. New variables take the places of the role's.
-ghost use Rattle.std.specs.Prelude.{◌≡◌, ◌++◌, ◌≤◌, ℕ, suc, length, map, IfOk, OnOk};
+ghost use Rattle.std.specs.Prelude.{◌≡◌, ◌++◌, ◌≤◌, ℕ, suc, length, IfOk, OnOk};
 ghost use Rattle.cp_model.specs.Strand.{IsHeight, variables_of_trace};
-ghost use Rattle.cp_skel.specs.Trees.{variables_view};
 ghost use Rattle.cp_model.specs.Extensions.{AddsStrand};
 ghost use Rattle.cp_skel.specs.View.{skeleton_view};
 ghost use Rattle.cp_model.specs.PrefixVariables.{is_added, added_variables, prefix_variables};
-ghost use Rattle.cp_strand.specs.View.{sort_view, declaration_view, event_view};
 ghost use Rattle.cp_theory.specs.Fresh.{fresh_terms};
 ghost use Rattle.cp_cohort.specs.CoveringChildren.{declarations_among, HasGrown};
 ghost use Rattle.cp_cohort.specs.Children.{Declares, IsThere, IsGrown, AddsRoleStrand};
@@ -24,7 +22,7 @@ fn declare_one(
     k: &mut Skeleton,
     values: &mut Vec<Term>,
 ) -> Result<(), AllocError>
-    ensures { OnOk result (Declares (declaration_view declaration.now) k.old k.new values.old.items values.new.items) }
+    ensures { OnOk result (Declares declaration.now k.old k.new values.old.items values.new.items) }
 {
     let variable = k.declare(declaration.identifier.as_str(), declaration.sort)?;
     let term = var(alloc, variable, declaration.sort)?;
@@ -34,8 +32,8 @@ fn declare_one(
 
 /// Whether the variable of this sort occurs in `events` but not in `earlier`.
 fn is_added(earlier: &[Event], events: &[Event], id: VarId, sort: Sort) -> bool
-    ensures { result ≡ is_added (variables_of_trace (map event_view earlier.now)) (variables_of_trace (map event_view events.now))
-        (record { sort = sort_view sort; number = id }) }
+    ensures { result ≡ is_added (variables_of_trace earlier.now) (variables_of_trace events.now)
+        (record { sort = sort; number = id }) }
 {
     occurs(events, id, sort) && !occurs(earlier, id, sort)
 }
@@ -50,7 +48,7 @@ fn declare_added(
     k: &mut Skeleton,
 ) -> Result<Vec<Term>, AllocError>
     ensures values { IfOk result (λ v. v.items ≡ fresh_terms (length k.old.variables) (added_variables role.now before height)) }
-    ensures declared { OnOk result (variables_view k.new.variables ≡ variables_view k.old.variables ++ declarations_among role.now (added_variables role.now before height)) }
+    ensures declared { OnOk result (k.new.variables ≡ k.old.variables ++ declarations_among role.now (added_variables role.now before height)) }
     ensures rest { OnOk result (k.new ≡ record k.old { variables = k.new.variables }) }
 {
     let earlier = prefix_of(role, before);
@@ -77,7 +75,7 @@ fn grow(
     requires there { IsThere (skeleton_view k.old) strand instance.now }
     requires reached { height ≤ length instance.now.role.trace }
     ensures { OnOk result ((j : ℕ) → height ≡ suc j
-        → HasGrown strand instance.now.role instance.now.height j (variables_view k.old.variables) (skeleton_view k.old) (variables_view k.new.variables) (skeleton_view k.new)) }
+        → HasGrown strand instance.now.role instance.now.height j k.old.variables (skeleton_view k.old) k.new.variables (skeleton_view k.new)) }
 {
     let before = instance.height();
     if height <= before {
@@ -96,7 +94,7 @@ fn add_instance(
 ) -> Result<(), AllocError>
     requires height { IsHeight role.now.value height }
     ensures adds { OnOk result (AddsStrand role.now.value height (fresh_terms (length k.old.variables) (prefix_variables role.now.value height)) (skeleton_view k.old) (skeleton_view k.new)) }
-    ensures variables { OnOk result (variables_view k.new.variables ≡ variables_view k.old.variables ++ declarations_among role.now.value (prefix_variables role.now.value height)) }
+    ensures variables { OnOk result (k.new.variables ≡ k.old.variables ++ declarations_among role.now.value (prefix_variables role.now.value height)) }
 {
     let values = declare_added(alloc, role, 0, height, k)?;
     let _ = k.add_strand(alloc, role, height, &values)?;
@@ -114,7 +112,7 @@ fn grown_to(
     requires there { IsThere (skeleton_view k) strand instance.now }
     requires reached { height ≤ length instance.now.role.trace }
     ensures { IfOk result (λ l. (j : ℕ) → height ≡ suc j
-        → HasGrown strand instance.now.role instance.now.height j (variables_view k.variables) (skeleton_view k) (variables_view l.variables) (skeleton_view l)) }
+        → HasGrown strand instance.now.role instance.now.height j k.variables (skeleton_view k) l.variables (skeleton_view l)) }
 {
     grow(alloc, strand, instance, height, &mut k)?;
     Ok(k)
@@ -145,7 +143,7 @@ fn with_instance(
 ) -> Result<Skeleton, AllocError>
     requires height { IsHeight role.now.value height }
     ensures { IfOk result (λ l. AddsStrand role.now.value height (fresh_terms (length k.variables) (prefix_variables role.now.value height)) (skeleton_view k) (skeleton_view l)
-        × (variables_view l.variables ≡ variables_view k.variables ++ declarations_among role.now.value (prefix_variables role.now.value height))) }
+        × (l.variables ≡ k.variables ++ declarations_among role.now.value (prefix_variables role.now.value height))) }
 {
     add_instance(alloc, role, height, &mut k)?;
     Ok(k)

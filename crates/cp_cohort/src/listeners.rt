@@ -6,7 +6,6 @@ ghost use Rattle.cp_cohort.specs.Children.{AddsListenerBefore};
 ghost use Rattle.cp_cohort.specs.HeardTerms.{FreesOnto, AreHeard};
 ghost use Rattle.cp_cohort.specs.Views.{guarded_test_view, PutsChildren};
 ghost use Rattle.cp_model.specs.Skeleton.{IsNodeOf};
-ghost use Rattle.cp_skel.specs.Trees.{variables_view};
 ghost use Rattle.cp_skel.specs.View.{skeleton_view};
 
 use crate::add_term;
@@ -77,7 +76,7 @@ fn add_before(
     requires copied { k.old ≡ guarded_test.now.skeleton.now }
     ensures number { IfOk result (λ s. s ≡ length (guarded_test_view guarded_test.now).skeleton.strands) }
     ensures put { IfOk result (λ s. AddsListenerBefore (guarded_test_view guarded_test.now) term.now s (skeleton_view k.new)) }
-    ensures variables { OnOk result (variables_view k.new.variables ≡ (guarded_test_view guarded_test.now).variables) }
+    ensures variables { OnOk result (k.new.variables ≡ (guarded_test_view guarded_test.now).variables) }
 {
     k.is_sound();
     let message = term.copy()?;

@@ -1,11 +1,11 @@
 // Children in which an event of a strand releases the critical term.
 ghost use Rattle.std.specs.Prelude.{◌≡◌, Some, IfOk, OnOk};
-ghost use Rattle.cp_model.specs.Strand.{Event as PlainEvent, payload};
+ghost use Rattle.cp_model.specs.Strand.{payload};
+ghost use Rattle.cp_model.specs.declared.strand.Event.{Event as PlainEvent};
 ghost use Rattle.cp_model.specs.Skeleton.{IsNodeOf, IsOrderPair, term_event_at};
 ghost use Rattle.cp_model.specs.Term.{Term as Plain};
 ghost use Rattle.cp_pattern.specs.Candidates.{may_equal};
 ghost use Rattle.cp_model.specs.Positions.{positions_where};
-ghost use Rattle.cp_skel.specs.Trees.{variables_view};
 ghost use Rattle.cp_skel.specs.View.{skeleton_view};
 ghost use Rattle.cp_cohort.specs.Children.{IsPosition, ReleasesPut, ReleasesEach};
 ghost use Rattle.cp_cohort.specs.GatheredLists.{EachGives};
@@ -46,7 +46,7 @@ fn release_at(
     children: &mut Vec<Child>,
 ) -> Result<(), AllocError>
     requires { IsPosition message.now path.now }
-    ensures { OnOk result (PutsChildren (ReleasesPut (guarded_test_view guarded_test.now) (variables_view put.now.variables) (operation_of_made made) node (skeleton_view put.now) message.now path.now) children.old.items children.new.items) }
+    ensures { OnOk result (PutsChildren (ReleasesPut (guarded_test_view guarded_test.now) put.now.variables (operation_of_made made) node (skeleton_view put.now) message.now path.now) children.old.items children.new.items) }
 {
     put.is_sound();
     let Some(term) = at(message, path) else {
@@ -81,7 +81,7 @@ fn release_each(
     made: Made,
     children: &mut Vec<Child>,
 ) -> Result<(), AllocError>
-    ensures { OnOk result (PutsChildren (EachGives (ReleasesPut (guarded_test_view guarded_test.now) (variables_view put.now.variables) (operation_of_made made) node (skeleton_view put.now) message.now)
+    ensures { OnOk result (PutsChildren (EachGives (ReleasesPut (guarded_test_view guarded_test.now) put.now.variables (operation_of_made made) node (skeleton_view put.now) message.now)
         (positions_where (may_equal (guarded_test_view guarded_test.now).critical) message.now)) children.old.items children.new.items) }
 {
     let paths = positions_for(alloc, message, guarded_test.critical)?;
@@ -111,7 +111,7 @@ fn release_before(
     children: &mut Vec<Child>,
 ) -> Result<(), AllocError>
     requires { IsOrderPair (skeleton_view grown.old) (record { earlier = node; later = (guarded_test_view guarded_test.now).node }) }
-    ensures { OnOk result (PutsChildren (ReleasesEach (guarded_test_view guarded_test.now) (variables_view grown.old.variables) (operation_of_made made) node (skeleton_view grown.old)) children.old.items children.new.items) }
+    ensures { OnOk result (PutsChildren (ReleasesEach (guarded_test_view guarded_test.now) grown.old.variables (operation_of_made made) node (skeleton_view grown.old)) children.old.items children.new.items) }
 {
     if !grown.add_order(alloc, node, guarded_test.node)? {
         return Ok(());
@@ -130,7 +130,7 @@ pub(crate) fn release(
     children: &mut Vec<Child>,
 ) -> Result<(), AllocError>
     requires { IsOrderPair (skeleton_view grown) (record { earlier = node; later = (guarded_test_view guarded_test.now).node }) }
-    ensures { OnOk result (PutsChildren (ReleasesEach (guarded_test_view guarded_test.now) (variables_view grown.variables) (operation_of_made made) node (skeleton_view grown)) children.old.items children.new.items) }
+    ensures { OnOk result (PutsChildren (ReleasesEach (guarded_test_view guarded_test.now) grown.variables (operation_of_made made) node (skeleton_view grown)) children.old.items children.new.items) }
 {
     let mut put = grown;
     release_before(alloc, guarded_test, &mut put, node, made, children)

@@ -1,7 +1,6 @@
 // Transmissions of role strands before a node.
 ghost use Rattle.std.specs.Prelude.{◌≡◌, ◌↔◌, IsTrue};
 ghost use Rattle.cp_model.specs.Skeleton.{IsNodeOf};
-ghost use Rattle.cp_skel.specs.Events.{located_event_view};
 ghost use Rattle.cp_skel.specs.View.{skeleton_view};
 ghost use Rattle.cp_cohort.specs.CoveringChildren.{IsTransmissionBefore};
 
@@ -17,7 +16,7 @@ pub fn is_sent_before(
 ) -> bool
     requires there { IsNodeOf (skeleton_view k.now).strands node }
     requires gathered { leading.now ≡ record { pairs = k.now.order; node = node } }
-    ensures { IsTrue result ↔ IsTransmissionBefore (skeleton_view k.now) node (located_event_view occurrence.now) }
+    ensures { IsTrue result ↔ IsTransmissionBefore (skeleton_view k.now) node occurrence.now }
 {
     if !occurrence.by_role {
         return false;

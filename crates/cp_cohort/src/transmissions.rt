@@ -1,7 +1,7 @@
 // Tells the transmissions of a role from its receptions.
 ghost use Rattle.std.specs.Prelude.{◌≡◌, ◌<◌, ◌+◌, ◌^◌, Some, length, true, false};
 ghost use Rattle.cp_lists.specs.Lists.{item_at};
-ghost use Rattle.cp_model.specs.Strand.{send, recv};
+ghost use Rattle.cp_model.specs.declared.strand.Event.TheVariants.{Send as send, Receive as recv};
 ghost use Rattle.cp_model.specs.Term.{Term as Plain};
 
 use cp_skel::{Event, Role};

@@ -1,7 +1,7 @@
 //! Laws of solving a release.
 ghost use Rattle.std.specs.Prelude.{List};
 ghost use Rattle.cp_lists.specs.Lists.{IsIn};
-ghost use Rattle.cp_model.specs.Term.{Variable};
+ghost use Rattle.cp_model.specs.declared.variable.Variable.{Variable};
 ghost use Rattle.cp_model.specs.Strand.{Protocol};
 ghost use Rattle.cp_model.specs.Skeleton.{Skeleton};
 ghost use Rattle.cp_theory.specs.Trials.{SolvesTest};

@@ -1,12 +1,15 @@
 -- A most general unifier of two different atoms takes one of their variables away.
 use Rattle.std.proofs.Common.{◌≡◌, ◌⊎◌, inl, inr, ℕ, List, [], ◌∷◌, ◌++◌, sym, ◌∙◌, subst}
 use Rattle.cp_lists.specs.Lists.{IsIn, here, there}
-use Rattle.cp_model.specs.Term.{Sort, text_sort, datum_sort, name_sort, skey_sort, akey_sort, Variable, AtomTerm, atom_of_variable, Term, atom_term, variables_of_atom, variables_of, Substitution, apply_to_atom, apply_to}
+use Rattle.cp_model.specs.Term.{AtomTerm, Term, variables_of_atom, variables_of, Substitution, apply_to_atom, apply_to, variable_term}
+use Rattle.cp_model.specs.declared.sort.Sort.{Sort}
+use Rattle.cp_model.specs.declared.sort.Sort.TheVariants.{Text as text_sort, Datum as datum_sort, Name as name_sort, Skey as skey_sort, Akey as akey_sort}
+use Rattle.cp_model.specs.declared.variable.Variable.{Variable}
 use Rattle.cp_lists.proofs.Members.{in_append_left, in_append_right, in_cases}
 use Rattle.cp_unify.proofs.VariableTests.{occurs_tells}
 use Rattle.cp_unify.proofs.VariablesUnder.{Leaves, leaves_variables_of, leaves_atom}
 
-pub own_variable : (s : Sort) (n : ℕ) → (let x : Variable = record { sort = s; number = n } in IsIn x (variables_of_atom (atom_of_variable x)))
+pub own_variable : (s : Sort) (n : ℕ) → (let x : Variable = record { sort = s; number = n } in IsIn x (variables_of (variable_term x)))
 own_variable text_sort n = here
 own_variable datum_sort n = here
 own_variable name_sort n = here
@@ -26,8 +29,8 @@ module _ (s : Substitution) (idempotent : (t : Term) → apply_to s (apply_to s 
   gone x taken t i = taken (leaves_variables_of s (apply_to s t) (idempotent t) x i)
 
   pub left_or_taken : (x : Variable) → Leaves s x ⊎ (Leaves s x → ⊥)
-  left_or_taken x = elim (occurs_tells (variables_of_atom (apply_to_atom s (atom_of_variable x))) x) [
-    | inl p ↦ inl (leaves_variables_of s (apply_to s (atom_term (atom_of_variable x))) (idempotent (atom_term (atom_of_variable x))) x p.1)
+  left_or_taken x = elim (occurs_tells (variables_of (apply_to s (variable_term x))) x) [
+    | inl p ↦ inl (leaves_variables_of s (apply_to s (variable_term x)) (idempotent (variable_term x)) x p.1)
     | inr p ↦ inr (λ left. p.1 (subst (λ (u : AtomTerm). IsIn x (variables_of_atom u)) (sym left) (own_variable x.sort x.number)))
   ]
 

@@ -4,7 +4,7 @@ use Rattle.cp_lists.specs.Lists.{item_at, IsIn, here}
 use Rattle.cp_model.specs.Term.{Assignment}
 use Rattle.cp_model.specs.Skeleton.{Skeleton}
 use Rattle.cp_model.specs.Problem.{numbers_from}
-use Rattle.cp_model.proofs.Numbers.{numbers_length}
+use Rattle.cp_model.proofs.NumbersFrom.{numbers_length}
 use Rattle.cp_lists.proofs.Members.{in_append_left, in_append_right, in_append, only_item}
 use Rattle.cp_lists.proofs.Items.{item_below, item_before, place_of, at_place}
 use Rattle.cp_unify.proofs.Free.{free}

@@ -1,7 +1,7 @@
 -- The order of a skeleton has a cycle exactly where one of its pairs closes one.
 use Rattle.std.proofs.Common.{◌≡◌, ◌⊎◌, inl, inr, ◌<◌, refl, sym, ap, ◌∙◌, subst, arith}
 use Rattle.cp_lists.specs.Lists.{IsIn, one_step, more_steps}
-use Rattle.cp_model.specs.Strand.{send}
+use Rattle.cp_model.specs.declared.strand.Event.TheVariants.{Send as send}
 use Rattle.cp_model.specs.declared.node.Node.{Node}
 use Rattle.cp_model.specs.Skeleton.{Skeleton, OrderStep, along_strand_of, along_pair, Before, IsOrderPair}
 use Rattle.cp_model.specs.declared.node.OrderPair.{OrderPair}

@@ -2,12 +2,14 @@
 use Rattle.std.proofs.Common.{◌≡◌, ◌⊎◌, inl, inr, ℕ, zero, suc, List, [], ◌∷◌, Some, refl, sym, ap, ap₂, ◌∙◌, subst, arith}
 use Rattle.cp_lists.specs.Lists.{item_at, IsIn, here, there, one_step, more_steps}
 use Rattle.cp_lists.proofs.Members.{in_cases}
-use Rattle.cp_model.specs.Term.{atom_of_variable, Term, value_of_atom, after, Substitution, apply_to, apply_to_atom, composed}
-use Rattle.cp_model.specs.Strand.{Event, send, recv, event_map}
+use Rattle.cp_model.specs.Term.{Term, after, Substitution, apply_to, composed, variable_term, value_of}
+use Rattle.cp_model.specs.Strand.{event_map}
+use Rattle.cp_model.specs.declared.strand.Event.{Event}
+use Rattle.cp_model.specs.declared.strand.Event.TheVariants.{Send as send, Receive as recv}
 use Rattle.cp_model.specs.Bundle.{node_at}
 use Rattle.cp_model.specs.declared.node.Node.{Node}
 use Rattle.cp_model.specs.Skeleton.{SkeletonStrand, instance, listener, skeleton_trace, term_event_at, IsNodeOf, Skeleton, OrderStep, along_strand_of, along_pair, Before}
-use Rattle.cp_model.proofs.LawTerms.{atom_after, atom_composed}
+use Rattle.cp_model.proofs.LawTerms.{term_composed, value_after}
 use Rattle.cp_model.proofs.LawStandings.{strand_of_event, event_of_instance, event_of_higher}
 use Rattle.cp_unify.proofs.Free.{free}
 use Rattle.cp_collapse.specs.Partitions.{IsPartitionByRole, place_in, IdentifiesValues, IsLower, AreDescending}
@@ -20,13 +22,13 @@ use Rattle.cp_collapse.proofs.Places.{strand_at_place}
 
 some_identifies : (k l : Skeleton) (p : List ℕ) (c : IsCollapsed k p l) → IdentifiesValues k p (after free c.unifier)
 some_identifies k l p c s t role height terms height' terms' at au a x i j =
-    value terms ∙ ap (value_of_atom free) (c.most_general.identifies s t role height terms height' terms' at au a x i j) ∙ sym (value terms')
+    value terms ∙ ap (value_of free) (c.most_general.identifies s t role height terms height' terms' at au a x i j) ∙ sym (value terms')
   where
-    value : (d : Substitution) → value_of_atom (after (after free c.unifier) d) (atom_of_variable x) ≡ value_of_atom free (apply_to_atom (composed d c.unifier) (atom_of_variable x))
+    value : (d : Substitution) → value_of (after (after free c.unifier) d) (variable_term x) ≡ value_of free (apply_to (composed d c.unifier) (variable_term x))
     value d =
-        atom_after (after free c.unifier) d (atom_of_variable x)
-        ∙ atom_after free c.unifier (apply_to_atom d (atom_of_variable x))
-        ∙ ap (value_of_atom free) (sym (atom_composed d c.unifier (atom_of_variable x)))
+        value_after (after free c.unifier) d (variable_term x)
+        ∙ value_after free c.unifier (apply_to d (variable_term x))
+        ∙ ap (value_of free) (sym (term_composed d c.unifier (variable_term x)))
 
 pub one_substitution : (k l m : Skeleton) (p : List ℕ) (c : IsCollapsed k p l) (d : IsCollapsed k p m) (u : Term) → apply_to c.unifier u ≡ apply_to d.unifier u
 one_substitution k l m p c d =

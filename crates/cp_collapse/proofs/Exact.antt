@@ -1,13 +1,13 @@
 -- Bindings that are met by exactly the assignments of which a fact is true, and how unification adds to them.
 use Rattle.std.proofs.Common.{◌≡◌, ◌⊎◌, inl, inr, ℕ, ◌≤◌, List, [], ◌∷◌, ◌++◌, sym, ap, ◌∙◌, subst}
 use Rattle.cp_lists.specs.Lists.{IsIn, here}
-use Rattle.cp_model.specs.Message.{atom}
-use Rattle.cp_model.specs.Term.{Variable, atom_of_variable, Term, atom_term, Assignment, value_of_atom, value_of, after, Substitution, apply_to_atom, AgreeOn}
+use Rattle.cp_model.specs.Term.{Term, atom_term, Assignment, value_of, after, Substitution, AgreeOn, variable_term, apply_to}
+use Rattle.cp_model.specs.declared.variable.Variable.{Variable}
 use Rattle.cp_model.specs.Strand.{Role, variables_of_prefix}
 use Rattle.cp_model.specs.Skeleton.{Skeleton}
 use Rattle.cp_lists.proofs.Members.{in_append_left, in_append_right, in_append, only_item}
 use Rattle.cp_model.proofs.LawPrefixes.{variables_of_higher}
-use Rattle.cp_model.proofs.LawTerms.{atom_after, value_after, atom_composed}
+use Rattle.cp_model.proofs.LawTerms.{value_after, term_composed}
 use Rattle.cp_unify.specs.Bindings.{Binding, variable_of, Meets, as_substitution}
 use Rattle.cp_unify.specs.Unifiers.{Solves, IsMostGeneralUnifier, HasNoUnifier}
 use Rattle.cp_unify.proofs.Free.{free}
@@ -31,7 +31,7 @@ exact_same e f r to from x = record { met = x.met; sound = λ g m. to g (x.sound
 meets_after : (g : Assignment) (s : Substitution) (r : List Binding) → Solves s r → Meets (after g s) r
 meets_after g s [] h = tt
 meets_after g s (b ∷ bs) h =
-    (atom_after g s (atom_of_variable (variable_of b)) ∙ ap (value_of_atom g) h.0 ∙ sym (atom_after g s b.term), meets_after g s bs h.1)
+    (value_after g s (variable_term (variable_of b)) ∙ ap (value_of g) h.0 ∙ sym (value_after g s (atom_term b.term)), meets_after g s bs h.1)
 
 pub exact_unified : (e : Assignment → Type 0) (a b : Term) (r q : List Binding) → IsExactFor e r → IsMostGeneralUnifier a b r q → IsExactFor (λ g. e g × (value_of g a ≡ value_of g b)) q
 exact_unified e a b r q x m = record {
@@ -50,13 +50,11 @@ exact_has_one e r x = (after free (as_substitution r), x.sound (after free (as_s
 
 -- ---- the terms of one variable more
 
-pub equal_terms : (g : Assignment) (s t : Substitution) (x : Variable) → value_of g (atom_term (apply_to_atom s (atom_of_variable x))) ≡ value_of g (atom_term (apply_to_atom t (atom_of_variable x))) → value_of_atom (after g s) (atom_of_variable x) ≡ value_of_atom (after g t) (atom_of_variable x)
-equal_terms g s t x e =
-    let f : value_of_atom g (apply_to_atom s (atom_of_variable x)) ≡ value_of_atom g (apply_to_atom t (atom_of_variable x)) = cc in
-    atom_after g s (atom_of_variable x) ∙ f ∙ sym (atom_after g t (atom_of_variable x))
+pub equal_terms : (g : Assignment) (s t : Substitution) (x : Variable) → value_of g (apply_to s (variable_term x)) ≡ value_of g (apply_to t (variable_term x)) → value_of (after g s) (variable_term x) ≡ value_of (after g t) (variable_term x)
+equal_terms g s t x e = value_after g s (variable_term x) ∙ e ∙ sym (value_after g t (variable_term x))
 
-pub terms_equal : (g : Assignment) (s t : Substitution) (x : Variable) → value_of_atom (after g s) (atom_of_variable x) ≡ value_of_atom (after g t) (atom_of_variable x) → value_of g (atom_term (apply_to_atom s (atom_of_variable x))) ≡ value_of g (atom_term (apply_to_atom t (atom_of_variable x)))
-terms_equal g s t x e = ap atom (sym (atom_after g s (atom_of_variable x)) ∙ e ∙ atom_after g t (atom_of_variable x))
+pub terms_equal : (g : Assignment) (s t : Substitution) (x : Variable) → value_of (after g s) (variable_term x) ≡ value_of (after g t) (variable_term x) → value_of g (apply_to s (variable_term x)) ≡ value_of g (apply_to t (variable_term x))
+terms_equal g s t x e = sym (value_after g s (variable_term x)) ∙ e ∙ value_after g t (variable_term x)
 
 module _ (e : Assignment → Type 0) (s t : Substitution) where
   -- The fact is true, and two instances agree on these variables.
@@ -66,16 +64,16 @@ module _ (e : Assignment → Type 0) (s t : Substitution) where
   pub agree_on_none : (r : List Binding) → IsExactFor e r → IsExactFor (AlsoAgree []) r
   agree_on_none r = exact_same e (AlsoAgree []) r (λ g f. (f, λ x i. elim i [ ])) (λ g f. f.0)
 
-  one_more : (xs : List Variable) (y : Variable) (g : Assignment) → AgreeOn xs (after g s) (after g t) → value_of_atom (after g s) (atom_of_variable y) ≡ value_of_atom (after g t) (atom_of_variable y) →
-      (x : Variable) → IsIn x xs ⊎ IsIn x (y ∷ []) → value_of_atom (after g s) (atom_of_variable x) ≡ value_of_atom (after g t) (atom_of_variable x)
+  one_more : (xs : List Variable) (y : Variable) (g : Assignment) → AgreeOn xs (after g s) (after g t) → value_of (after g s) (variable_term y) ≡ value_of (after g t) (variable_term y) →
+      (x : Variable) → IsIn x xs ⊎ IsIn x (y ∷ []) → value_of (after g s) (variable_term x) ≡ value_of (after g t) (variable_term x)
   one_more xs y g a f x (inl i) = a x i
-  one_more xs y g a f x (inr i) = subst (λ (z : Variable). value_of_atom (after g s) (atom_of_variable z) ≡ value_of_atom (after g t) (atom_of_variable z)) (sym (only_item i)) f
+  one_more xs y g a f x (inr i) = subst (λ (z : Variable). value_of (after g s) (variable_term z) ≡ value_of (after g t) (variable_term z)) (sym (only_item i)) f
 
   pub agree_on_more : (xs : List Variable) (y : Variable) (r q : List Binding) → IsExactFor (AlsoAgree xs) r →
-      IsMostGeneralUnifier (atom_term (apply_to_atom s (atom_of_variable y))) (atom_term (apply_to_atom t (atom_of_variable y))) r q → IsExactFor (AlsoAgree (xs ++ (y ∷ []))) q
+      IsMostGeneralUnifier (apply_to s (variable_term y)) (apply_to t (variable_term y)) r q → IsExactFor (AlsoAgree (xs ++ (y ∷ []))) q
   agree_on_more xs y r q x m =
-      let a = atom_term (apply_to_atom s (atom_of_variable y)) in
-      let b = atom_term (apply_to_atom t (atom_of_variable y)) in
+      let a = apply_to s (variable_term y) in
+      let b = apply_to t (variable_term y) in
       exact_same (λ g. AlsoAgree xs g × (value_of g a ≡ value_of g b)) (AlsoAgree (xs ++ (y ∷ []))) q
       (λ g f. (f.0.0, λ z i. one_more xs y g f.0.1 (equal_terms g s t y f.1) z (in_append xs (y ∷ []) i)))
       (λ g f. ((f.0, λ z i. f.1 z (in_append_left (y ∷ []) i)), terms_equal g s t y (f.1 y (in_append_right xs here))))
@@ -83,10 +81,10 @@ module _ (e : Assignment → Type 0) (s t : Substitution) where
 
   -- Where the terms of a variable have no unifier, no assignment of which the fact is true agrees on it.
   pub never_agree : (xs : List Variable) (y : Variable) (r : List Binding) → IsExactFor (AlsoAgree xs) r →
-      HasNoUnifier (atom_term (apply_to_atom s (atom_of_variable y))) (atom_term (apply_to_atom t (atom_of_variable y))) r →
-      (g : Assignment) → e g → AgreeOn xs (after g s) (after g t) → value_of_atom (after g s) (atom_of_variable y) ≡ value_of_atom (after g t) (atom_of_variable y) → ⊥
+      HasNoUnifier (apply_to s (variable_term y)) (apply_to t (variable_term y)) r →
+      (g : Assignment) → e g → AgreeOn xs (after g s) (after g t) → value_of (after g s) (variable_term y) ≡ value_of (after g t) (variable_term y) → ⊥
   never_agree xs y r x none g f a same =
-      never_unified (AlsoAgree xs) (atom_term (apply_to_atom s (atom_of_variable y))) (atom_term (apply_to_atom t (atom_of_variable y))) r x none g (f, a) (terms_equal g s t y same)
+      never_unified (AlsoAgree xs) (apply_to s (variable_term y)) (apply_to t (variable_term y)) r x none g (f, a) (terms_equal g s t y same)
 
 -- The variables that are in both prefixes are those of the shorter.
 pub equal_on_shorter : (role : Role) (height : ℕ) (terms : Substitution) (height' : ℕ) (terms' : Substitution) (g : Assignment) → height ≤ height' →
@@ -104,12 +102,11 @@ equal_back role height terms height' terms' g a x i j = sym (a x j i)
 
 pub exact_identifies : (k : Skeleton) (p : List ℕ) (r : List Binding) → IsExactFor (IdentifiesValues k p) r → Identifies k p (as_substitution r)
 exact_identifies k p r x s t role height terms height' terms' at au together y i j =
-    let a = atom_term (apply_to_atom terms (atom_of_variable y)) in
-    let b = atom_term (apply_to_atom terms' (atom_of_variable y)) in
-    let e : atom_term (apply_to_atom (as_substitution r) (apply_to_atom terms (atom_of_variable y))) ≡ atom_term (apply_to_atom (as_substitution r) (apply_to_atom terms' (atom_of_variable y))) =
+    let a = apply_to terms (variable_term y) in
+    let b = apply_to terms' (variable_term y) in
+    let e : apply_to (as_substitution r) a ≡ apply_to (as_substitution r) b =
     unified r a b x.met (λ g m. terms_equal g terms terms' y (x.sound g m s t role height terms height' terms' at au together y i j)) in
-    let f : apply_to_atom (as_substitution r) (apply_to_atom terms (atom_of_variable y)) ≡ apply_to_atom (as_substitution r) (apply_to_atom terms' (atom_of_variable y)) = cc in
-    atom_composed terms (as_substitution r) (atom_of_variable y) ∙ f ∙ sym (atom_composed terms' (as_substitution r) (atom_of_variable y))
+    term_composed terms (as_substitution r) (variable_term y) ∙ e ∙ sym (term_composed terms' (as_substitution r) (variable_term y))
 
 pub exact_is_most_general : (k : Skeleton) (p : List ℕ) (r : List Binding) → IsExactFor (IdentifiesValues k p) r → IsMostGeneralOn k p (as_substitution r)
 exact_is_most_general k p r x = record {

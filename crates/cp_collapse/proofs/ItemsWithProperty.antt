@@ -1,5 +1,5 @@
 -- Which items of a list have a property, and loops over them.
-use Rattle.std.proofs.Common.{ℕ, ◌+◌, ◌<◌, ◌≤◌, List, ◌≡◌, ◌↔◌, ◌⊎◌, inl, inr, Bool, true, false, not, length, get_or, drop, map, refl, sym, subst}
+use Rattle.std.proofs.Common.{ℕ, ◌+◌, ◌<◌, ◌≤◌, List, ◌≡◌, ◌↔◌, ◌⊎◌, inl, inr, Bool, true, false, not, length, get_or, drop, refl, sym, subst}
 use Rattle.std.proofs.lemmas.Bool.{not_from_false, false_from_ne_true}
 use Rattle.cp_lists.specs.Lists.{IsIn, here, there}
 use Rattle.cp_lists.proofs.Members as members
@@ -53,14 +53,6 @@ item_passed has xs i x l e test f left h = next has xs i x l e (λ p. not_both f
 -- At the end there is none.
 pub no_item : {A : Type 0} (has : A → Type 0) (xs : List A) (i : ℕ) → length xs ≤ i → (Has has xs → Has has (drop i xs)) → (false ≡ true) ↔ Has has xs
 no_item has xs i l left = (λ r. absurd (not_both refl r), λ h. absurd (none has xs i l (left h)))
-
--- ---- properties of views
-
-pub of_views : {A B : Type 0} (f : A → B) (has : B → Type 0) (xs : List A) → Has (λ x. has (f x)) xs → Has has (map f xs)
-of_views f has xs h = (f h.0, members.into_map f h.1, h.2)
-
-pub to_views : {A B : Type 0} (f : A → B) (has : B → Type 0) (xs : List A) → Has has (map f xs) → Has (λ x. has (f x)) xs
-to_views f has xs h = let r = members.from_map f xs h.1 in (r.0, r.1, subst has (sym r.2) h.2)
 
 -- ---- terms that are carried
 

@@ -1,8 +1,9 @@
 -- A skeleton over a protocol whose strands are merged is one, where the merged order has no cycle.
 use Rattle.std.proofs.Common.{◌≡◌, ◌≢◌, ℕ, List, Some, sym, ◌∙◌, subst}
 use Rattle.cp_lists.specs.Lists.{item_at, IsIn}
-use Rattle.cp_model.specs.Term.{AtomTerm, atom_of_variable, Substitution, apply_to, apply_to_atom, composed}
-use Rattle.cp_model.specs.Strand.{send, recv, Role, Protocol, Applies}
+use Rattle.cp_model.specs.Term.{AtomTerm, Substitution, apply_to, apply_to_atom, composed, variable_term}
+use Rattle.cp_model.specs.Strand.{Role, Protocol, Applies}
+use Rattle.cp_model.specs.declared.strand.Event.TheVariants.{Send as send, Receive as recv}
 use Rattle.cp_model.specs.Bundle.{node_at}
 use Rattle.cp_model.specs.Skeleton.{instance, UniqueAt, Skeleton, IsOrderPair, IsOrigin, GivesAssumptions, IsSkeleton}
 use Rattle.cp_model.specs.declared.node.OrderPair.{OrderPair}
@@ -59,7 +60,7 @@ module _ (k l : Skeleton) (p : List ℕ) (c : IsCollapsed k p l) where
         let t : g.to_terms ≡ terms = cc in
         sym (atom_composed one.terms c.unifier v)
         ∙ agree_atom (composed one.terms c.unifier) terms v
-        (λ x inx. subst (λ (d : Substitution). apply_to_atom (composed one.terms c.unifier) (atom_of_variable x) ≡ apply_to_atom d (atom_of_variable x)) t (g.equal_terms x (applies x inx)))
+        (λ x inx. subst (λ (d : Substitution). apply_to (composed one.terms c.unifier) (variable_term x) ≡ apply_to d (variable_term x)) t (g.equal_terms x (applies x inx)))
 
     merged_gives : GivesAssumptions k one.strand role height one.terms → GivesAssumptions l place role height terms
     merged_gives gives = record {

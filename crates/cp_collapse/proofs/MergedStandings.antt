@@ -3,8 +3,9 @@ use Rattle.std.proofs.Common.{◌≡◌, ℕ, List, Option, Some, None, map, [],
 use native.Mathlib.Decide.{ℕ_discrete}
 use Rattle.cp_lists.specs.Lists.{item_at, IsIn, one_step}
 use Rattle.cp_model.specs.Message.{Atom, Message, atom}
-use Rattle.cp_model.specs.Term.{AtomTerm, atom_of_variable, Term, atom_term, value_of, value_of_atom, Substitution, apply_to, apply_to_atom}
-use Rattle.cp_model.specs.Strand.{send, recv, Role, Protocol}
+use Rattle.cp_model.specs.Term.{AtomTerm, Term, atom_term, value_of, value_of_atom, Substitution, apply_to, apply_to_atom, variable_term}
+use Rattle.cp_model.specs.Strand.{Role, Protocol}
+use Rattle.cp_model.specs.declared.strand.Event.TheVariants.{Send as send, Receive as recv}
 use Rattle.cp_model.specs.Bundle.{node_at, event_at, KeepsNon, KeepsPenetratorNon, KeepsUnique, Bundle, Precedes, IsBundle}
 use Rattle.cp_model.specs.declared.node.Node.{Node}
 use Rattle.cp_model.specs.Skeleton.{SkeletonStrand, instance, listener, UniqueAt, Skeleton, along_pair, Before, IsSkeleton}
@@ -12,7 +13,7 @@ use Rattle.cp_model.specs.declared.node.OrderPair.{OrderPair}
 use Rattle.cp_model.specs.Standing.{Standing, image_of, StandsOnRegular, StandsIn, StandsApart}
 use Rattle.cp_model.specs.Homomorphism.{FactorsThrough}
 use Rattle.cp_lists.proofs.Items.{item_below}
-use Rattle.cp_model.proofs.LawTerms.{atom_after, value_after, atom_composed}
+use Rattle.cp_model.proofs.LawTerms.{value_after, term_composed}
 use Rattle.cp_model.proofs.LawStandings.{strand_of_event}
 use Rattle.cp_theory.proofs.Pairs.{ordered, no_cycle}
 use Rattle.cp_collapse.specs.Partitions.{lowest_before, place_in, node_in}
@@ -89,10 +90,10 @@ module _ (k : Skeleton) (b : Bundle) (h : Standing) (stands : StandsIn k b h) wh
           on_regular = ap (λ (n : Node). item_at b.strands n.strand) node ∙ st.on_regular;
           at_least = st.at_least;
           equal_values = λ x inx.
-              atom_after h.values terms (atom_of_variable x)
-              ∙ ap (value_of_atom h.values) (ap (λ (d : Substitution). apply_to_atom d (atom_of_variable x)) (sym same) ∙ sym (go.equal_terms x inx) ∙ atom_composed one.terms f (atom_of_variable x))
-              ∙ same_atom (apply_to_atom one.terms (atom_of_variable x))
-              ∙ sym (atom_after h.values one.terms (atom_of_variable x))
+              value_after h.values terms (variable_term x)
+              ∙ ap (value_of h.values) (ap (λ (d : Substitution). apply_to d (variable_term x)) (sym same) ∙ sym (go.equal_terms x inx) ∙ term_composed one.terms f (variable_term x))
+              ∙ same_term (apply_to one.terms (variable_term x))
+              ∙ sym (value_after h.values one.terms (variable_term x))
               ∙ st.equal_values x inx;
         }
 

@@ -2,11 +2,15 @@
 -- all others.
 use Rattle.std.proofs.Common.{◌≡◌, ◌⊎◌, inl, inr, ℕ, suc, List, Option, Some, None, sym, ap, ◌∙◌, subst, arith}
 use Rattle.cp_lists.specs.Lists.{item_at, IsIn}
-use Rattle.cp_model.specs.Term.{Sort, text_sort, datum_sort, name_sort, skey_sort, akey_sort, Variable, AtomTerm, atom_of_variable, Term, atom_term, variables_of_atom, variables_of, Assignment, value_of_atom, value_of, after, Substitution, apply_to_atom, apply_to}
-use Rattle.cp_model.specs.Strand.{Declaration}
+use Rattle.cp_model.specs.Term.{AtomTerm, atom_of_variable, Term, atom_term, variables_of_atom, variables_of, Assignment, value_of_atom, value_of, after, Substitution, apply_to_atom, apply_to, variable_term}
+use Rattle.cp_model.specs.declared.sort.Sort.{Sort}
+use Rattle.cp_model.specs.declared.sort.Sort.TheVariants.{Text as text_sort, Datum as datum_sort, Name as name_sort, Skey as skey_sort, Akey as akey_sort}
+use Rattle.cp_model.specs.declared.variable.Variable.{Variable}
+use Rattle.cp_model.specs.declared.variable.Declaration.{Declaration}
 use Rattle.cp_model.specs.Problem.{declared_sort, IsDeclared}
 use Rattle.cp_model.proofs.LawTerms.{value_after}
-use Rattle.cp_model.proofs.LawAgreement.{agree_atom, agree_term}
+use Rattle.cp_model.proofs.LawAgreement.{agree_term}
+use Rattle.cp_model.proofs.VariableTerms.{unchanged_atom, unchanged_term}
 use Rattle.cp_unify.specs.Bindings.{Binding, variable_of, put_term}
 use Rattle.cp_unify.proofs.VariableTests.{is_variable_tells}
 use Rattle.cp_unify.proofs.Free.{free, same_terms}
@@ -42,7 +46,7 @@ declared_or_not ds x = sort_tells (item_at ds x.number) x.sort
 abbrev next : Variable → Variable
 next y = record { sort = y.sort; number = suc y.number }
 
-next_differs : (s : Sort) (n : ℕ) → atom_of_variable (next (record { sort = s; number = n })) ≡ atom_of_variable (record { sort = s; number = n }) → ⊥
+next_differs : (s : Sort) (n : ℕ) → variable_term (next (record { sort = s; number = n })) ≡ variable_term (record { sort = s; number = n }) → ⊥
 next_differs text_sort n e = let m : suc n ≡ n = cc in omega (arith, m)
 next_differs datum_sort n e = let m : suc n ≡ n = cc in omega (arith, m)
 next_differs name_sort n e = let m : suc n ≡ n = cc in omega (arith, m)
@@ -63,7 +67,7 @@ but_at y s = put_term y.number (atom_of_variable (next y)) s
 never_left : (y : Variable) (s : Substitution) → Leaves (but_at y s) y → ⊥
 never_left y s e =
     next_differs y.sort y.number
-    (sym (bound (to_next y) s) ∙ ap (λ (x : Variable). apply_to_atom (but_at y s) (atom_of_variable x)) (binds y) ∙ e)
+    (sym (ap atom_term (bound (to_next y) s)) ∙ ap (λ (x : Variable). apply_to (but_at y s) (variable_term x)) (binds y) ∙ unchanged_term (but_at y s) y e)
 
 -- The substitution but at one variable, which it leaves.
 abbrev own : Variable → Binding
@@ -75,18 +79,18 @@ left_at y s = put_term y.number (atom_of_variable y) s
 is_own : (y : Variable) → variable_of (own y) ≡ y
 is_own y = ap (λ (s : Sort). let x : Variable = record { sort = s; number = y.number } in x) (sort_of_variable y.sort y.number)
 
-leaves_own : (y : Variable) (s : Substitution) → Leaves (left_at y s) y
-leaves_own y s = sym (ap (λ (x : Variable). apply_to_atom (left_at y s) (atom_of_variable x)) (is_own y)) ∙ bound (own y) s
+leaves_own : (y : Variable) (s : Substitution) → apply_to (left_at y s) (variable_term y) ≡ variable_term y
+leaves_own y s = sym (ap (λ (x : Variable). apply_to (left_at y s) (variable_term x)) (is_own y)) ∙ ap atom_term (bound (own y) s)
 
 -- ---- most general substitutions
 
 -- The substitution gives these variables terms of these variables.
 abbrev pub Keeps : (Variable → Type 0) → Substitution → Type 0
-Keeps P s = (x y : Variable) → P x → IsIn y (variables_of_atom (apply_to_atom s (atom_of_variable x))) → P y
+Keeps P s = (x y : Variable) → P x → IsIn y (variables_of (apply_to s (variable_term x))) → P y
 
 -- Two substitutions give these variables the same terms.
 abbrev pub AgreeWithin : (Variable → Type 0) → Substitution → Substitution → Type 0
-AgreeWithin P s t = (x : Variable) → P x → apply_to_atom s (atom_of_variable x) ≡ apply_to_atom t (atom_of_variable x)
+AgreeWithin P s t = (x : Variable) → P x → apply_to s (variable_term x) ≡ apply_to t (variable_term x)
 
 -- The substitution gives declared variables terms of declared variables.
 abbrev pub KeepsDeclared : List Declaration → Substitution → Type 0
@@ -104,34 +108,30 @@ module _ (P : Variable → Type 0) (tells : (x : Variable) → P x ⊎ (P x → 
       (sym (value_after free t (apply_to s u)) ∙ sym (value_after (after free t) s u) ∙ general (after free t) is u ∙ value_after free t u)
 
   alike_but_at : (y : Variable) → (P y → ⊥) → AgreeWithin P (but_at y s) s
-  alike_but_at y never x is = other (to_next y) s x (λ e. never (subst P (e ∙ binds y) is))
+  alike_but_at y never x is = ap atom_term (other (to_next y) s x (λ e. never (subst P (e ∙ binds y) is)))
 
-  none_other : (x y : Variable) → P x → IsIn y (variables_of_atom (apply_to_atom s (atom_of_variable x))) → (P y → ⊥) → ⊥
+  none_other : (x y : Variable) → P x → IsIn y (variables_of (apply_to s (variable_term x))) → (P y → ⊥) → ⊥
   none_other x y is i never =
       let t = but_at y s in
       let alike = alike_but_at y never in
-      let u : Term = atom_term (atom_of_variable x) in
-      never_left y s (leaves_variables_of t (apply_to s u) (comes_before t (depends t alike) u ∙ ap atom_term (alike x is)) y i)
+      let u : Term = variable_term x in
+      never_left y s (leaves_variables_of t (apply_to s u) (comes_before t (depends t alike) u ∙ alike x is) y i)
 
   pub none_new : Keeps P s
   none_new x y is i = elim (tells y) [ inl p ↦ p | inr never ↦ absurd (none_other x y is i never) ]
 
   -- It leaves all other variables.
   alike_left_at : (y : Variable) → (P y → ⊥) → AgreeWithin P (left_at y s) s
-  alike_left_at y never x is = other (own y) s x (λ e. never (subst P (e ∙ is_own y) is))
+  alike_left_at y never x is = ap atom_term (other (own y) s x (λ e. never (subst P (e ∙ is_own y) is)))
 
   module _ (idempotent : (t : Term) → apply_to s (apply_to s t) ≡ apply_to s t) where
     left_if_taken : (y : Variable) → (P y → ⊥) → (Leaves s y → ⊥) → Leaves s y
     left_if_taken y never taken =
         let t = left_at y s in
-        let u : Term = atom_term (atom_of_variable y) in
-        let v : AtomTerm = apply_to_atom s (atom_of_variable y) in
-        let before : apply_to t (apply_to s u) ≡ apply_to t u = comes_before t (depends t (alike_left_at y never)) u in
-        let first : apply_to_atom t v ≡ apply_to_atom t (atom_of_variable y) = cc in
-        let twice : apply_to s (apply_to s u) ≡ apply_to s u = idempotent u in
-        let again : apply_to_atom s v ≡ v = cc in
-        let alike : apply_to_atom t v ≡ apply_to_atom s v = agree_atom t s v (λ x i. other (own y) s x (λ e. gone s idempotent y taken u (subst (λ (z : Variable). IsIn z (variables_of_atom v)) (e ∙ is_own y) i))) in
-        sym again ∙ sym alike ∙ first ∙ leaves_own y s
+        let u : Term = variable_term y in
+        let v : Term = apply_to s u in
+        let alike : apply_to t v ≡ apply_to s v = agree_term t s v (λ x i. ap atom_term (other (own y) s x (λ e. gone s idempotent y taken u (subst (λ (z : Variable). IsIn z (variables_of v)) (e ∙ is_own y) i)))) in
+        unchanged_atom s y (sym (idempotent u) ∙ sym alike ∙ comes_before t (depends t (alike_left_at y never)) u ∙ leaves_own y s)
 
     pub leaves_others : (y : Variable) → (P y → ⊥) → Leaves s y
     leaves_others y never = elim (left_or_taken s idempotent y) [ inl left ↦ left | inr taken ↦ left_if_taken y never taken ]

@@ -2,7 +2,9 @@
 use Rattle.std.proofs.Common.{◌≡◌, ◌≢◌, ◌⊎◌, inl, inr, ℕ, zero, suc, ◌<◌, ◌≤◌, List, [], ◌∷◌, Some, refl, sym, ap₂, ◌∙◌, subst, arith, eq-or-lt_of_le}
 use Rattle.cp_lists.specs.Lists.{item_at, IsIn, here, one_step, more_steps}
 use Rattle.cp_lists.proofs.Members.{only_item}
-use Rattle.cp_model.specs.Term.{text_sort, Variable, text_variable, atom_of_variable, Term, Assignment, value_of_atom, after, Substitution, apply_to_atom, composed}
+use Rattle.cp_model.specs.Term.{text_variable, Term, Assignment, after, Substitution, composed, variable_term, value_of, apply_to}
+use Rattle.cp_model.specs.declared.sort.Sort.TheVariants.{Text as text_sort}
+use Rattle.cp_model.specs.declared.variable.Variable.{Variable}
 use Rattle.cp_model.specs.Identity.{unchanged}
 use Rattle.cp_model.specs.Strand.{Role}
 use Rattle.cp_model.specs.declared.node.Node.{Node}
@@ -77,7 +79,7 @@ abbrev heard_text : Variable
 heard_text = record { sort = text_sort; number = 1 }
 
 equal_values : (g : Assignment) → Meets g (binding ∷ []) → HaveEqualValues repeater 1 unchanged 2 other_texts g
-equal_values g m x i j = subst (λ (y : Variable). value_of_atom (after g unchanged) (atom_of_variable y) ≡ value_of_atom (after g other_texts) (atom_of_variable y)) (sym (only_item i)) (sym m.0)
+equal_values g m x i j = subst (λ (y : Variable). value_of (after g unchanged) (variable_term y) ≡ value_of (after g other_texts) (variable_term y)) (sym (only_item i)) (sym m.0)
 
 identified : (g : Assignment) → Meets g (binding ∷ []) → IdentifiesValues two_repeaters together g
 identified g m =
@@ -102,7 +104,7 @@ most_general = exact_is_most_general two_repeaters together (binding ∷ []) exa
 
 goes : (s : ℕ) (role : Role) (height : ℕ) (terms : Substitution) → item_at two_repeaters.strands s ≡ Some (instance role height terms) → GoesToInstance one_repeater (onto_blocks together same_heard) s role height terms
 goes = each_instance (λ s role height terms. GoesToInstance one_repeater (onto_blocks together same_heard) s role height terms)
-    (record { to_height = 2; to_terms = composed other_texts same_heard; on_instance = refl; at_least = omega arith; equal_terms = λ x i. subst (λ (y : Variable). apply_to_atom (composed unchanged same_heard) (atom_of_variable y) ≡ apply_to_atom (composed other_texts same_heard) (atom_of_variable y)) (sym (only_item i)) refl })
+    (record { to_height = 2; to_terms = composed other_texts same_heard; on_instance = refl; at_least = omega arith; equal_terms = λ x i. subst (λ (y : Variable). apply_to (composed unchanged same_heard) (variable_term y) ≡ apply_to (composed other_texts same_heard) (variable_term y)) (sym (only_item i)) refl })
     (record { to_height = 2; to_terms = composed other_texts same_heard; on_instance = refl; at_least = omega arith; equal_terms = λ x i. refl })
 
 tallest : (place : ℕ) (role : Role) (height : ℕ) (terms : Substitution) → item_at one_repeater.strands place ≡ Some (instance role height terms) → HasInstance two_repeaters together place role height

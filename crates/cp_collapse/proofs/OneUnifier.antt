@@ -1,6 +1,8 @@
 -- Of two most general substitutions that bind later variables to earlier ones each does what the other does.
 use Rattle.std.proofs.Common.{◌≡◌, ◌⊎◌, inl, inr, ℕ, ◌<◌, Bool, true, false, if◌then◌else◌, nat_eq, List, [], ◌∷◌, refl, sym, ap, ap₂, ◌∙◌, subst, arith, eqb-true}
-use Rattle.cp_model.specs.Term.{Sort, text_sort, datum_sort, name_sort, skey_sort, akey_sort, SymmetricTerm, skey_variable, ltk_term, PairTerm, akey_variable, pubk_term, symmetric_term, asymmetric_term, AtomTerm, text_variable, datum_variable, name_variable, key_term, atom_of_variable, Term, atom_term, Assignment, value_of_atom, value_of, after, Substitution, flag_of, apply_to_symmetric, apply_to_half, apply_to_atom, apply_to}
+use Rattle.cp_model.specs.Term.{SymmetricTerm, skey_variable, ltk_term, PairTerm, akey_variable, pubk_term, symmetric_term, asymmetric_term, AtomTerm, text_variable, datum_variable, name_variable, key_term, Term, atom_term, Assignment, value_of_atom, value_of, after, Substitution, flag_of, apply_to_symmetric, apply_to_half, apply_to_atom, apply_to, variable_term}
+use Rattle.cp_model.specs.declared.sort.Sort.{Sort}
+use Rattle.cp_model.specs.declared.sort.Sort.TheVariants.{Text as text_sort, Datum as datum_sort, Name as name_sort, Skey as skey_sort, Akey as akey_sort}
 use Rattle.cp_model.proofs.LawTerms.{atom_after, value_after, flag_last}
 use Rattle.cp_model.proofs.LawAgreement.{agree_term}
 use Rattle.cp_unify.specs.Bindings.{Binding, put, put_term, as_substitution}
@@ -107,7 +109,7 @@ module _ (s t : Substitution) (first : Lowers s) (second : Lowers t) where
 
   -- Each, after the other, does what it does alone.
   module _ (there : (u : Term) → apply_to t (apply_to s u) ≡ apply_to t u) (back : (u : Term) → apply_to s (apply_to t u) ≡ apply_to s u) where
-    one_key : (n : ℕ) → key_term (asymmetric_term (s.akeys n).0 (s.akeys n).1) ≡ key_term (asymmetric_term (t.akeys n).0 (t.akeys n).1)
+    one_key : (n : ℕ) → atom_term (key_term (asymmetric_term (s.akeys n).0 (s.akeys n).1)) ≡ atom_term (key_term (asymmetric_term (t.akeys n).0 (t.akeys n).1))
     one_key n =
         let variable : Term = atom_term (key_term (asymmetric_term false (akey_variable n))) in
         let u = s.akeys n in
@@ -121,18 +123,18 @@ module _ (s t : Substitution) (first : Lowers s) (second : Lowers t) where
         let f0 : again.0 ≡ u.0 = cc in
         let f1 : again.1 ≡ u.1 = cc in
         let r = one_half u.0 u.1 w.0 w.1 (λ i. (e0 i, e1 i)) (λ i. (f0 i, f1 i)) in
-        ap₂ (λ flag k. key_term (asymmetric_term flag k)) r.0 r.1
+        ap₂ (λ flag k. atom_term (key_term (asymmetric_term flag k))) r.0 r.1
 
-    one_variable : (sort : Sort) (n : ℕ) → apply_to_atom s (atom_of_variable (record { sort = sort; number = n })) ≡ apply_to_atom t (atom_of_variable (record { sort = sort; number = n }))
-    one_variable text_sort n = let u = atom_term (text_variable n) in ap text_variable (one_plain s.texts t.texts first.texts second.texts n (ap number_in (there u)) (ap number_in (back u)))
-    one_variable datum_sort n = let u = atom_term (datum_variable n) in ap datum_variable (one_plain s.datums t.datums first.datums second.datums n (ap number_in (there u)) (ap number_in (back u)))
-    one_variable name_sort n = let u = atom_term (name_variable n) in ap name_variable (one_plain s.names t.names first.names second.names n (ap number_in (there u)) (ap number_in (back u)))
+    one_variable : (sort : Sort) (n : ℕ) → apply_to s (variable_term (record { sort = sort; number = n })) ≡ apply_to t (variable_term (record { sort = sort; number = n }))
+    one_variable text_sort n = let u = atom_term (text_variable n) in ap (λ (m : ℕ). atom_term (text_variable m)) (one_plain s.texts t.texts first.texts second.texts n (ap number_in (there u)) (ap number_in (back u)))
+    one_variable datum_sort n = let u = atom_term (datum_variable n) in ap (λ (m : ℕ). atom_term (datum_variable m)) (one_plain s.datums t.datums first.datums second.datums n (ap number_in (there u)) (ap number_in (back u)))
+    one_variable name_sort n = let u = atom_term (name_variable n) in ap (λ (m : ℕ). atom_term (name_variable m)) (one_plain s.names t.names first.names second.names n (ap number_in (there u)) (ap number_in (back u)))
     one_variable skey_sort n =
         let e : atom_term (key_term (symmetric_term (apply_to_symmetric t (s.skeys n)))) ≡ atom_term (key_term (symmetric_term (t.skeys n))) = there (atom_term (key_term (symmetric_term (skey_variable n)))) in
         let f : atom_term (key_term (symmetric_term (apply_to_symmetric s (t.skeys n)))) ≡ atom_term (key_term (symmetric_term (s.skeys n))) = back (atom_term (key_term (symmetric_term (skey_variable n)))) in
         let p : apply_to_symmetric t (s.skeys n) ≡ t.skeys n = cc in
         let q : apply_to_symmetric s (t.skeys n) ≡ s.skeys n = cc in
-        ap (λ k. key_term (symmetric_term k)) (one_symmetric (s.skeys n) (t.skeys n) p q)
+        ap (λ k. atom_term (key_term (symmetric_term k))) (one_symmetric (s.skeys n) (t.skeys n) p q)
     one_variable akey_sort n = one_key n
 
     one_term : (u : Term) → apply_to s u ≡ apply_to t u

@@ -1,20 +1,22 @@
 -- Unifying the terms of two instances for each variable of a prefix, in the order of their declarations.
-use Rattle.std.proofs.Common.{◌≡◌, ◌⊎◌, inl, inr, ℕ, ◌<◌, ◌≤◌, ◌+◌, Bool, true, false, List, Some, map, min, length, get_or, refl, sym, ap, ◌∙◌, subst, arith, eq-or-lt_of_le}
+use Rattle.std.proofs.Common.{◌≡◌, ◌⊎◌, inl, inr, ℕ, ◌<◌, ◌≤◌, ◌+◌, Bool, true, false, List, Some, min, length, get_or, refl, sym, ap, ◌∙◌, subst, arith, eq-or-lt_of_le}
 use Rattle.cp_lists.specs.Lists.{item_at, IsIn}
-use Rattle.cp_model.specs.Term.{Sort, Variable, atom_of_variable, Term, Assignment, value_of_atom, value_of, after, Substitution}
-use Rattle.cp_model.specs.Strand.{Declaration, Role, Event, prefix_of, variables_of_trace, variables_of_prefix}
+use Rattle.cp_model.specs.Term.{Term, Assignment, value_of, after, Substitution, variable_term}
+use Rattle.cp_model.specs.declared.sort.Sort.{Sort}
+use Rattle.cp_model.specs.declared.variable.Variable.{Variable}
+use Rattle.cp_model.specs.Strand.{Role, prefix_of, variables_of_trace, variables_of_prefix}
+use Rattle.cp_model.specs.declared.variable.Declaration.{Declaration}
+use Rattle.cp_model.specs.declared.strand.Event.{Event}
 use Rattle.cp_model.specs.Homomorphism.{substitution_by}
 use Rattle.cp_model.specs.Problem.{declared_sort, IsDeclared}
 use Rattle.cp_model.proofs.LawPrefixes.{variables_of_higher}
-use Rattle.cp_lists.proofs.Items.{map_of_item, item_of_read}
+use Rattle.cp_lists.proofs.Items.{item_of_read}
 use Rattle.cp_unify.specs.Bindings.{Binding, Meets}
 use Rattle.cp_unify.specs.Unifiers.{IsMostGeneralUnifier, HasNoUnifier}
 use Rattle.cp_model.specs.Extensions.{IsClosedPrefix}
 use Rattle.cp_model.specs.Same.{has_variable}
 use Rattle.cp_model.proofs.SameTests.{variable_in, in_has_variable}
 use Rattle.cp_model.proofs.DeclaredVariables.{declared_below}
-use Rattle.cp_strand.specs.View.{declaration_view}
-use Rattle.cp_strand.specs.declared.protocol.Declaration.{Declaration as Declared}
 use Rattle.cp_collapse.specs.FirstPartitions.{IsExactFor}
 use Rattle.cp_collapse.specs.Partials.{AreSolved}
 use Rattle.cp_collapse.specs.Partitions.{HaveEqualValues}
@@ -24,9 +26,8 @@ use Rattle.cp_collapse.proofs.Exact.{exact_same, exact_unified, never_unified, e
 -- ---- the variable that is declared at a number
 
 -- The variable is that declared at its number.
-declared_there : (ds : List Declared) (n : ℕ) (d : Declared) (x : Variable) → n < length ds → d ≡ get_or ds n d → x ≡ record { sort = (declaration_view d).sort; number = n } → IsDeclared (map declaration_view ds) x
-declared_there ds n d x less is same =
-    subst (IsDeclared (map declaration_view ds)) (sym same) (ap declared_sort (map_of_item declaration_view ds n d (item_of_read ds n d less is)))
+declared_there : (ds : List Declaration) (n : ℕ) (d : Declaration) (x : Variable) → n < length ds → d ≡ get_or ds n d → x ≡ record { sort = d.sort; number = n } → IsDeclared ds x
+declared_there ds n d x less is same = subst (IsDeclared ds) (sym same) (ap declared_sort (item_of_read ds n d less is))
 
 -- Two declared variables with one number are one.
 one_at_number : (ds : List Declaration) (x y : Variable) → IsDeclared ds x → IsDeclared ds y → x.number ≡ y.number → x ≡ y
@@ -55,7 +56,7 @@ closed_lower role first second closed x i = closed x (variables_of_higher role (
 module _ (e : Assignment → Type 0) (role : Role) (height : ℕ) (s t : Substitution) where
   -- An assignment gives the variable one value after both substitutions.
   abbrev Agree : Assignment → Variable → Type 0
-  Agree g x = value_of_atom (after g s) (atom_of_variable x) ≡ value_of_atom (after g t) (atom_of_variable x)
+  Agree g x = value_of (after g s) (variable_term x) ≡ value_of (after g t) (variable_term x)
 
   -- The fact is true, and two instances agree on the variables of the prefix with smaller numbers than n.
   abbrev pub AgreeBelow : ℕ → Assignment → Type 0
@@ -127,11 +128,11 @@ test_there role role' height x y es b e same is test =
     ap (λ (r : Role). has_variable (variables_of_prefix r height) y) (sym same) ∙ ap (λ (fs : List (Event Term)). has_variable (variables_of_trace fs) y) (sym e) ∙ ap (has_variable (variables_of_trace es)) (sym is) ∙ sym test
 
 -- The variable that is declared at a number.
-abbrev pub variable_at : Declared → ℕ → Variable
-variable_at d n = record { sort = (declaration_view d).sort; number = n }
+abbrev pub variable_at : Declaration → ℕ → Variable
+variable_at d n = record { sort = d.sort; number = n }
 
 -- It is declared, and the test that was made of it says whether it occurs in the prefix.
-pub at_declaration : (role role' : Role) (height n id : ℕ) (ds : List Declared) (d : Declared) (es : List (Event Term)) (b : Bool) → n < length ds → d ≡ get_or ds n d → map declaration_view ds ≡ role.variables → es ≡ prefix_of role' height → role' ≡ role →
+pub at_declaration : (role role' : Role) (height n id : ℕ) (ds : List Declaration) (d : Declaration) (es : List (Event Term)) (b : Bool) → n < length ds → d ≡ get_or ds n d → ds ≡ role.variables → es ≡ prefix_of role' height → role' ≡ role →
     id ≡ n → b ≡ has_variable (variables_of_trace es) (variable_at d id) → IsDeclared role.variables (variable_at d n) × (has_variable (variables_of_prefix role height) (variable_at d n) ≡ b)
 at_declaration role role' height n id ds d es b less is are prefix same numbered test =
     (subst (λ vs. IsDeclared vs (variable_at d n)) are (declared_there ds n d (variable_at d n) less is refl), test_there role role' height (variable_at d id) (variable_at d n) es b prefix same (ap (variable_at d) numbered) test)

@@ -2,7 +2,8 @@
 use Rattle.std.proofs.Common.{◌≡◌, suc, List, refl, sym, ap, ◌∙◌, subst}
 use Rattle.cp_lists.specs.Lists.{IsIn, one_step, more_steps}
 use Rattle.cp_model.specs.Term.{AtomTerm, Term, atom_term, Substitution}
-use Rattle.cp_model.specs.Strand.{Event, OriginatesInTerms}
+use Rattle.cp_model.specs.Strand.{OriginatesInTerms}
+use Rattle.cp_model.specs.declared.strand.Event.{Event}
 use Rattle.cp_model.specs.Bundle.{node_at}
 use Rattle.cp_model.specs.declared.node.Node.{Node}
 use Rattle.cp_model.specs.Skeleton.{UniqueAt, Assumptions, Skeleton, term_event_at, OrderStep, along_strand_of, along_pair, Before}

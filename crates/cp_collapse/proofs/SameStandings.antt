@@ -2,26 +2,26 @@
 use Rattle.std.proofs.Common.{◌≡◌, ℕ, [], ◌∷◌, Some, map, sym, ap, ◌∙◌, subst, subst₂}
 use Rattle.cp_lists.specs.Lists.{item_at, IsIn, here}
 use Rattle.cp_model.specs.Message.{atom}
-use Rattle.cp_model.specs.Term.{atom_of_variable, value_of, value_of_atom, Substitution, AgreeOnTerms}
+use Rattle.cp_model.specs.Term.{value_of, value_of_atom, Substitution, AgreeOnTerms, variable_term}
 use Rattle.cp_model.specs.Strand.{Role, Protocol, variables_of_prefix}
 use Rattle.cp_model.specs.Bundle.{KeepsUnique, Bundle, Precedes}
 use Rattle.cp_model.specs.declared.node.Node.{Node}
 use Rattle.cp_model.specs.Skeleton.{instance, UniqueAt, Assumptions, FromProblem, Skeleton}
 use Rattle.cp_model.specs.Standing.{Standing, image_of, StandsOnRegular, StandsIn, StandsApart}
 use Rattle.cp_model.specs.Homomorphism.{FactorsThrough}
-use Rattle.cp_model.proofs.LawTerms.{atom_after}
 use Rattle.cp_theory.specs.Normal.{LosesNoStanding}
 use Rattle.cp_theory.proofs.Under.{stands_on_equal, factors_then}
 use Rattle.cp_collapse.specs.SameSkeletons.{SaysTheSame}
 use Rattle.cp_collapse.proofs.SameStrands.{instance_at, listener_at, same_image_at}
 use Rattle.cp_collapse.proofs.SameFacts.{says_back, same_before}
+use Rattle.cp_model.proofs.LawTerms.{value_after}
 
 -- An instance stands where one with agreeing terms does.
 agreeing_stands : (b : Bundle) (h : Standing) (a : ℕ) (role : Role) (height : ℕ) (s t : Substitution) → AgreeOnTerms (variables_of_prefix role height) s t → StandsOnRegular b h a role height s → StandsOnRegular b h a role height t
 agreeing_stands b h a role height s t agree st = stands_on_equal b h a role height s t st (λ x i.
-    atom_after h.values t (atom_of_variable x)
-    ∙ ap (value_of_atom h.values) (sym (agree x i))
-    ∙ sym (atom_after h.values s (atom_of_variable x)))
+    value_after h.values t (variable_term x)
+    ∙ ap (value_of h.values) (sym (agree x i))
+    ∙ sym (value_after h.values s (variable_term x)))
 
 module _ (k l : Skeleton) (s : SaysTheSame k l) where
   pub same_image : (h : Standing) (n : Node) → image_of k h n ≡ image_of l h n

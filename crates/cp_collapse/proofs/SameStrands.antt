@@ -1,13 +1,14 @@
 -- Strands that say the same: saying the same is an equivalence, and their traces are equal.
 use Rattle.std.proofs.Common.{◌≡◌, ℕ, zero, suc, List, [], ◌∷◌, Some, map, refl, sym, ap, ap₂, ◌∙◌, subst, subst₂, ◌≤◌, length, le_refl, arith}
 use Rattle.cp_lists.specs.Lists.{item_at, IsIn}
-use Rattle.cp_model.specs.Term.{Term, variables_of, atom_of_variable, Substitution, apply_to, apply_to_atom, AgreeOnTerms}
-use Rattle.cp_model.specs.Strand.{Event, payload, event_map, Role, prefix_of, variables_of_trace, variables_of_prefix}
+use Rattle.cp_model.specs.Term.{Term, variables_of, Substitution, apply_to, AgreeOnTerms, variable_term}
+use Rattle.cp_model.specs.Strand.{payload, event_map, Role, prefix_of, variables_of_trace, variables_of_prefix}
+use Rattle.cp_model.specs.declared.strand.Event.{Event}
 use Rattle.cp_model.specs.declared.node.Node.{Node}
 use Rattle.cp_model.specs.Skeleton.{SkeletonStrand, instance, listener, skeleton_trace, skeleton_trace_or_none, term_event_at}
 use Rattle.cp_model.specs.Standing.{image_on}
 use Rattle.cp_lists.proofs.Members.{in_append_left, in_append_right}
-use Rattle.cp_model.proofs.LawTerms.{atom_composed}
+use Rattle.cp_model.proofs.LawTerms.{term_composed}
 use Rattle.cp_theory.specs.Normal.{strand_under}
 use Rattle.cp_model.proofs.LawAgreement.{agree_event}
 use Rattle.cp_collapse.specs.SameSkeletons.{IsSameStrand, same_instance, same_listener, AreSameStrands, no_strands, same_strands}
@@ -29,7 +30,7 @@ instance_like (same_instance {role = r} {height = n} {terms = own} {terms' = oth
     let o : other ≡ terms = cc in (
       own,
       ap₂ (λ (x : Role) (m : ℕ). instance x m own) p q,
-      λ x i. a x (subst₂ (λ (y : Role) (m : ℕ). IsIn x (variables_of_prefix y m)) (sym p) (sym q) i) ∙ ap (λ (d : Substitution). apply_to_atom d (atom_of_variable x)) o,
+      λ x i. a x (subst₂ (λ (y : Role) (m : ℕ). IsIn x (variables_of_prefix y m)) (sym p) (sym q) i) ∙ ap (λ (d : Substitution). apply_to d (variable_term x)) o,
     )
 instance_like same_listener role height terms e = absurd (cc)
 
@@ -102,7 +103,7 @@ same_image_at (same_strands p ps) (suc j) start i = same_image_at ps j start i
 -- Under a substitution they say the same.
 same_strand_under : (d : Substitution) {s t : SkeletonStrand} → IsSameStrand s t → IsSameStrand (strand_under d s) (strand_under d t)
 same_strand_under d (same_instance {terms = s} {terms' = t} a) =
-    same_instance (λ x i. atom_composed s d (atom_of_variable x) ∙ ap (apply_to_atom d) (a x i) ∙ sym (atom_composed t d (atom_of_variable x)))
+    same_instance (λ x i. term_composed s d (variable_term x) ∙ ap (apply_to d) (a x i) ∙ sym (term_composed t d (variable_term x)))
 same_strand_under d same_listener = same_listener
 
 pub all_same_under : (d : Substitution) {ss ts : List SkeletonStrand} → AreSameStrands ss ts → AreSameStrands (map (strand_under d) ss) (map (strand_under d) ts)

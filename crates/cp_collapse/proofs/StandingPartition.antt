@@ -2,12 +2,12 @@
 use Rattle.std.proofs.Common.{◌≡◌, ◌≢◌, inl, inr, ℕ, ◌<◌, ◌≤◌, Bool, true, ◌&&◌, nat_eq, List, Option, Some, None, map, length, refl, sym, ap, ◌∙◌, subst, arith, eq-eqb, eqb-true}
 use Rattle.std.proofs.lemmas.List.{length-map}
 use Rattle.cp_lists.specs.Lists.{item_at}
-use Rattle.cp_model.specs.Term.{atom_of_variable, Assignment, value_of_atom, Substitution}
+use Rattle.cp_model.specs.Term.{Assignment, Substitution, variable_term, value_of}
 use Rattle.cp_model.specs.Strand.{Role, Strand, regular}
 use Rattle.cp_model.specs.Bundle.{Bundle}
 use Rattle.cp_model.specs.Skeleton.{SkeletonStrand, instance, listener, Skeleton}
 use Rattle.cp_model.specs.Standing.{Standing, StandsIn, StandsApart}
-use Rattle.cp_model.proofs.Numbers.{numbers_length}
+use Rattle.cp_model.proofs.NumbersFrom.{numbers_length}
 use Rattle.cp_lists.proofs.Items.{item_of_map, map_of_item, item_below}
 use Rattle.cp_collapse.specs.Partitions.{is_some_instance, AreOfOneRole, IsPartitionByRole, finest, AreTogether, IdentifiesValues}
 use Rattle.cp_collapse.proofs.Lowest.{both, low, low_below, low_with, low_same, low_of_low, numbers_at, at_numbers}
@@ -115,7 +115,7 @@ module _ (k : Skeleton) (h : Standing) where
         let st = stands.instances s role height terms at in
         let su = stands.instances t role height' terms' au in
         let same = regulars_at (subst (λ (m : ℕ). item_at b.strands m ≡ Some (regular role st.to_height st.to_values)) (one_strand s t a) st.on_regular) su.on_regular in
-        st.equal_values x inx ∙ ap (λ (g : Assignment). value_of_atom g (atom_of_variable x)) same.1 ∙ sym (su.equal_values x inx')
+        st.equal_values x inx ∙ ap (λ (g : Assignment). value_of g (variable_term x)) same.1 ∙ sym (su.equal_values x inx')
 
   -- Where each strand is alone, the skeleton stands apart.
   pub apart_if_finest : partition ≡ finest k → StandsApart k h

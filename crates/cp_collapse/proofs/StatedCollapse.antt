@@ -1,11 +1,15 @@
 -- A collapse of a skeleton that keeps what its problem states keeps it too.
-use Rattle.std.proofs.Common.{◌≡◌, ◌↔◌, ◌<◌, ◌+◌, ℕ, List, Some, length, sym, ap, ◌∙◌, subst, arith}
-use Rattle.cp_lists.specs.Lists.{item_at, IsIn}
-use Rattle.cp_model.specs.Term.{Variable, AtomTerm, variables_of_atom, Term, Substitution, apply_to_atom}
-use Rattle.cp_model.specs.Strand.{Event, send, recv, Declaration, Protocol}
+use Rattle.std.proofs.Common.{◌≡◌, ◌↔◌, ◌<◌, ◌+◌, ℕ, suc, List, Some, length, sym, ap, ◌∙◌, arith}
+use Rattle.cp_lists.specs.Lists.{item_at, IsIn, one_step, more_steps}
+use Rattle.cp_model.specs.Term.{AtomTerm, variables_of_atom, Term, Substitution, apply_to_atom}
+use Rattle.cp_model.specs.declared.variable.Variable.{Variable}
+use Rattle.cp_model.specs.Strand.{Protocol}
+use Rattle.cp_model.specs.declared.strand.Event.{Event}
+use Rattle.cp_model.specs.declared.strand.Event.TheVariants.{Send as send, Receive as recv}
+use Rattle.cp_model.specs.declared.variable.Declaration.{Declaration}
 use Rattle.cp_model.specs.Bundle.{node_at}
 use Rattle.cp_model.specs.declared.node.Node.{Node}
-use Rattle.cp_model.specs.Skeleton.{instance, term_event_at, UniqueAt, Skeleton, IsSkeleton}
+use Rattle.cp_model.specs.Skeleton.{instance, term_event_at, UniqueAt, Skeleton, OrderStep, along_strand_of, along_pair, Before, IsSkeleton}
 use Rattle.cp_model.specs.declared.node.OrderPair.{OrderPair}
 use Rattle.cp_model.specs.Problem.{IsDeclared}
 use Rattle.cp_model.specs.PointOfView.{StatesItself}
@@ -14,24 +18,33 @@ use Rattle.cp_model.specs.Stated.{unique_image, pair_image, IsImageOfOne, KeepsS
 use Rattle.cp_lists.proofs.Items.{item_below, map_of_item}
 use Rattle.cp_model.proofs.LawStandings.{strand_of_event}
 use Rattle.cp_model.proofs.Images.{images_then}
+use Rattle.cp_model.proofs.OwnOrder.{own_before}
 use Rattle.cp_theory.proofs.StatedSteps.{non_declared, penetrator_non_declared, unique_declared, value_under}
 use Rattle.cp_collapse.specs.Partitions.{place_in}
 use Rattle.cp_collapse.specs.Collapses.{unique_in, collapsed_pair, IsCollapsed}
 use Rattle.cp_collapse.proofs.CollapsedFromProblem.{own_of, in_range_in, own_non, own_penetrator_non, own_unique, assumed_in, ordered_in}
 use Rattle.cp_collapse.proofs.Lowest.{numbers_at}
 
--- The strands of a problem's recorded origins and pairs are there.
+-- The strands of a problem's recorded origins, of its order and of the pairs that it states are there.
 module _ (protocol : Protocol) (variables : List Declaration) (problem : Skeleton) (sk : IsSkeleton protocol problem) (own : StatesItself variables problem) where
-  pub node_below : (n : Node) (e : Event Term) → term_event_at problem.strands n ≡ Some e → n.strand < length problem.strands
+  node_below : (n : Node) (e : Event Term) → term_event_at problem.strands n ≡ Some e → n.strand < length problem.strands
   node_below n e at = let r = strand_of_event problem.strands n e at in item_below problem.strands n.strand r.0 r.1
 
   pub origin_below : (u : UniqueAt) → IsIn u problem.from_problem.assumptions.uniquely_originating → u.origin.strand < length problem.strands
   origin_below u i = let o = sk.origins u (own.assumed.unique u i) in item_below problem.strands u.origin.strand (instance o.role o.height o.terms) o.on_instance
 
-  pub pair_below : (q : OrderPair) → IsIn q problem.from_problem.pairs → (q.earlier.strand < length problem.strands) × (q.later.strand < length problem.strands)
-  pair_below q i =
-      let o = sk.order_pairs q (subst (IsIn q) own.pairs i) in
+  step_below : {x y : Node} → OrderStep problem x y → (x.strand < length problem.strands) × (y.strand < length problem.strands)
+  step_below (along_strand_of {s = s} {i = i} {e = e} at) = let below : s < length problem.strands = node_below (node_at s (suc i)) e at in (below, below)
+  step_below (along_pair {p = q} i) =
+      let o = sk.order_pairs q i in
       (node_below q.earlier (send o.sent) o.transmission, node_below q.later (recv o.received) o.reception)
+
+  pub before_below : {x y : Node} → Before problem x y → (x.strand < length problem.strands) × (y.strand < length problem.strands)
+  before_below (one_step s) = step_below s
+  before_below (more_steps s r) = ((step_below s).0, (before_below r).1)
+
+  pub pair_below : (q : OrderPair) → IsIn q problem.from_problem.pairs → (q.earlier.strand < length problem.strands) × (q.later.strand < length problem.strands)
+  pair_below q i = before_below (own_before problem own.ordered q i)
 
 module _ (protocol : Protocol) (variables : List Declaration) (problem k l : Skeleton) (p : List ℕ) (sp : IsSkeleton protocol problem) (own : StatesItself variables problem) (sk : IsSkeleton protocol k)
     (carries : CarriesHomomorphism problem k) (c : IsCollapsed k p l) (keeps : KeepsStated problem k) where

@@ -1,8 +1,12 @@
 -- What a substitution that is kept for the declared variables alone gives them, and strands that are made so.
 use Rattle.std.proofs.Common.{◌≡◌, ◌+◌, ℕ, zero, suc, List, [], ◌∷◌, map, Some, refl, sym, ap, ◌∙◌, subst, arith}
 use Rattle.cp_lists.specs.Lists.{item_at}
-use Rattle.cp_model.specs.Term.{Sort, text_sort, datum_sort, name_sort, skey_sort, akey_sort, Variable, KeyTerm, symmetric_term, asymmetric_term, AtomTerm, text_variable, datum_variable, name_variable, key_term, Term, atom_term, atom_of_variable, Substitution, apply_to_atom, composed}
-use Rattle.cp_model.specs.Strand.{Declaration, Role}
+use Rattle.cp_model.specs.Term.{symmetric_term, asymmetric_term, text_variable, datum_variable, name_variable, key_term, Term, atom_term, atom_of_variable, Substitution, composed, variable_term, apply_to}
+use Rattle.cp_model.specs.declared.sort.Sort.{Sort}
+use Rattle.cp_model.specs.declared.sort.Sort.TheVariants.{Text as text_sort, Datum as datum_sort, Name as name_sort, Skey as skey_sort, Akey as akey_sort}
+use Rattle.cp_model.specs.declared.variable.Variable.{Variable}
+use Rattle.cp_model.specs.Strand.{Role}
+use Rattle.cp_model.specs.declared.variable.Declaration.{Declaration}
 use Rattle.cp_model.specs.Skeleton.{SkeletonStrand, instance, listener, Assumptions, FromProblem, Skeleton}
 use Rattle.cp_model.specs.declared.node.OrderPair.{OrderPair}
 use Rattle.cp_model.specs.Homomorphism.{text_in, datum_in, name_in, skey_in, akey_in, substitution_by}
@@ -11,7 +15,7 @@ use Rattle.cp_lists.proofs.Items.{map_of_item}
 use Rattle.cp_theory.specs.Normal.{strand_under, assumptions_under, from_problem_under, skeleton_under}
 use Rattle.cp_unify.specs.Bindings.{sort_of}
 use Rattle.cp_model.specs.Extensions.{IsClosedPrefix}
-use Rattle.cp_model.specs.Data.{Declared, InstanceData, StrandData, SkeletonData, skeleton_of}
+use Rattle.cp_model.specs.Data.{InstanceData, StrandData, SkeletonData, skeleton_of}
 use Rattle.cp_strand.specs.View.{instance_as_data, strand_view}
 use Rattle.cp_skel.specs.View.{skeleton_view}
 use Rattle.cp_skel.specs.DeclaredPrefixes.{HasDeclaredPrefixes}
@@ -21,13 +25,6 @@ use Rattle.cp_collapse.specs.Values.{image_of_variable, on_declared, declared_un
 
 -- ---- sorts
 
-sort_kept : (s : Substitution) (a : AtomTerm) → sort_of (apply_to_atom s a) ≡ sort_of a
-sort_kept s (text_variable n) = refl
-sort_kept s (datum_variable n) = refl
-sort_kept s (name_variable n) = refl
-sort_kept s (key_term (symmetric_term k)) = refl
-sort_kept s (key_term (asymmetric_term flag k)) = refl
-
 pub sort_of_variable : (sort : Sort) (n : ℕ) → sort_of (atom_of_variable (record { sort = sort; number = n })) ≡ sort
 sort_of_variable text_sort n = refl
 sort_of_variable datum_sort n = refl
@@ -35,17 +32,15 @@ sort_of_variable name_sort n = refl
 sort_of_variable skey_sort n = refl
 sort_of_variable akey_sort n = refl
 
--- ---- the term at a variable's number, of its sort
+-- ---- the term at a variable's number
 
-key_is : (ts : List Term) (n : ℕ) (k : KeyTerm) (sort : Sort) → sort_of (key_term k) ≡ sort → item_at ts n ≡ Some (atom_term (key_term k)) → apply_to_atom (substitution_by ts) (atom_of_variable (record { sort = sort; number = n })) ≡ key_term k
-key_is ts n (symmetric_term k) sort q e = subst (λ (s : Sort). apply_to_atom (substitution_by ts) (atom_of_variable (record { sort = s; number = n })) ≡ key_term (symmetric_term k)) q (ap (λ o. key_term (symmetric_term (skey_in n o))) e)
-key_is ts n (asymmetric_term flag k) sort q e = subst (λ (s : Sort). apply_to_atom (substitution_by ts) (atom_of_variable (record { sort = s; number = n })) ≡ key_term (asymmetric_term flag k)) q (ap (λ o. key_term (asymmetric_term (akey_in n o).0 (akey_in n o).1)) e)
-
-value_is : (ts : List Term) (n : ℕ) (a : AtomTerm) (sort : Sort) → sort_of a ≡ sort → item_at ts n ≡ Some (atom_term a) → apply_to_atom (substitution_by ts) (atom_of_variable (record { sort = sort; number = n })) ≡ a
-value_is ts n (text_variable m) sort q e = subst (λ (s : Sort). apply_to_atom (substitution_by ts) (atom_of_variable (record { sort = s; number = n })) ≡ text_variable m) q (ap (λ o. text_variable (text_in n o)) e)
-value_is ts n (datum_variable m) sort q e = subst (λ (s : Sort). apply_to_atom (substitution_by ts) (atom_of_variable (record { sort = s; number = n })) ≡ datum_variable m) q (ap (λ o. datum_variable (datum_in n o)) e)
-value_is ts n (name_variable m) sort q e = subst (λ (s : Sort). apply_to_atom (substitution_by ts) (atom_of_variable (record { sort = s; number = n })) ≡ name_variable m) q (ap (λ o. name_variable (name_in n o)) e)
-value_is ts n (key_term k) sort q e = key_is ts n k sort q e
+-- A variable becomes what stands at its number, where that is what a substitution gives it.
+value_is : (s : Substitution) (ts : List Term) (sort : Sort) (n : ℕ) → (let x : Variable = record { sort = sort; number = n } in item_at ts n ≡ Some (apply_to s (variable_term x)) → apply_to (substitution_by ts) (variable_term x) ≡ apply_to s (variable_term x))
+value_is s ts text_sort n e = ap (λ o. atom_term (text_variable (text_in n o))) e
+value_is s ts datum_sort n e = ap (λ o. atom_term (datum_variable (datum_in n o))) e
+value_is s ts name_sort n e = ap (λ o. atom_term (name_variable (name_in n o))) e
+value_is s ts skey_sort n e = ap (λ o. atom_term (key_term (symmetric_term (skey_in n o)))) e
+value_is s ts akey_sort n e = ap (λ o. atom_term (key_term (asymmetric_term (akey_in n o).0 (akey_in n o).1))) e
 
 -- ---- declared variables
 
@@ -59,9 +54,9 @@ declared_item m zero k (d ∷ ds) sort e at =
 declared_item m (suc n) k (d ∷ ds) sort e at = let next : k ≡ suc m + n = omega (arith, e) in declared_item (suc m) n k ds sort next at
 
 -- A declared variable becomes what the substitution gives it.
-pub declared_kept : (role : Role) (s : Substitution) (x : Variable) → IsDeclared role.variables x → apply_to_atom s (atom_of_variable x) ≡ apply_to_atom (on_declared role s) (atom_of_variable x)
+pub declared_kept : (role : Role) (s : Substitution) (x : Variable) → IsDeclared role.variables x → apply_to s (variable_term x) ≡ apply_to (on_declared role s) (variable_term x)
 declared_kept role s x declared =
-    sym (value_is (terms_of s (declared_variables 0 role.variables)) x.number (apply_to_atom s (atom_of_variable x)) x.sort (sort_kept s (atom_of_variable x) ∙ sort_of_variable x.sort x.number)
+    sym (value_is s (terms_of s (declared_variables 0 role.variables)) x.sort x.number
     (map_of_item (image_of_variable s) (declared_variables 0 role.variables) x.number x (declared_item 0 x.number x.number role.variables x.sort (omega arith) declared)))
 
 -- ---- strands
@@ -86,7 +81,7 @@ says_the_same s k l declared strands pairs assumptions from_problem = record {
 }
 
 -- The same of the program's skeleton of these parts.
-pub made_under : (s : Substitution) (k : SkeletonData) (variables : List Declared) (strands : List StrandData) (order : List OrderPair) (assumptions : Assumptions) (from_problem : FromProblem) → HasDeclaredPrefixes (skeleton_view k) →
+pub made_under : (s : Substitution) (k : SkeletonData) (variables : List Declaration) (strands : List StrandData) (order : List OrderPair) (assumptions : Assumptions) (from_problem : FromProblem) → HasDeclaredPrefixes (skeleton_view k) →
     map strand_view strands ≡ map (declared_under s) (map strand_view k.strands) → order ≡ k.order → assumptions ≡ assumptions_under s k.assumptions → from_problem ≡ from_problem_under s k.from_problem →
     SaysTheSame (skeleton_under s (skeleton_view k)) (skeleton_view (skeleton_of variables strands order assumptions from_problem))
 made_under s k variables strands order assumptions from_problem = says_the_same s (skeleton_view k) (skeleton_view (skeleton_of variables strands order assumptions from_problem))

@@ -1,14 +1,18 @@
 -- The variables of collapses are declared.
 use Rattle.std.proofs.Common.{◌≡◌, ℕ, List, [], ◌∷◌, ◌++◌, Some, map, refl, sym, ap, ◌∙◌, subst, ⊎_elim}
 use Rattle.cp_lists.specs.Lists.{item_at, IsIn, here, there}
-use Rattle.cp_model.specs.Term.{Variable, atom_of_variable, AtomTerm, Term, variables_of_atom, variables_of, value_of_atom, after, Substitution, apply_to_atom, apply_to, composed}
-use Rattle.cp_model.specs.Strand.{Declaration, Event, send, recv, payload, event_map, Role, prefix_of, variables_of_trace, variables_of_prefix}
+use Rattle.cp_model.specs.Term.{AtomTerm, Term, variables_of_atom, variables_of, after, Substitution, apply_to_atom, apply_to, composed, variable_term, value_of}
+use Rattle.cp_model.specs.declared.variable.Variable.{Variable}
+use Rattle.cp_model.specs.Strand.{payload, event_map, Role, prefix_of, variables_of_trace, variables_of_prefix}
+use Rattle.cp_model.specs.declared.variable.Declaration.{Declaration}
+use Rattle.cp_model.specs.declared.strand.Event.{Event}
+use Rattle.cp_model.specs.declared.strand.Event.TheVariants.{Send as send, Receive as recv}
 use Rattle.cp_model.specs.Skeleton.{SkeletonStrand, instance, listener, skeleton_trace, UniqueAt, Skeleton}
 use Rattle.cp_model.specs.Problem.{IsDeclared, variables_of_strands, variables_of_atoms, variables_of_uniques, variables_of_assumptions, variables_of_skeleton}
 use Rattle.cp_model.specs.PointOfView.{HasDeclaredVariables}
 use Rattle.cp_lists.proofs.Members.{in_append, in_append_left, in_append_right, from_map}
-use Rattle.cp_model.proofs.LawTerms.{atom_after, atom_composed}
-use Rattle.cp_model.proofs.LawAgreement.{agree_atom}
+use Rattle.cp_model.proofs.LawTerms.{value_after, term_composed}
+use Rattle.cp_model.proofs.LawAgreement.{agree_term}
 use Rattle.cp_model.proofs.OccurringVariables.{in_trace_under, in_strands, in_atoms, in_uniques, strand_with, atom_with, unique_with}
 use Rattle.cp_theory.proofs.Under.{trace_under}
 use Rattle.cp_unify.proofs.Free.{free}
@@ -70,20 +74,20 @@ module _ (variables : List Declaration) (k : Skeleton) (h : HasDeclaredVariables
 
   -- Its substitutions depend on what they give declared variables.
   instance_alike : (s t : Substitution) → AgreeOnDeclared variables s t → (n : ℕ) (role : Role) (height : ℕ) (terms : Substitution) → item_at k.strands n ≡ Some (instance role height terms) →
-      (x : Variable) → IsIn x (variables_of_prefix role height) → apply_to_atom (composed terms s) (atom_of_variable x) ≡ apply_to_atom (composed terms t) (atom_of_variable x)
+      (x : Variable) → IsIn x (variables_of_prefix role height) → apply_to (composed terms s) (variable_term x) ≡ apply_to (composed terms t) (variable_term x)
   instance_alike s t agree n role height terms at x i =
-      atom_composed terms s (atom_of_variable x)
-      ∙ agree_atom s t (apply_to_atom terms (atom_of_variable x)) (λ y j. agree y (strand_declared n (instance role height terms) at y (in_trace_under terms (prefix_of role height) x y i j)))
-      ∙ sym (atom_composed terms t (atom_of_variable x))
+      term_composed terms s (variable_term x)
+      ∙ agree_term s t (apply_to terms (variable_term x)) (λ y j. agree y (strand_declared n (instance role height terms) at y (in_trace_under terms (prefix_of role height) x y i j)))
+      ∙ sym (term_composed terms t (variable_term x))
 
 -- ---- collapses
 
 -- The value of a variable under one substitution after another.
-pub value_composed : (t d : Substitution) (x : Variable) → value_of_atom (after (after free t) d) (atom_of_variable x) ≡ value_of_atom free (apply_to_atom (composed d t) (atom_of_variable x))
+pub value_composed : (t d : Substitution) (x : Variable) → value_of (after (after free t) d) (variable_term x) ≡ value_of free (apply_to (composed d t) (variable_term x))
 value_composed t d x =
-    atom_after (after free t) d (atom_of_variable x)
-    ∙ atom_after free t (apply_to_atom d (atom_of_variable x))
-    ∙ ap (value_of_atom free) (sym (atom_composed d t (atom_of_variable x)))
+    value_after (after free t) d (variable_term x)
+    ∙ value_after free t (apply_to d (variable_term x))
+    ∙ ap (value_of free) (sym (term_composed d t (variable_term x)))
 
 module _ (variables : List Declaration) (k : Skeleton) (h : HasDeclaredVariables variables k) (p : List ℕ) (l : Skeleton) (part : IsPartitionByRole k p) (collapsed : IsCollapsed k p l) where
   abbrev f : Substitution
@@ -95,7 +99,7 @@ module _ (variables : List Declaration) (k : Skeleton) (h : HasDeclaredVariables
       let one = instance_alike variables k h t f agree n role height terms at x i in
       let other = instance_alike variables k h t f agree m role height' terms' au x j in
       value_composed t terms x
-      ∙ ap (value_of_atom free) (one ∙ collapsed.most_general.identifies n m role height terms height' terms' at au together x i j ∙ sym other)
+      ∙ ap (value_of free) (one ∙ collapsed.most_general.identifies n m role height terms height' terms' at au together x i j ∙ sym other)
       ∙ sym (value_composed t terms' x)
 
   keeps : KeepsDeclared variables f

@@ -1,7 +1,8 @@
 -- Partitions of the strands of a skeleton into blocks of instances of one role, and what gives a block equal values.
 use Rattle.std.specs.Prelude.{◌≡◌, ◌≢◌, ◌≤◌, ◌<◌, ◌⊎◌, ◌+◌, ◌==◌, ℕ, zero, suc, List, [], ◌∷◌, Option, Some, None, Bool, true, false, if◌then◌else◌, length}
 use Rattle.cp_lists.specs.Lists.{item_at, IsIn}
-use Rattle.cp_model.specs.Term.{Variable, atom_of_variable, Assignment, value_of_atom, after, Substitution, apply_to_atom, composed}
+use Rattle.cp_model.specs.Term.{Assignment, after, Substitution, composed, variable_term, value_of, apply_to}
+use Rattle.cp_model.specs.declared.variable.Variable.{Variable}
 use Rattle.cp_model.specs.Strand.{Role, variables_of_prefix}
 use Rattle.cp_model.specs.Bundle.{node_at}
 use Rattle.cp_model.specs.declared.node.Node.{Node}
@@ -68,12 +69,12 @@ abbrev pub Identifies : Skeleton → List ℕ → Substitution → Type 0
 Identifies k p f = (s t : ℕ) (role : Role) (height : ℕ) (terms : Substitution) (height' : ℕ) (terms' : Substitution) →
     item_at k.strands s ≡ Some (instance role height terms) → item_at k.strands t ≡ Some (instance role height' terms') → AreTogether p s t →
     (x : Variable) → IsIn x (variables_of_prefix role height) → IsIn x (variables_of_prefix role height') →
-    apply_to_atom (composed terms f) (atom_of_variable x) ≡ apply_to_atom (composed terms' f) (atom_of_variable x)
+    apply_to (composed terms f) (variable_term x) ≡ apply_to (composed terms' f) (variable_term x)
 
 -- An assignment gives two instances of one role equal values: the same value of each variable that is in both prefixes.
 abbrev pub HaveEqualValues : Role → ℕ → Substitution → ℕ → Substitution → Assignment → Type 0
 HaveEqualValues role height terms height' terms' g =
-    (x : Variable) → IsIn x (variables_of_prefix role height) → IsIn x (variables_of_prefix role height') → value_of_atom (after g terms) (atom_of_variable x) ≡ value_of_atom (after g terms') (atom_of_variable x)
+    (x : Variable) → IsIn x (variables_of_prefix role height) → IsIn x (variables_of_prefix role height') → value_of (after g terms) (variable_term x) ≡ value_of (after g terms') (variable_term x)
 
 -- An assignment gives the strands of each block equal values.
 abbrev pub IdentifiesValues : Skeleton → List ℕ → Assignment → Type 0

@@ -1,5 +1,6 @@
 -- Instances under substitutions, with terms for the variables that their roles declare.
-use Rattle.cp_model.specs.Term.{Variable, Term, atom_term, atom_of_variable, Substitution, apply_to, apply_to_atom, composed}
+use Rattle.cp_model.specs.Term.{Term, Substitution, apply_to, composed, variable_term}
+use Rattle.cp_model.specs.declared.variable.Variable.{Variable}
 use Rattle.cp_model.specs.Strand.{Role}
 use Rattle.cp_model.specs.Skeleton.{SkeletonStrand, instance, listener}
 use Rattle.cp_model.specs.Homomorphism.{substitution_by}
@@ -7,7 +8,7 @@ use Rattle.cp_model.specs.PrefixVariables.{declared_variables, terms_of}
 
 -- What a substitution gives a variable, as a term.
 abbrev pub image_of_variable : Substitution → Variable → Term
-image_of_variable s x = atom_term (apply_to_atom s (atom_of_variable x))
+image_of_variable s x = apply_to s (variable_term x)
 
 -- The substitution that gives a role's variables what s gives them, and leaves all others.
 abbrev pub on_declared : Role → Substitution → Substitution

@@ -1,9 +1,8 @@
 // The terms of an instance's variables.
-ghost use Rattle.std.specs.Prelude.{◌≡◌, map, IfOk};
+ghost use Rattle.std.specs.Prelude.{◌≡◌, IfOk};
 ghost use Rattle.cp_model.specs.Homomorphism.{substitution_by};
 ghost use Rattle.cp_model.specs.Term.{composed};
 ghost use Rattle.cp_model.specs.PrefixVariables.{declared_variables, terms_of};
-ghost use Rattle.cp_strand.specs.View.{sort_view, declaration_view};
 ghost use Rattle.cp_unify.specs.Bindings.{as_substitution};
 ghost use Rattle.cp_collapse.specs.Values.{image_of_variable};
 
@@ -20,7 +19,7 @@ pub(crate) fn term_of_variable(
     id: VarId,
     sort: Sort,
 ) -> Result<Term, AllocError>
-    ensures { IfOk result (λ t. t ≡ image_of_variable (substitution_by terms.now) (record { sort = sort_view sort; number = id })) }
+    ensures { IfOk result (λ t. t ≡ image_of_variable (substitution_by terms.now) (record { sort = sort; number = id })) }
 {
     value_of_variable(alloc, terms, id, sort)
 }
@@ -32,7 +31,7 @@ pub(crate) fn declared_terms(
     terms: &[Term],
     s: &Subst,
 ) -> Result<Vec<Term>, AllocError>
-    ensures { IfOk result (λ v. v.items ≡ terms_of (composed (substitution_by terms.now) (as_substitution s.now)) (declared_variables 0 (map declaration_view declarations.now))) }
+    ensures { IfOk result (λ v. v.items ≡ terms_of (composed (substitution_by terms.now) (as_substitution s.now)) (declared_variables 0 declarations.now)) }
 {
     let mut changed = Vec::with_capacity(alloc, declarations.len())?;
     for (number, declaration) in declarations.iter().enumerate() {

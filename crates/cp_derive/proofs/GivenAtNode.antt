@@ -1,26 +1,25 @@
 -- What is given at a node of a skeleton by the transmissions that reach it.
-use Rattle.std.proofs.Common.{ℕ, suc, ◌+◌, ◌<◌, ◌≤◌, ◌++◌, length, get_or, drop, append_assoc, arith, List, [], ◌∷◌, map, Option, Some, None, ◌≡◌, refl, sym, subst, ap, ◌∙◌}
+use Rattle.cp_skel.specs.declared.events.LocatedEvent.{LocatedEvent}
+use Rattle.std.proofs.Common.{ℕ, suc, ◌+◌, ◌<◌, ◌≤◌, ◌++◌, length, get_or, drop, append_assoc, arith, List, [], ◌∷◌, Option, Some, None, ◌≡◌, refl, sym, subst, ap, ◌∙◌}
 use Rattle.std.specs.Prelude.{◌↔◌, option_map}
 use Rattle.std.proofs.Math.Seq.{drop-cons}
 use Rattle.std.proofs.lemmas.List.{append-nil, drop_all}
 use Rattle.cp_skel.specs.Ordered.{IsOrdered}
 use Rattle.cp_skel.specs.Sound.{IsSound}
-use Rattle.cp_strand.specs.View.{event_view}
-use Rattle.cp_strand.specs.declared.protocol.Event.{Event as ProgramEvent}
-use Rattle.cp_strand.specs.declared.protocol.Event.TheVariants.{Send, Receive}
-use Rattle.cp_skel.specs.declared.events.LocatedEvent as program
 use Rattle.cp_derive.specs.Assumed.{assumed_values}
-use Rattle.cp_lists.proofs.Items.{place_of, at_place, map_of_read}
+use Rattle.cp_lists.proofs.Items.{place_of, at_place, item_of_read}
 use Rattle.cp_lists.specs.Lists.{IsIn}
 use Rattle.cp_model.specs.Term.{Term}
-use Rattle.cp_model.specs.Strand.{Event, send, recv, payload}
+use Rattle.cp_model.specs.Strand.{payload}
+use Rattle.cp_model.specs.declared.strand.Event.{Event}
+use Rattle.cp_model.specs.declared.strand.Event.TheVariants.{Send as send, Receive as recv}
 use Rattle.cp_model.specs.declared.node.Node.{Node}
 use Rattle.cp_model.specs.Skeleton.{term_event_at, IsNodeOf, Skeleton, Before}
 use Rattle.cp_model.specs.Derivable.{DerivableAt}
 use Rattle.cp_model.proofs.LawOrder.{before_by_pairs}
 use Rattle.cp_derive.specs.From.{IsSentBefore}
 use Rattle.cp_derive.specs.Given.{Given, IsDerivable, IsGivenAt}
-use Rattle.cp_skel.specs.Events.{located_event_view, events_of}
+use Rattle.cp_skel.specs.Events.{events_of}
 use Rattle.cp_derive.specs.Transmissions.{Transmission}
 use Rattle.cp_derive.specs.Before.{LeadsToOther, ArePlacesBefore, messages_at, transmissions_of, given_by}
 use Rattle.cp_derive.specs.Unrealised.{IsUnrealisedAt, IsRealisedAt}
@@ -89,40 +88,40 @@ given_from k places lent ts sent secrets g l t s a e =
     ∙ ap (λ xs. let g : Given = record { sent = messages_at places (transmissions_of k); secrets = xs } in g) a
 
 -- The events from a place on, where the next is passed or picked.
-module _ (k : Skeleton) (os : List program.LocatedEvent) (i : ℕ) (o : program.LocatedEvent) (nodes : List Node) (h : i < length os) (is : o ≡ get_or os i o)
-    (so_far : (ns : List Node) → Picks k (map located_event_view (drop i os)) ns → Picks k (map located_event_view os) (nodes ++ ns)) where
-  next_occurrence : map located_event_view (drop i os) ≡ located_event_view o ∷ map located_event_view (drop (suc i) os)
-  next_occurrence = ap (map located_event_view) (drop-cons os i o h) ∙ ap (λ (x : program.LocatedEvent). located_event_view x ∷ map located_event_view (drop (suc i) os)) (sym is)
+module _ (k : Skeleton) (os : List LocatedEvent) (i : ℕ) (o : LocatedEvent) (nodes : List Node) (h : i < length os) (is : o ≡ get_or os i o)
+    (so_far : (ns : List Node) → Picks k (drop i os) ns → Picks k os (nodes ++ ns)) where
+  next_occurrence : drop i os ≡ o ∷ drop (suc i) os
+  next_occurrence = drop-cons os i o h ∙ ap (λ (x : LocatedEvent). x ∷ drop (suc i) os) (sym is)
 
-  pub passed : IsRealisedAt k o.node → (ns : List Node) → Picks k (map located_event_view (drop (i + 1) os)) ns → Picks k (map located_event_view os) (nodes ++ ns)
+  pub passed : IsRealisedAt k o.node → (ns : List Node) → Picks k (drop (i + 1) os) ns → Picks k os (nodes ++ ns)
   passed none ns more =
       let plus_one : i + 1 ≡ suc i = omega arith in
-      so_far ns (subst (λ xs. Picks k xs ns) (sym next_occurrence) (passes {o = located_event_view o} none (subst (λ j. Picks k (map located_event_view (drop j os)) ns) plus_one more)))
+      so_far ns (subst (λ xs. Picks k xs ns) (sym next_occurrence) (passes {o = o} none (subst (λ j. Picks k (drop j os) ns) plus_one more)))
 
-  pub taken : (new : List Node) → new ≡ nodes ++ (o.node ∷ []) → IsUnrealisedAt k o.node → (ns : List Node) → Picks k (map located_event_view (drop (i + 1) os)) ns →
-      Picks k (map located_event_view os) (new ++ ns)
+  pub taken : (new : List Node) → new ≡ nodes ++ (o.node ∷ []) → IsUnrealisedAt k o.node → (ns : List Node) → Picks k (drop (i + 1) os) ns →
+      Picks k os (new ++ ns)
   taken new n u ns more =
       let plus_one : i + 1 ≡ suc i = omega arith in
       let behind : new ++ ns ≡ nodes ++ (o.node ∷ ns) =
       ap (λ xs. xs ++ ns) n ∙ append_assoc nodes (o.node ∷ []) ns in
-      subst (Picks k (map located_event_view os)) (sym behind)
+      subst (Picks k os) (sym behind)
       (so_far (o.node ∷ ns)
       (subst (λ xs. Picks k xs (o.node ∷ ns)) (sym next_occurrence)
-      (picks {o = located_event_view o} u (subst (λ j. Picks k (map located_event_view (drop j os)) ns) plus_one more))))
+      (picks {o = o} u (subst (λ j. Picks k (drop j os) ns) plus_one more))))
 
-  pub event_at : AreEventsAmong (map located_event_view os) (events_of k) → term_event_at k.strands o.node ≡ Some (event_view o.event)
+  pub event_at : AreEventsAmong os (events_of k) → term_event_at k.strands o.node ≡ Some o.event
   event_at among =
-      listed_event k (located_event_view o) (among (located_event_view o) (at_place (map located_event_view os) i (located_event_view o) (map_of_read located_event_view os i o h is)))
+      listed_event k o (among o (at_place os i o (item_of_read os i o h is)))
 
-pub all_passed : (k : Skeleton) (os : List program.LocatedEvent) (i : ℕ) (nodes : List Node) → length os ≤ i →
-    ((ns : List Node) → Picks k (map located_event_view (drop i os)) ns → Picks k (map located_event_view os) (nodes ++ ns)) → Picks k (map located_event_view os) nodes
+pub all_passed : (k : Skeleton) (os : List LocatedEvent) (i : ℕ) (nodes : List Node) → length os ≤ i →
+    ((ns : List Node) → Picks k (drop i os) ns → Picks k os (nodes ++ ns)) → Picks k os nodes
 all_passed k os i nodes past so_far =
-    subst (Picks k (map located_event_view os)) (append-nil nodes) (so_far [] (subst (λ xs. Picks k (map located_event_view xs) []) (sym (drop_all i os past)) no_more))
+    subst (Picks k os) (append-nil nodes) (so_far [] (subst (λ xs. Picks k xs []) (sym (drop_all i os past)) no_more))
 
 -- An event that is no reception is realised.
-pub other_realised : (k : Skeleton) (n : Node) (e : ProgramEvent) → term_event_at k.strands n ≡ Some (event_view e) → ((m : Term) → e ≡ Receive m → ⊥) → IsRealisedAt k n
-other_realised k n (Receive m) at other = absurd (other m refl)
-other_realised k n (Send m) at other = transmission_realised k n m at
+pub other_realised : (k : Skeleton) (n : Node) (e : Event Term) → term_event_at k.strands n ≡ Some e → ((m : Term) → e ≡ recv m → ⊥) → IsRealisedAt k n
+other_realised k n (recv m) at other = absurd (other m refl)
+other_realised k n (send m) at other = transmission_realised k n m at
 
-pub reception_at : (k : Skeleton) (n : Node) (e : ProgramEvent) (m : Term) → term_event_at k.strands n ≡ Some (event_view e) → e ≡ Receive m → term_event_at k.strands n ≡ Some (recv m)
-reception_at k n e m at is = at ∙ ap (λ x. Some (event_view x)) is
+pub reception_at : (k : Skeleton) (n : Node) (e : Event Term) (m : Term) → term_event_at k.strands n ≡ Some e → e ≡ recv m → term_event_at k.strands n ≡ Some (recv m)
+reception_at k n e m at is = at ∙ ap Some is

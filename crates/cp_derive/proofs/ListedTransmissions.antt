@@ -1,46 +1,44 @@
 -- Transmissions gathered among the events of a skeleton, and which they are.
-use Rattle.std.proofs.Common.{ℕ, suc, ◌+◌, ◌<◌, Bool, true, false, List, [], ◌∷◌, ◌++◌, map, Some, ◌≡◌, ◌⊎◌, inl, inr, subst, length, get_or, drop, refl, sym, ap, ◌∙◌, add-one}
+use Rattle.std.proofs.Common.{ℕ, suc, ◌+◌, ◌<◌, Bool, true, false, List, [], ◌∷◌, ◌++◌, Some, ◌≡◌, ◌⊎◌, inl, inr, subst, length, get_or, drop, refl, sym, ap, ◌∙◌, add-one}
 use Rattle.std.proofs.Math.Seq.{drop-cons}
 use Rattle.cp_lists.proofs.Members.{in_cases}
 use Rattle.cp_lists.specs.Lists.{item_at, IsIn, here, there}
 use Rattle.cp_lists.proofs.Appended.{moved_behind}
 use Rattle.cp_model.specs.Term.{Term}
-use Rattle.cp_model.specs.Strand.{Event, send, recv}
+use Rattle.cp_model.specs.declared.strand.Event.{Event}
+use Rattle.cp_model.specs.declared.strand.Event.TheVariants.{Send as send, Receive as recv}
 use Rattle.cp_model.specs.declared.node.Node.{Node}
 use Rattle.cp_model.specs.Skeleton.{SkeletonStrand, instance, term_event_at, Skeleton}
 use Rattle.cp_model.specs.Derivable.{IsOnInstance}
-use Rattle.cp_strand.specs.View.{event_view}
-use Rattle.cp_strand.specs.declared.protocol.Event.{Event as ProgramEvent}
-use Rattle.cp_strand.specs.declared.protocol.Event.TheVariants.{Send, Receive}
-use Rattle.cp_skel.specs.declared.events.LocatedEvent as program
-use Rattle.cp_skel.specs.Events.{LocatedEvent, located_event_view, is_role_strand, events_of}
+use Rattle.cp_skel.specs.Events.{is_role_strand, events_of}
+use Rattle.cp_skel.specs.declared.events.LocatedEvent.{LocatedEvent}
 use Rattle.cp_skel.proofs.EventLists.{listed_event, listed_role, event_listed}
 use Rattle.cp_derive.specs.Transmissions.{Transmission, if_sent, transmissions_among}
 
 -- What is sent among the events from a place on.
-sent_from : (os : List program.LocatedEvent) (i : ℕ) (o : program.LocatedEvent) → i < length os → o ≡ get_or os i o →
-    transmissions_among (map located_event_view (drop i os)) ≡ if_sent o.node (event_view o.event) o.by_role (transmissions_among (map located_event_view (drop (suc i) os)))
+sent_from : (os : List LocatedEvent) (i : ℕ) (o : LocatedEvent) → i < length os → o ≡ get_or os i o →
+    transmissions_among (drop i os) ≡ if_sent o.node o.event o.by_role (transmissions_among (drop (suc i) os))
 sent_from os i o h is =
-    ap (λ xs. transmissions_among (map located_event_view xs)) (drop-cons os i o h)
-    ∙ ap (λ (x : program.LocatedEvent). if_sent x.node (event_view x.event) x.by_role (transmissions_among (map located_event_view (drop (suc i) os)))) (sym is)
+    ap transmissions_among (drop-cons os i o h)
+    ∙ ap (λ (x : LocatedEvent). if_sent x.node x.event x.by_role (transmissions_among (drop (suc i) os))) (sym is)
 
-module _ (os : List program.LocatedEvent) (i : ℕ) (o : program.LocatedEvent) (old new whole : List Transmission) (h : i < length os) (is : o ≡ get_or os i o)
-    (all : old ++ transmissions_among (map located_event_view (drop i os)) ≡ whole) where
-  pub transmission_added : (t : Term) → o.event ≡ Send t → o.by_role ≡ true → new ≡ old ++ (record { node = o.node; message = t } ∷ []) →
-      new ++ transmissions_among (map located_event_view (drop (i + 1) os)) ≡ whole
+module _ (os : List LocatedEvent) (i : ℕ) (o : LocatedEvent) (old new whole : List Transmission) (h : i < length os) (is : o ≡ get_or os i o)
+    (all : old ++ transmissions_among (drop i os) ≡ whole) where
+  pub transmission_added : (t : Term) → o.event ≡ send t → o.by_role ≡ true → new ≡ old ++ (record { node = o.node; message = t } ∷ []) →
+      new ++ transmissions_among (drop (i + 1) os) ≡ whole
   transmission_added t e r n =
-      let rest : List Transmission = transmissions_among (map located_event_view (drop (suc i) os)) in
-      let step : transmissions_among (map located_event_view (drop i os)) ≡ record { node = o.node; message = t } ∷ rest =
-      sent_from os i o h is ∙ ap (λ v. if_sent o.node (event_view v) o.by_role rest) e ∙ ap (λ b. if_sent o.node (send t) b rest) r in
-      rw add-one (moved_behind old new (transmissions_among (map located_event_view (drop i os))) rest whole (record { node = o.node; message = t }) n step all)
+      let rest : List Transmission = transmissions_among (drop (suc i) os) in
+      let step : transmissions_among (drop i os) ≡ record { node = o.node; message = t } ∷ rest =
+      sent_from os i o h is ∙ ap (λ v. if_sent o.node v o.by_role rest) e ∙ ap (λ b. if_sent o.node (send t) b rest) r in
+      rw add-one (moved_behind old new (transmissions_among (drop i os)) rest whole (record { node = o.node; message = t }) n step all)
 
-  not_sent : (e : ProgramEvent) (ts : List Transmission) → ((t : Term) → e ≡ Send t → ⊥) → if_sent o.node (event_view e) o.by_role ts ≡ ts
-  not_sent (Send t) ts other = absurd (other t refl)
-  not_sent (Receive t) ts other = refl
+  not_sent : (e : Event Term) (ts : List Transmission) → ((t : Term) → e ≡ send t → ⊥) → if_sent o.node e o.by_role ts ≡ ts
+  not_sent (send t) ts other = absurd (other t refl)
+  not_sent (recv t) ts other = refl
 
-  pub reception_passed : ((t : Term) → o.event ≡ Send t → ⊥) → new ≡ old → new ++ transmissions_among (map located_event_view (drop (i + 1) os)) ≡ whole
+  pub reception_passed : ((t : Term) → o.event ≡ send t → ⊥) → new ≡ old → new ++ transmissions_among (drop (i + 1) os) ≡ whole
   reception_passed other n =
-      let rest : List Transmission = transmissions_among (map located_event_view (drop (suc i) os)) in
+      let rest : List Transmission = transmissions_among (drop (suc i) os) in
       rw add-one (ap (λ ys. ys ++ rest) n ∙ sym (ap (λ ys. old ++ ys) (sent_from os i o h is ∙ not_sent o.event rest other)) ∙ all)
 
 -- ---- which they are

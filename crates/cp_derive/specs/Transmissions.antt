@@ -1,18 +1,12 @@
 -- What role strands send, among the events of a skeleton.
 use Rattle.std.specs.Prelude.{Bool, true, false, List, [], ◌∷◌}
 use Rattle.cp_model.specs.Term.{Term}
-use Rattle.cp_model.specs.Strand.{Event, send, recv}
+use Rattle.cp_model.specs.declared.strand.Event.{Event}
+use Rattle.cp_model.specs.declared.strand.Event.TheVariants.{Send as send, Receive as recv}
 use Rattle.cp_model.specs.declared.node.Node.{Node}
-use Rattle.cp_skel.specs.Events.{LocatedEvent}
-use Rattle.cp_derive.specs.declared.transmission.Transmission as sending
-
+use Rattle.cp_skel.specs.declared.events.LocatedEvent.{LocatedEvent}
 -- A message that a role strand sends at a node.
-pub record Transmission : Type 0 where
-  pub node : Node
-  pub message : Term
-
-abbrev pub transmission_view : sending.Transmission → Transmission
-transmission_view t = record { node = t.node; message = t.message }
+pub use Rattle.cp_derive.specs.declared.transmission.Transmission.{Transmission}
 
 -- What role strands send, among these events.
 abbrev pub if_sent : Node → Event Term → Bool → List Transmission → List Transmission

@@ -1,15 +1,15 @@
 // What is derivable at a node of a skeleton.
-ghost use Rattle.std.specs.Prelude.{◌≡◌, ◌↔◌, Some, map, option_map, IsNone, IfSome, IfOk};
+ghost use Rattle.std.specs.Prelude.{◌≡◌, ◌↔◌, Some, option_map, IsNone, IfSome, IfOk};
 ghost use Rattle.cp_model.specs.Derivable.{DerivableAt};
 ghost use Rattle.cp_model.specs.Skeleton.{IsNodeOf, term_event_at};
-ghost use Rattle.cp_model.specs.Strand.{Event as PlainEvent, payload};
+ghost use Rattle.cp_model.specs.Strand.{payload};
+ghost use Rattle.cp_model.specs.declared.strand.Event.{Event as PlainEvent};
 ghost use Rattle.cp_model.specs.Term.{Term as Plain};
 ghost use Rattle.cp_skel.specs.View.{skeleton_view};
 ghost use Rattle.cp_model.specs.Positions.{term_at};
 ghost use Rattle.cp_derive.specs.Before.{transmissions_of};
 ghost use Rattle.cp_derive.specs.Components.{IsFirstUnderivable};
 ghost use Rattle.cp_derive.specs.Given.{IsDerivable};
-ghost use Rattle.cp_derive.specs.Transmissions.{transmission_view};
 
 use crate::assumed::assumed_values;
 use crate::before::{messages_at, places_before};
@@ -23,7 +23,7 @@ use std::alloc::{AllocError, Global};
 
 /// The transmissions of the skeleton's role strands.
 fn transmissions_of(alloc: Global, k: &Skeleton) -> Result<Vec<Transmission>, AllocError>
-    ensures { IfOk result (λ ts. map transmission_view ts.items ≡ transmissions_of (skeleton_view k.now)) }
+    ensures { IfOk result (λ ts. ts.items ≡ transmissions_of (skeleton_view k.now)) }
 {
     let occurrences = k.events(alloc)?;
     transmissions(alloc, &occurrences)

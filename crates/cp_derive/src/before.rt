@@ -1,7 +1,6 @@
 // The transmissions before a node.
-ghost use Rattle.std.specs.Prelude.{◌≡◌, map, option_map, IfOk};
+ghost use Rattle.std.specs.Prelude.{◌≡◌, option_map, IfOk};
 ghost use Rattle.cp_lists.specs.Lists.{item_at};
-ghost use Rattle.cp_derive.specs.Transmissions.{transmission_view};
 ghost use Rattle.cp_derive.specs.Before.{ArePlacesBefore, messages_at};
 
 use crate::transmission::Transmission;
@@ -16,7 +15,7 @@ pub(crate) fn places_before(
     transmissions: &[Transmission],
     node: Node,
 ) -> Result<Vec<usize>, AllocError>
-    ensures { IfOk result (λ ps. ArePlacesBefore sorted.now node (map transmission_view transmissions.now) ps.items) }
+    ensures { IfOk result (λ ps. ArePlacesBefore sorted.now node transmissions.now ps.items) }
 {
     let leading = sorted.predecessors_of(alloc, node)?;
     let mut places = Vec::new(alloc);
@@ -30,7 +29,7 @@ pub(crate) fn places_before(
 
 /// The message of the transmission at a place, if there is one.
 fn message_of(transmissions: &[Transmission], place: usize) -> Option<&Term>
-    ensures { option_map (λ t. t.now) result ≡ option_map (λ t. t.message) (item_at (map transmission_view transmissions.now) place) }
+    ensures { option_map (λ t. t.now) result ≡ option_map (λ t. t.message) (item_at transmissions.now place) }
 {
     match transmissions.get(place) {
         Some(transmission) => Some(&transmission.message),
@@ -44,7 +43,7 @@ pub(crate) fn messages_at(
     places: &[usize],
     transmissions: &[Transmission],
 ) -> Result<Vec<Term>, AllocError>
-    ensures { IfOk result (λ ts. ts.items ≡ messages_at places.now (map transmission_view transmissions.now)) }
+    ensures { IfOk result (λ ts. ts.items ≡ messages_at places.now transmissions.now) }
 {
     let mut messages = Vec::new(alloc);
     for place in places {

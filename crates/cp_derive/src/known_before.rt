@@ -1,5 +1,5 @@
 // What is known at one node after another.
-ghost use Rattle.std.specs.Prelude.{◌≡◌, ◌↔◌, map, IfOk};
+ghost use Rattle.std.specs.Prelude.{◌≡◌, ◌↔◌, IfOk};
 ghost use Rattle.cp_model.specs.Derivable.{DerivableAt};
 ghost use Rattle.cp_model.specs.Skeleton.{IsNodeOf};
 ghost use Rattle.cp_model.specs.Term.{Term as Plain};
@@ -8,7 +8,6 @@ ghost use Rattle.cp_skel.specs.View.{skeleton_view};
 ghost use Rattle.cp_derive.specs.Before.{messages_at, transmissions_of, given_by};
 ghost use Rattle.cp_derive.specs.Given.{IsDerivable};
 ghost use Rattle.cp_derive.specs.Places.{AreSamePlaces};
-ghost use Rattle.cp_derive.specs.Transmissions.{transmission_view};
 
 use crate::before::{messages_at, places_before};
 use crate::flags::places_behind;
@@ -32,8 +31,8 @@ fn moved(
     known_before: KnownBefore,
     places: Vec<usize>,
 ) -> Result<KnownBefore, AllocError>
-    requires { known_before.known.sent ≡ messages_at known_before.places.items (map transmission_view transmissions.now) }
-    ensures known { IfOk result (λ f. f.known ≡ record { sent = messages_at f.places.items (map transmission_view transmissions.now); secrets = known_before.known.secrets }) }
+    requires { known_before.known.sent ≡ messages_at known_before.places.items transmissions.now }
+    ensures known { IfOk result (λ f. f.known ≡ record { sent = messages_at f.places.items transmissions.now; secrets = known_before.known.secrets }) }
     ensures places { IfOk result (λ f. AreSamePlaces places.items f.places.items) }
 {
     let KnownBefore {
@@ -76,7 +75,7 @@ pub(crate) fn known_before_at(
     requires ordered { IsOrdered (skeleton_view k.now) }
     requires pairs { sorted.now ≡ k.now.order }
     requires there { IsNodeOf (skeleton_view k.now).strands node }
-    requires all { map transmission_view transmissions.now ≡ transmissions_of (skeleton_view k.now) }
+    requires all { transmissions.now ≡ transmissions_of (skeleton_view k.now) }
     requires given { known_before.known ≡ given_by (skeleton_view k.now) known_before.places.items }
     ensures given { IfOk result (λ f. f.known ≡ given_by (skeleton_view k.now) f.places.items) }
     ensures at_node { IfOk result (λ f. (t : Plain) → DerivableAt (skeleton_view k.now) node t ↔ IsDerivable f.known t) }

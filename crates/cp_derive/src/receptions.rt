@@ -1,10 +1,9 @@
 // Receptions whose messages are not derivable.
-ghost use Rattle.std.specs.Prelude.{◌≡◌, ◌<◌, map, length, IfOk};
+ghost use Rattle.std.specs.Prelude.{◌≡◌, ◌<◌, length, IfOk};
 ghost use Rattle.cp_skel.specs.Ordered.{IsOrdered};
 ghost use Rattle.cp_skel.specs.View.{skeleton_view};
 ghost use Rattle.cp_derive.specs.Before.{transmissions_of, given_by};
-ghost use Rattle.cp_skel.specs.Events.{located_event_view, events_of};
-ghost use Rattle.cp_derive.specs.Transmissions.{transmission_view};
+ghost use Rattle.cp_skel.specs.Events.{events_of};
 ghost use Rattle.cp_derive.specs.Picked.{AreEventsAmong, Picks};
 ghost use Rattle.cp_derive.specs.Unrealised.{ListsUnrealised};
 
@@ -26,10 +25,10 @@ fn unrealised_among(
 ) -> Result<(Vec<Node>, KnownBefore), AllocError>
     requires ordered { IsOrdered (skeleton_view k.now) }
     requires pairs { sorted.now ≡ k.now.order }
-    requires all { map transmission_view transmissions.now ≡ transmissions_of (skeleton_view k.now) }
-    requires among { AreEventsAmong (map located_event_view occurrences.now) (events_of (skeleton_view k.now)) }
+    requires all { transmissions.now ≡ transmissions_of (skeleton_view k.now) }
+    requires among { AreEventsAmong occurrences.now (events_of (skeleton_view k.now)) }
     requires given { known_before.known ≡ given_by (skeleton_view k.now) known_before.places.items }
-    ensures picks { IfOk result (λ r. Picks (skeleton_view k.now) (map located_event_view occurrences.now) r.0.items) }
+    ensures picks { IfOk result (λ r. Picks (skeleton_view k.now) occurrences.now r.0.items) }
     ensures given { IfOk result (λ r. r.1.known ≡ given_by (skeleton_view k.now) r.1.places.items) }
 {
     let mut nodes = Vec::new(alloc);
@@ -99,8 +98,8 @@ fn unrealised_by_strand(
 ) -> Result<Vec<Node>, AllocError>
     requires ordered { IsOrdered (skeleton_view k.now) }
     requires pairs { sorted.now ≡ k.now.order }
-    requires all { map transmission_view transmissions.now ≡ transmissions_of (skeleton_view k.now) }
-    requires listed { map located_event_view occurrences.now ≡ events_of (skeleton_view k.now) }
+    requires all { transmissions.now ≡ transmissions_of (skeleton_view k.now) }
+    requires listed { occurrences.now ≡ events_of (skeleton_view k.now) }
     requires given { known_before.known ≡ given_by (skeleton_view k.now) known_before.places.items }
     ensures { IfOk result (λ nodes. ListsUnrealised (skeleton_view k.now) nodes.items) }
 {

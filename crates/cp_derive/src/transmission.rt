@@ -1,7 +1,6 @@
 // Transmissions of role strands.
-ghost use Rattle.std.specs.Prelude.{◌≡◌, map, IfOk};
-ghost use Rattle.cp_skel.specs.Events.{located_event_view};
-ghost use Rattle.cp_derive.specs.Transmissions.{transmission_view, transmissions_among};
+ghost use Rattle.std.specs.Prelude.{◌≡◌, IfOk};
+ghost use Rattle.cp_derive.specs.Transmissions.{transmissions_among};
 
 use cp_skel::{Event, LocatedEvent, Node};
 use cp_term::Term;
@@ -19,7 +18,7 @@ pub(crate) fn transmissions(
     alloc: Global,
     occurrences: &[LocatedEvent],
 ) -> Result<Vec<Transmission>, AllocError>
-    ensures { IfOk result (λ ts. map transmission_view ts.items ≡ transmissions_among (map located_event_view occurrences.now)) }
+    ensures { IfOk result (λ ts. ts.items ≡ transmissions_among occurrences.now) }
 {
     let mut transmissions = Vec::new(alloc);
     for occurrence in occurrences {

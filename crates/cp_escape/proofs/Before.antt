@@ -1,22 +1,22 @@
 -- What was sent before the node of a test, and what its occurrences of the critical term give.
-use Rattle.std.proofs.Common.{◌≡◌, ℕ, ◌<◌, length, get_or, List, [], map, Some, sym, ap, ◌∙◌, subst, ◌↔◌}
+use Rattle.std.proofs.Common.{◌≡◌, ℕ, ◌<◌, length, get_or, List, [], Some, sym, ap, ◌∙◌, subst, ◌↔◌}
 use Rattle.cp_lists.specs.Lists.{IsIn}
-use Rattle.cp_lists.proofs.Members.{item_is_in, into_map}
+use Rattle.cp_lists.proofs.Members.{item_is_in}
 use Rattle.cp_model.specs.Term.{key_term, inverse_term, Term, atom_term}
 use Rattle.cp_model.specs.Strand.{payload}
 use Rattle.cp_model.specs.declared.node.Node.{Node}
 use Rattle.cp_model.specs.Skeleton.{Skeleton}
 use Rattle.cp_model.specs.Derivable.{DerivableAt, sent_before}
 use Rattle.cp_model.specs.declared.step.Step.{Step}
-use Rattle.cp_skel.specs.Events.{LocatedEvent, located_event_view, events_of}
-use Rattle.cp_skel.specs.declared.events.LocatedEvent as program
+use Rattle.cp_skel.specs.Events.{events_of}
+use Rattle.cp_skel.specs.declared.events.LocatedEvent.{LocatedEvent}
 use Rattle.cp_skel.proofs.EventLists.{listed_event, listed_role}
 use Rattle.cp_derive.specs.Given.{Given, IsDerivable}
 use Rattle.cp_cohort.specs.CoveringChildren.{IsTransmissionBefore}
 use Rattle.cp_cohort.specs.GatheredLists.{EachGives}
 use Rattle.cp_escape.specs.Escape.{IsFirstWith, in_front, further, IsUnopenedAt, GivesClosed, positions_of}
 use Rattle.cp_escape.specs.ClosedEncryptions.{IsClosedTo, GivesClosedTo, PutsTerms, GivesIf, with_it, AreClosedBefore}
-use Rattle.cp_escape.proofs.TermsOnce.{given_by_those, gives_all, gives_other}
+use Rattle.cp_escape.proofs.TermsOnce.{given_by_those, gives_other}
 
 -- What was sent is derivable.
 pub sent_is_derivable : (k : Skeleton) (n : Node) (o : LocatedEvent) → IsIn o (events_of k) → IsTransmissionBefore k n o → DerivableAt k n (payload o.event)
@@ -42,9 +42,9 @@ module _ (k : Skeleton) (n : Node) (g : Given) (given : (t : Term) → IsDerivab
   gives_at : (message : Term) (path : List Step) (es : List Term) → GivesClosedTo g message path es → GivesClosed k n message path es
   gives_at message path es h = record { encryption = h.encryption; outermost = first_other closed_at closed_to h.outermost; alone = h.alone }
 
-  pub all_closed : (c : Term) (os : List program.LocatedEvent) → map located_event_view os ≡ events_of k → (es : List Term) → PutsTerms (EachGives (λ o. GivesEvent k n g c (located_event_view o)) os) [] es → AreClosedBefore k n c es
+  pub all_closed : (c : Term) (os : List LocatedEvent) → os ≡ events_of k → (es : List Term) → PutsTerms (EachGives (GivesEvent k n g c) os) [] es → AreClosedBefore k n c es
   all_closed c os all es p =
-      let each : EachGives (GivesEvent k n g c) (events_of k) p.given = subst (λ (xs : List LocatedEvent). EachGives (GivesEvent k n g c) xs p.given) all (gives_all located_event_view os p.given p.gives_them) in
+      let each : EachGives (GivesEvent k n g c) (events_of k) p.given = subst (λ (xs : List LocatedEvent). EachGives (GivesEvent k n g c) xs p.given) all p.gives_them in
       let those = given_by_those (IsTransmissionBefore k n) (λ o. EachGives (GivesClosedTo g (payload o.event)) (positions_of c (payload o.event))) (events_of k) p.given each in
       record {
         sent = those.those;
@@ -55,8 +55,8 @@ module _ (k : Skeleton) (n : Node) (g : Given) (given : (t : Term) → IsDerivab
       }
 
 -- An event that is read from the list is one of the skeleton's.
-pub listed_among : (k : Skeleton) (os : List program.LocatedEvent) (i : ℕ) (o : program.LocatedEvent) → i < length os → o ≡ get_or os i o → map located_event_view os ≡ events_of k → IsIn (located_event_view o) (events_of k)
-listed_among k os i o below read all = subst (λ (xs : List LocatedEvent). IsIn (located_event_view o) xs) all (into_map located_event_view (item_is_in os i o below read))
+pub listed_among : (k : Skeleton) (os : List LocatedEvent) (i : ℕ) (o : LocatedEvent) → i < length os → o ≡ get_or os i o → os ≡ events_of k → IsIn o (events_of k)
+listed_among k os i o below read all = subst (λ (xs : List LocatedEvent). IsIn o xs) all (item_is_in os i o below read)
 
 -- What is put for a transmission before the node.
 pub event_given : (k : Skeleton) (n : Node) (g : Given) (c : Term) (o : LocatedEvent) (message : Term) → message ≡ payload o.event → IsTransmissionBefore k n o → (old new : List Term) →

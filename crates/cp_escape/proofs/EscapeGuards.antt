@@ -1,16 +1,17 @@
 -- The escape set of a test guards it.
-use Rattle.std.proofs.Common.{◌≡◌, ℕ, List, [], map, Some, true, refl, sym, ap, ◌∙◌, subst, ⊎_elim, ◌↔◌}
+use Rattle.std.proofs.Common.{◌≡◌, List, [], map, Some, true, refl, sym, ap, ◌∙◌, subst, ⊎_elim, ◌↔◌}
 use Rattle.cp_lists.specs.Lists.{IsIn, here, there}
 use Rattle.cp_lists.proofs.Members.{in_append_left, not_in_none, only_item, from_map, into_map, nothing_there}
-use Rattle.cp_model.specs.Term.{Variable, Term, IsCarriedByTerm, itself_term, in_left_term, in_right_term, variables_of}
+use Rattle.cp_model.specs.Term.{Term, IsCarriedByTerm, itself_term, in_left_term, in_right_term, variables_of}
+use Rattle.cp_model.specs.declared.variable.Variable.{Variable}
 use Rattle.cp_model.specs.Identity.{unchanged}
-use Rattle.cp_model.specs.Strand.{send, recv, payload, Declaration}
+use Rattle.cp_model.specs.Strand.{payload}
+use Rattle.cp_model.specs.declared.strand.Event.TheVariants.{Send as send, Receive as recv}
 use Rattle.cp_model.specs.declared.node.Node.{Node}
 use Rattle.cp_model.specs.Skeleton.{Skeleton, term_event_at, Before}
 use Rattle.cp_model.specs.Derivable.{IsOnInstance}
 use Rattle.cp_model.specs.Pattern.{IsPattern}
 use Rattle.cp_model.specs.Problem.{variables_of_skeleton}
-use Rattle.cp_model.specs.PointOfView.{HasDeclaredVariables}
 use Rattle.cp_model.specs.Same.{same_term}
 use Rattle.cp_model.specs.Tree.{Pattern}
 use Rattle.cp_model.proofs.LawTerms.{term_unchanged}
@@ -18,9 +19,9 @@ use Rattle.cp_model.proofs.SameTests.{term_is, same_term_itself}
 use Rattle.cp_theory.specs.Normal.{variables_of_terms}
 use Rattle.cp_model.specs.declared.step.Step.{Step}
 use Rattle.cp_model.specs.Positions.{term_at}
-use Rattle.cp_term.specs.Patterns.{pattern_by}
 use Rattle.cp_term.proofs.PositionLaws.{positions_found, carried_position}
-use Rattle.cp_skel.specs.Events.{LocatedEvent, events_of}
+use Rattle.cp_skel.specs.Events.{events_of}
+use Rattle.cp_skel.specs.declared.events.LocatedEvent.{LocatedEvent}
 use Rattle.cp_skel.proofs.EventLists.{listed_event, listed_role, is_role_at, located_event_at, listed_at}
 use Rattle.cp_model.proofs.UnderVariables.{carried_variables}
 use Rattle.cp_theory.specs.Above.{encryptions_above}
@@ -32,7 +33,7 @@ use Rattle.cp_cohort.proofs.Listed.{giver, given, those_have, with_it, terms_lis
 use Rattle.cp_escape.specs.ClosedEncryptions.{AreClosedBefore}
 use Rattle.cp_escape.specs.Escape.{IsFirstWith, in_front, further, positions_of, whole_pattern, IsEscape}
 use Rattle.cp_escape.specs.Sent.{CarriesBefore}
-use Rattle.cp_escape.proofs.PartsAbove.{part_above, event_variables, sort_of_number}
+use Rattle.cp_escape.proofs.PartsAbove.{part_above, event_variables}
 
 -- The first with a property is one of the list, and has it.
 pub first_is_in : {A : Type 0} {has : A → Type 0} {xs : List A} {x : A} → IsFirstWith has xs x → IsIn x xs
@@ -79,13 +80,12 @@ module _ (k : Skeleton) (n : Node) (c : Term) (es : List Term) (closed : AreClos
       let h = given_above e i in
       event_variables k h.occurrence.node h.occurrence.event (listed_event k h.occurrence h.listed) x ((part_above (payload h.occurrence.event) h.path e h.above).variables x j)
 
-  pub is_whole_pattern : (ds : List Declaration) → HasDeclaredVariables ds k → (e : Term) → IsIn e es → IsPattern (whole_pattern e)
-  is_whole_pattern ds declared e i =
+  pub is_whole_pattern : (e : Term) → IsIn e es → IsPattern (whole_pattern e)
+  is_whole_pattern e i =
       let h = given_above e i in
       record {
         encryption = (part_above (payload h.occurrence.event) h.path e h.above).encryption;
         locals_occur = λ x j. absurd (not_in_none j);
-        one_sort = λ x y a b. sort_of_number ds x y (declared.occurring x (variables_within e i x a)) (declared.occurring y (variables_within e i y b));
       }
 
   -- An occurrence of c in what was sent before gives an encryption above it.
@@ -139,9 +139,9 @@ module _ (k : Skeleton) (n : Node) (c : Term) (es : List Term) (ps : List Patter
     matches = record { filled = unchanged; as_said = λ x f. refl; same = term_unchanged r.0 };
   }
 
-  pub escape_guards : (ds : List Declaration) → HasDeclaredVariables ds k → IsTest k n c → Guards ps k n c
-  escape_guards ds declared test = record {
-    patterns = λ p i. let e = encryption_of p i in subst IsPattern e.2 (is_whole_pattern k n c es closed ds declared e.0 e.1);
+  pub escape_guards : IsTest k n c → Guards ps k n c
+  escape_guards test = record {
+    patterns = λ p i. let e = encryption_of p i in subst IsPattern e.2 (is_whole_pattern k n c es closed e.0 e.1);
     keys = λ p i body key x same j l. no_local p x i l;
     used_by_patterns = λ p x i f. pattern_used p x i f.occurs;
     used_by_critical = critical_used test;
@@ -174,6 +174,6 @@ module _ (k : Skeleton) (n : Node) (c : Term) (es : List Term) (ps : List Patter
           }
 
 -- A term that is the same, without locals, is the same pattern.
-pub alike_pattern : (e t : Term) (locals : List ℕ) → t ≡ e → locals ≡ [] → IsPattern (whole_pattern e) → IsPattern (pattern_by t locals)
+pub alike_pattern : (e t : Term) (locals : List Variable) → t ≡ e → locals ≡ [] → IsPattern (whole_pattern e) → IsPattern (record { term = t; locals = locals })
 alike_pattern e t locals same none p =
-    subst (λ (ns : List ℕ). IsPattern (pattern_by t ns)) (sym none) (subst (λ (u : Term). IsPattern (whole_pattern u)) (sym same) p)
+    subst (λ (xs : List Variable). IsPattern (record { term = t; locals = xs })) (sym none) (subst (λ (u : Term). IsPattern (whole_pattern u)) (sym same) p)

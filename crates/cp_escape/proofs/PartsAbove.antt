@@ -1,17 +1,18 @@
 -- What encloses positions: encryptions, whose variables are variables of the message; step by step.
-use Rattle.std.proofs.Common.{◌≡◌, List, [], ◌∷◌, Some, refl, sym, ap, ◌∙◌, subst, ⊎_elim}
+use Rattle.std.proofs.Common.{◌≡◌, List, [], ◌∷◌, Some, refl, sym, subst, ⊎_elim}
 use Rattle.cp_lists.specs.Lists.{IsIn}
 use Rattle.cp_lists.proofs.Members.{in_append_left, in_append_right, head_or_behind, not_in_none}
-use Rattle.cp_model.specs.Term.{Variable, KeyTerm, Term, tag_term, atom_term, pair_term, enc_term, variables_of, variables_of_key}
-use Rattle.cp_model.specs.Strand.{Event, payload, Declaration}
+use Rattle.cp_model.specs.Term.{KeyTerm, Term, tag_term, atom_term, pair_term, enc_term, variables_of, variables_of_key}
+use Rattle.cp_model.specs.declared.variable.Variable.{Variable}
+use Rattle.cp_model.specs.Strand.{payload}
+use Rattle.cp_model.specs.declared.strand.Event.{Event}
 use Rattle.cp_model.specs.declared.node.Node.{Node}
 use Rattle.cp_model.specs.Skeleton.{Skeleton, skeleton_trace, term_event_at}
 use Rattle.cp_model.specs.Pattern.{IsEncryption}
-use Rattle.cp_model.specs.Problem.{IsDeclared, declared_sort, variables_of_assumptions, variables_of_skeleton}
+use Rattle.cp_model.specs.Problem.{variables_of_assumptions, variables_of_skeleton}
 use Rattle.cp_model.proofs.LawPrefixes.{in_trace}
 use Rattle.cp_model.proofs.LawStandings.{strand_of_event, event_on}
 use Rattle.cp_model.proofs.OccurringVariables.{in_strands}
-use Rattle.cp_lists.specs.Lists.{item_at}
 use Rattle.cp_model.specs.declared.step.Step.{Step}
 use Rattle.cp_model.specs.declared.step.Step.TheVariants.{Left, Right, Plaintext}
 use Rattle.cp_theory.specs.Above.{encryptions_above}
@@ -49,9 +50,3 @@ event_variables k n e at x i =
     let st = strand_of_event k.strands n e at in
     in_append_left (variables_of_assumptions k.assumptions)
     (in_strands k.strands n.strand st.0 x st.1 (in_trace (skeleton_trace st.0) n.index e x (event_on k n st.0 e st.1 at) i))
-
--- Declared variables with one number have one sort.
-pub sort_of_number : (ds : List Declaration) (x y : Variable) → IsDeclared ds x → IsDeclared ds y → x.number ≡ y.number → x.sort ≡ y.sort
-sort_of_number ds x y a b e =
-    let same : Some x.sort ≡ Some y.sort = sym a ∙ ap (λ n. declared_sort (item_at ds n)) e ∙ b in
-    cc

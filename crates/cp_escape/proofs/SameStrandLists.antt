@@ -2,9 +2,10 @@
 use Rattle.std.proofs.Common.{◌≡◌, ◌↔◌, IsTrue, Bool, ℕ, zero, suc, ◌+◌, ◌<◌, ◌≤◌, List, [], ◌∷◌, length, get_or, drop, map, refl, sym, ap, ◌∙◌, subst, arith}
 use Rattle.std.proofs.lemmas.List.{drop_all, length-map}
 use Rattle.cp_lists.proofs.Members.{drop_read}
-use Rattle.cp_model.specs.Term.{Term, Substitution, AgreeOnTerms, atom_of_variable, apply_to_atom}
+use Rattle.cp_model.specs.Term.{Term, Substitution, AgreeOnTerms, variable_term, apply_to}
 use Rattle.cp_model.specs.Homomorphism.{substitution_by}
-use Rattle.cp_model.specs.Strand.{Event, Role, prefix_of, variables_of_trace, variables_of_prefix}
+use Rattle.cp_model.specs.Strand.{Role, prefix_of, variables_of_trace, variables_of_prefix}
+use Rattle.cp_model.specs.declared.strand.Event.{Event}
 use Rattle.cp_model.specs.Skeleton.{SkeletonStrand, instance, listener}
 use Rattle.cp_collapse.specs.SameSkeletons.{IsSameStrand, same_instance, same_listener, AreSameStrands, no_strands, same_strands}
 use Rattle.cp_collapse.proofs.SameStrands.{instance_like, listener_like}
@@ -39,7 +40,7 @@ same_by a b h =
 
 pub same_by_values : (a b : InstanceData) → a.role ≡ b.role → a.height ≡ b.height → a.values ≡ b.values → IsSameStrand (instance_view a) (instance_view b)
 same_by_values a b role height values =
-    same_by a b (record { role = role; height = height; terms = λ x i. ap (λ (vs : List Term). apply_to_atom (substitution_by vs) (atom_of_variable x)) values })
+    same_by a b (record { role = role; height = height; terms = λ x i. ap (λ (vs : List Term). apply_to (substitution_by vs) (variable_term x)) values })
 
 -- An answer that tells whether the values agree tells whether the instances say the same.
 pub agree_exactly : (a b : InstanceData) → a.role ≡ b.role → a.height ≡ b.height → (es : List (Event Term)) → es ≡ prefix_of a.role a.height → (vs ws : List Term) → vs ≡ a.values → ws ≡ b.values → (answer : Bool) →

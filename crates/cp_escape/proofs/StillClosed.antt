@@ -3,7 +3,8 @@ use Rattle.std.proofs.Common.{◌≡◌, ℕ, ◌+◌, ◌<◌, ◌≤◌, Bool,
 use Rattle.std.proofs.lemmas.List.{drop_all}
 use Rattle.cp_lists.specs.Lists.{IsIn}
 use Rattle.cp_lists.proofs.Members.{drop_read, in_append_left, in_append_right}
-use Rattle.cp_model.specs.Term.{Variable, KeyTerm, symmetric_term, asymmetric_term, AtomTerm, key_term, inverse_term, Term, atom_term, enc_term, variables_of_key, variables_of_atom}
+use Rattle.cp_model.specs.Term.{KeyTerm, symmetric_term, asymmetric_term, AtomTerm, key_term, inverse_term, Term, atom_term, enc_term, variables_of_key, variables_of_atom}
+use Rattle.cp_model.specs.declared.variable.Variable.{Variable}
 use Rattle.cp_model.specs.Problem.{variables_of_atoms, variables_of_uniques, variables_of_strands}
 use Rattle.cp_model.specs.Skeleton.{Skeleton}
 use Rattle.cp_theory.specs.Normal.{variables_of_terms}

@@ -1,5 +1,5 @@
 -- Terms that are put behind others item by item, each once.
-use Rattle.std.proofs.Common.{append_assoc, ◌≡◌, ℕ, ◌+◌, ◌<◌, ◌≤◌, List, [], ◌∷◌, ◌++◌, length, get_or, drop, map, refl, sym, ap, ◌∙◌, subst, if◌then◌else◌}
+use Rattle.std.proofs.Common.{append_assoc, ◌≡◌, ℕ, ◌+◌, ◌<◌, ◌≤◌, List, [], ◌∷◌, ◌++◌, length, get_or, drop, refl, sym, ap, ◌∙◌, subst, if◌then◌else◌}
 use Rattle.std.proofs.lemmas.List.{append-nil, drop_all}
 use Rattle.cp_lists.proofs.Members.{drop_read}
 use Rattle.cp_model.specs.Term.{Term}
@@ -60,10 +60,6 @@ module _ {A B : Type 0} (has : A → Type 0) (gives : A → List B → Type 0) w
   given_by_those (x ∷ xs) _ (then_given {ys = ys} {zs = zs} g rest) = one_given x xs ys zs g (given_by_those xs zs rest)
 
 -- ---- what is given otherwise
-
-pub gives_all : {A B C : Type 0} {gives : A → List B → Type 0} (f : C → A) (xs : List C) (ys : List B) → EachGives (λ x. gives (f x)) xs ys → EachGives gives (map f xs) ys
-gives_all f _ _ nothing_given = nothing_given
-gives_all f _ _ (then_given {xs = xs} {zs = zs} h rest) = then_given h (gives_all f xs zs rest)
 
 pub gives_other : {A B : Type 0} {gives others : A → List B → Type 0} → ((x : A) (ys : List B) → gives x ys → others x ys) → {xs : List A} {ys : List B} → EachGives gives xs ys → EachGives others xs ys
 gives_other f nothing_given = nothing_given

@@ -1,18 +1,15 @@
--- The variables that a skeleton uses, as they are found.
-use Rattle.std.specs.Prelude.{ℕ, suc, ◌&&◌, not, List, [], ◌∷◌, Bool, if◌then◌else◌, map}
-use Rattle.cp_model.specs.Term.{Variable, Term, variables_of}
-use Rattle.cp_model.specs.Strand.{Declaration}
-use Rattle.cp_model.specs.Same.{has_variable}
+-- Variables that are put in order.
+use Rattle.std.specs.Prelude.{◌↔◌, ◌⊎◌, ◌==◌, ◌&&◌, ◌||◌, nat_lt, List, Bool}
+use Rattle.cp_lists.specs.Lists.{IsIn}
+use Rattle.cp_model.specs.SortNumbers.{sort_number}
+use Rattle.cp_model.specs.declared.variable.Variable.{Variable}
+use Rattle.cp_escape.specs.WidenedPattern.{AreRisingVariables}
 
--- The variable occurs in the term, and is none of these.
-abbrev pub is_new_in : Term → List Variable → Variable → Bool
-is_new_in e used x = has_variable (variables_of e) x && not (has_variable used x)
+-- Whether x stands before y.
+abbrev pub variable_before : Variable → Variable → Bool
+variable_before x y = nat_lt x.number y.number || ((x.number == y.number) && nat_lt (sort_number x.sort) (sort_number y.sort))
 
--- Of declared variables, the first of which has number n, those that pass the test.
-abbrev pub variables_where : (Variable → Bool) → ℕ → List Declaration → List Variable
-variables_where test n [] = []
-variables_where test n (d ∷ ds) =
-    if test (record { sort = d.sort; number = n }) then record { sort = d.sort; number = n } ∷ variables_where test (suc n) ds else variables_where test (suc n) ds
-
-abbrev pub numbers : List Variable → List ℕ
-numbers = map (λ (x : Variable). x.number)
+-- Those of the variables xs that are not used have been put among the old ones, in order.
+pub record PutsNew (used xs old new : List Variable) : Type 0 where
+  pub exactly : (x : Variable) → IsIn x new ↔ (IsIn x old ⊎ (IsIn x xs × (IsIn x used → ⊥)))
+  pub rising : AreRisingVariables old → AreRisingVariables new

@@ -1,8 +1,11 @@
 -- Widening: the pattern that an added-strand child of a test gives.
-use Rattle.std.specs.Prelude.{◌≡◌, ◌↔◌, ◌<◌, ℕ, suc, List, [], ◌∷◌, ◌++◌, length, Some}
+use Rattle.std.specs.Prelude.{◌≡◌, ◌⊎◌, ◌↔◌, ◌<◌, ℕ, suc, List, [], ◌∷◌, ◌++◌, length, Some}
 use Rattle.cp_lists.specs.Lists.{item_at, IsIn}
-use Rattle.cp_model.specs.Term.{Variable, KeyTerm, key_term, inverse_term, variables_of_key, Term, enc_term, variables_of, Substitution}
-use Rattle.cp_model.specs.Strand.{send, Role}
+use Rattle.cp_model.specs.Term.{KeyTerm, key_term, inverse_term, variables_of_key, Term, enc_term, variables_of, Substitution}
+use Rattle.cp_model.specs.declared.variable.Variable.{Variable}
+use Rattle.cp_model.specs.SortNumbers.{sort_number}
+use Rattle.cp_model.specs.Strand.{Role}
+use Rattle.cp_model.specs.declared.strand.Event.TheVariants.{Send as send}
 use Rattle.cp_model.specs.Bundle.{node_at}
 use Rattle.cp_model.specs.Skeleton.{SkeletonStrand, instance, term_event_at, Skeleton}
 use Rattle.cp_model.specs.Tree.{Pattern}
@@ -39,12 +42,17 @@ pub record StaysClosed (k : Skeleton) (e : Term) : Type 0 where
   pub own_key : (x : Variable) → IsIn x (variables_of_key key) → IsIn x (used_variables k)
   pub non_originating : IsIn (key_term (inverse_term key)) k.assumptions.non_originating
 
--- The variables stand by rising numbers, each once.
+-- x stands before y: it has a smaller number, or the same number and an earlier sort.
+abbrev pub StandsBefore : Variable → Variable → Type 0
+StandsBefore x y = (x.number < y.number) ⊎ ((x.number ≡ y.number) × (sort_number x.sort < sort_number y.sort))
+
+-- The variables stand by rising numbers, those with one number by their sorts, each once.
 abbrev pub AreRisingVariables : List Variable → Type 0
 AreRisingVariables [] = Unit {0}
-AreRisingVariables (x ∷ xs) = ((y : Variable) → IsIn y xs → x.number < y.number) × AreRisingVariables xs
+AreRisingVariables (x ∷ xs) = ((y : Variable) → IsIn y xs → StandsBefore x y) × AreRisingVariables xs
 
--- The locals are the variables of the encryption that are not the skeleton's, by rising numbers.
+-- The locals are the variables of the encryption that are not the skeleton's, by rising numbers, those with one number by
+-- their sorts.
 pub record AreNewVariables (k : Skeleton) (e : Term) (locals : List Variable) : Type 0 where
   pub exactly : (x : Variable) → IsIn x locals ↔ (IsIn x (variables_of e) × (IsIn x (used_variables k) → ⊥))
   pub rising : AreRisingVariables locals

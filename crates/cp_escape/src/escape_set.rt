@@ -4,11 +4,9 @@ ghost use Rattle.cp_lists.specs.Lists.{IsIn};
 ghost use Rattle.cp_derive.specs.Given.{IsDerivable};
 ghost use Rattle.cp_model.specs.Derivable.{DerivableAt};
 ghost use Rattle.cp_model.specs.Pattern.{IsPattern};
-ghost use Rattle.cp_model.specs.PointOfView.{HasDeclaredVariables};
 ghost use Rattle.cp_model.specs.Term.{Term as Plain};
 ghost use Rattle.cp_theory.specs.Critical.{IsTest};
 ghost use Rattle.cp_theory.specs.Guards.{Guards};
-ghost use Rattle.cp_skel.specs.Trees.{variables_view};
 ghost use Rattle.cp_skel.specs.View.{skeleton_view};
 ghost use Rattle.cp_escape.specs.ClosedEncryptions.{AreClosedBefore};
 ghost use Rattle.cp_escape.specs.Escape.{whole_pattern, IsEscape};
@@ -64,7 +62,7 @@ fn whole_patterns(alloc: Global, encryptions: &[Term]) -> Result<Vec<Pattern>, A
 /// each encryption once, as a pattern without locals. The set guards the test. It is empty exactly if none of these transmissions
 /// carries the critical term.
 ///
-/// The node and the term must be a test of the skeleton, and the skeleton's variables must be declared.
+/// The node and the term must be a test of the skeleton.
 pub fn escape(
     alloc: Global,
     k: &Skeleton,
@@ -72,7 +70,6 @@ pub fn escape(
     critical: &Term,
 ) -> Result<Vec<Pattern>, AllocError>
     requires test { IsTest (skeleton_view k.now) node critical.now }
-    requires declared { HasDeclaredVariables (variables_view k.now.variables) (skeleton_view k.now) }
     ensures exact { IfOk result (λ ps. IsEscape (skeleton_view k.now) node critical.now ps.items) }
     ensures guards { IfOk result (λ ps. Guards ps.items (skeleton_view k.now) node critical.now) }
     ensures empty { IfOk result (λ ps. (ps.items ≡ []) ↔ (CarriesBefore (skeleton_view k.now) node critical.now → ⊥)) }

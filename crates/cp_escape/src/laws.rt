@@ -1,18 +1,15 @@
 //! Laws of the definitions. Each is the contract of a function that does nothing.
 ghost use Rattle.std.specs.Prelude.{List, ◌∷◌, [], ◌++◌};
-ghost use Rattle.cp_model.specs.Strand.{Declaration};
 ghost use Rattle.cp_model.specs.Term.{Term};
 ghost use Rattle.cp_model.specs.Tree.{Pattern};
 ghost use Rattle.cp_model.specs.declared.node.Node.{Node};
-ghost use Rattle.cp_model.specs.PointOfView.{HasDeclaredVariables};
 ghost use Rattle.cp_model.specs.Skeleton.{Skeleton};
 ghost use Rattle.cp_model.specs.declared.step.Step.{Step};
 ghost use Rattle.cp_theory.specs.Guards.{Guards};
 ghost use Rattle.cp_escape.specs.WidenedPattern.{WidensBy};
 
-/// If patterns guard a test, they still guard it together with the pattern that a child gives, provided that the child's
-/// variables are declared.
+/// If patterns guard a test, they still guard it together with the pattern that a child gives.
 pub fn widening_keeps_guards()
-    ensures { (ps : List Pattern) (k l : Skeleton) (n : Node) (c : Term) (path : List Step) (p : Pattern) (variables : List Declaration) → HasDeclaredVariables variables l
+    ensures { (ps : List Pattern) (k l : Skeleton) (n : Node) (c : Term) (path : List Step) (p : Pattern)
         → Guards ps k n c → WidensBy k l path p → Guards (ps ++ p ∷ []) k n c }
 {}

@@ -4,7 +4,7 @@ ghost use Rattle.cp_collapse.specs.SameSkeletons.{IsSameStrand, AreSameStrands};
 ghost use Rattle.cp_model.specs.Homomorphism.{substitution_by};
 ghost use Rattle.cp_model.specs.Strand.{variables_of_trace};
 ghost use Rattle.cp_model.specs.Term.{AgreeOnTerms, apply_to};
-ghost use Rattle.cp_strand.specs.View.{event_view, instance_view, strand_view};
+ghost use Rattle.cp_strand.specs.View.{instance_view, strand_view};
 
 use cp_collapse::are_same_terms;
 use cp_skel::{Event, Instance, Strand, StrandShape, applied, is_same_role, prefix_of};
@@ -27,7 +27,7 @@ fn is_same_message(
 
 /// Whether the values `a` and `b` agree on the variables of a role's events.
 fn agree_on(alloc: Global, events: &[Event], a: &[Term], b: &[Term]) -> Result<bool, AllocError>
-    ensures { IfOk result (λ answer. IsTrue answer ↔ AgreeOnTerms (variables_of_trace (map event_view events.now)) (substitution_by a.now) (substitution_by b.now)) }
+    ensures { IfOk result (λ answer. IsTrue answer ↔ AgreeOnTerms (variables_of_trace events.now) (substitution_by a.now) (substitution_by b.now)) }
 {
     for event in events {
         if !is_same_message(alloc, event.payload(), a, b)? {

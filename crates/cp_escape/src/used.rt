@@ -1,23 +1,24 @@
 // The variables that a skeleton uses, and those of a term that the skeleton does not use.
-ghost use Rattle.std.specs.Prelude.{◌≡◌, ◌++◌, ◌&&◌, not, map, IfOk, OnOk};
-ghost use Rattle.cp_model.specs.Same.{has_variable};
+ghost use Rattle.std.specs.Prelude.{◌≡◌, ◌++◌, [], ◌∷◌, IfOk, OnOk};
 ghost use Rattle.cp_theory.specs.Normal.{variables_of_terms};
 ghost use Rattle.cp_theory.specs.Critical.{used_variables};
 ghost use Rattle.cp_model.specs.Problem.{variables_of_atoms, variables_of_uniques, variables_of_strands, variables_of_assumptions};
+ghost use Rattle.cp_model.specs.SortNumbers.{sort_number};
 ghost use Rattle.cp_model.specs.Strand.{variables_of_trace};
 ghost use Rattle.cp_model.specs.Term.{variables_of};
-ghost use Rattle.cp_skel.specs.Trees.{variables_view};
+ghost use Rattle.cp_model.specs.declared.sort.Sort.TheVariants.{Name as name_sort};
 ghost use Rattle.cp_skel.specs.View.{skeleton_view};
-ghost use Rattle.cp_strand.specs.View.{sort_view, event_view};
-ghost use Rattle.cp_escape.specs.UsedVariables.{is_new_in, variables_where, numbers};
+ghost use Rattle.cp_escape.specs.UsedVariables.{variable_before, PutsNew};
+ghost use Rattle.cp_escape.specs.WidenedPattern.{AreNewVariables};
 
+use cp_model::{Variable, has_variable};
 use cp_skel::{Atom, Event, Skeleton, UniqueAt, occurs};
-use cp_term::{Locals, Sort, Term, VarId, VarTable};
+use cp_term::{Locals, Shape, Sort, Term, VarId};
 use std::alloc::{AllocError, Global};
 
 /// Appends a term.
 fn add_use(term: &Term, uses: &mut Vec<Event>) -> Result<(), AllocError>
-    ensures { OnOk result (variables_of_trace (map event_view uses.new.items) ≡ variables_of_trace (map event_view uses.old.items) ++ variables_of term.now) }
+    ensures { OnOk result (variables_of_trace uses.new.items ≡ variables_of_trace uses.old.items ++ variables_of term.now) }
 {
     let term = term.copy()?;
     uses.push(Event::Send(term))?;
@@ -26,7 +27,7 @@ fn add_use(term: &Term, uses: &mut Vec<Event>) -> Result<(), AllocError>
 
 /// Appends the messages of the skeleton's strands.
 fn add_messages(alloc: Global, k: &Skeleton, uses: &mut Vec<Event>) -> Result<(), AllocError>
-    ensures { OnOk result (variables_of_trace (map event_view uses.new.items) ≡ variables_of_trace (map event_view uses.old.items) ++ variables_of_strands (skeleton_view k.now).strands) }
+    ensures { OnOk result (variables_of_trace uses.new.items ≡ variables_of_trace uses.old.items ++ variables_of_strands (skeleton_view k.now).strands) }
 {
     let occurrences = k.events(alloc)?;
     for occurrence in &occurrences {
@@ -37,7 +38,7 @@ fn add_messages(alloc: Global, k: &Skeleton, uses: &mut Vec<Event>) -> Result<()
 
 /// Appends atoms.
 fn add_atoms(atoms: &[Atom], uses: &mut Vec<Event>) -> Result<(), AllocError>
-    ensures { OnOk result (variables_of_trace (map event_view uses.new.items) ≡ variables_of_trace (map event_view uses.old.items) ++ variables_of_atoms atoms.now) }
+    ensures { OnOk result (variables_of_trace uses.new.items ≡ variables_of_trace uses.old.items ++ variables_of_atoms atoms.now) }
 {
     for atom in atoms {
         add_use(atom.as_term(), uses)?;
@@ -47,7 +48,7 @@ fn add_atoms(atoms: &[Atom], uses: &mut Vec<Event>) -> Result<(), AllocError>
 
 /// Appends unique values.
 fn add_uniques(uniques: &[UniqueAt], uses: &mut Vec<Event>) -> Result<(), AllocError>
-    ensures { OnOk result (variables_of_trace (map event_view uses.new.items) ≡ variables_of_trace (map event_view uses.old.items) ++ variables_of_uniques uniques.now) }
+    ensures { OnOk result (variables_of_trace uses.new.items ≡ variables_of_trace uses.old.items ++ variables_of_uniques uniques.now) }
 {
     for unique in uniques {
         add_use(unique.value().as_term(), uses)?;
@@ -57,7 +58,7 @@ fn add_uniques(uniques: &[UniqueAt], uses: &mut Vec<Event>) -> Result<(), AllocE
 
 /// Appends terms.
 fn add_terms(terms: &[Term], uses: &mut Vec<Event>) -> Result<(), AllocError>
-    ensures { OnOk result (variables_of_trace (map event_view uses.new.items) ≡ variables_of_trace (map event_view uses.old.items) ++ variables_of_terms terms.now) }
+    ensures { OnOk result (variables_of_trace uses.new.items ≡ variables_of_trace uses.old.items ++ variables_of_terms terms.now) }
 {
     for term in terms {
         add_use(term, uses)?;
@@ -67,7 +68,7 @@ fn add_terms(terms: &[Term], uses: &mut Vec<Event>) -> Result<(), AllocError>
 
 /// The terms of the skeleton's strands, of its assumptions and of its map from the problem, as events.
 fn uses_of(alloc: Global, k: &Skeleton) -> Result<Vec<Event>, AllocError>
-    ensures { IfOk result (λ uses. variables_of_trace (map event_view uses.items) ≡ used_variables (skeleton_view k.now)) }
+    ensures { IfOk result (λ uses. variables_of_trace uses.items ≡ used_variables (skeleton_view k.now)) }
 {
     let assumptions = k.assumptions();
     let mut uses = Vec::new(alloc);
@@ -79,33 +80,83 @@ fn uses_of(alloc: Global, k: &Skeleton) -> Result<Vec<Event>, AllocError>
     Ok(uses)
 }
 
-/// Whether the variable occurs in `events` but not in `uses`.
-fn is_new(events: &[Event], uses: &[Event], id: VarId, sort: Sort) -> bool
-    ensures { result ≡ (has_variable (variables_of_trace (map event_view events.now)) (record { sort = sort_view sort; number = id })
-        && not (has_variable (variables_of_trace (map event_view uses.now)) (record { sort = sort_view sort; number = id }))) }
+/// The place of a sort among all sorts.
+fn place_of(sort: Sort) -> usize
+    ensures { result ≡ sort_number sort }
 {
-    occurs(events, id, sort) && !occurs(uses, id, sort)
+    match sort {
+        Sort::Text => 0,
+        Sort::Datum => 1,
+        Sort::Name => 2,
+        Sort::Skey => 3,
+        Sort::Akey => 4,
+    }
 }
 
-/// The variables of the term that the table declares and the skeleton does not use, in ascending order of their numbers.
-pub(crate) fn new_variables(
-    alloc: Global,
-    k: &Skeleton,
-    variables: &VarTable,
-    term: &Term,
-) -> Result<Locals, AllocError>
-    ensures { IfOk result (λ locals. locals ≡ numbers (variables_where (is_new_in term.now (used_variables (skeleton_view k.now))) 0 (variables_view variables.now))) }
+/// Whether the first variable has a smaller number, or the same number and an earlier sort.
+fn stands_before(first: Variable, second: Variable) -> bool
+    ensures { result ≡ variable_before first second }
+{
+    first.number < second.number
+        || (first.number == second.number && place_of(first.sort) < place_of(second.sort))
+}
+
+/// Puts the variable in its place among new ones, unless it is there or occurs in `uses`.
+fn put_new(uses: &[Event], id: VarId, sort: Sort, new: &mut Vec<Variable>) -> Result<(), AllocError>
+    ensures { OnOk result (PutsNew (variables_of_trace uses.now) (record { sort = sort; number = id } ∷ []) new.old.items new.new.items) }
+{
+    let variable = Variable {
+        sort,
+        number: id.number(),
+    };
+    if has_variable(new, variable) || occurs(uses, id, sort) {
+        return Ok(());
+    }
+    let place = new.partition_point(|other| stands_before(*other, variable));
+    new.insert(place, variable)?;
+    Ok(())
+}
+
+/// Puts two names in their places among new ones, unless they occur in `uses`.
+fn put_names(uses: &[Event], a: VarId, b: VarId, new: &mut Vec<Variable>) -> Result<(), AllocError>
+    ensures { OnOk result (PutsNew (variables_of_trace uses.now) (record { sort = name_sort; number = a } ∷ record { sort = name_sort; number = b } ∷ []) new.old.items new.new.items) }
+{
+    put_new(uses, a, Sort::Name, new)?;
+    put_new(uses, b, Sort::Name, new)
+}
+
+/// Puts each variable of the term in its place among new ones, unless it occurs in `uses`. Right parts and plaintexts are walked
+/// by a loop, since a term may be long.
+fn put_all_new(uses: &[Event], term: &Term, new: &mut Vec<Variable>) -> Result<(), AllocError>
+    ensures { OnOk result (PutsNew (variables_of_trace uses.now) (variables_of term.now) new.old.items new.new.items) }
+{
+    let mut rest = term;
+    loop {
+        match rest.shape() {
+            Shape::Tag(_) => return Ok(()),
+            Shape::Variable(id, sort) => return put_new(uses, id, sort, new),
+            Shape::Inverse(id) => return put_new(uses, id, Sort::Akey, new),
+            Shape::Ltk(a, b) => return put_names(uses, a, b, new),
+            Shape::Pubk(_, _, name) => return put_new(uses, name, Sort::Name, new),
+            Shape::Pair(left, right) => {
+                put_all_new(uses, left, new)?;
+                rest = right;
+            }
+            Shape::Encryption(body, key) => {
+                put_all_new(uses, key, new)?;
+                rest = body;
+            }
+        }
+    }
+}
+
+/// The variables of the term that the skeleton does not use, in ascending order of their numbers; those with one number in the
+/// order of their sorts.
+pub(crate) fn new_variables(alloc: Global, k: &Skeleton, term: &Term) -> Result<Locals, AllocError>
+    ensures { IfOk result (AreNewVariables (skeleton_view k.now) term.now) }
 {
     let uses = uses_of(alloc, k)?;
-    let events = [Event::Send(term.copy()?)];
-    let mut locals = Locals::new(alloc);
-    for number in 0..variables.len() {
-        let id = VarId::numbered(number);
-        let sort = variables.sort(id);
-        if !is_new(&events, &uses, id, sort) {
-            continue;
-        }
-        locals.push(id)?;
-    }
-    Ok(locals)
+    let mut new = Vec::new(alloc);
+    put_all_new(&uses, term, &mut new)?;
+    Ok(Locals::of(new))
 }

@@ -1,10 +1,8 @@
 // The pattern that a child with an added strand contributes.
 ghost use Rattle.std.specs.Prelude.{◌≡◌, ◌↔◌, ◌++◌, ◌∷◌, [], map, length, IsTrue, IfOk, IfSome, IfNone};
 ghost use Rattle.cp_theory.specs.Above.{encryptions_above};
-ghost use Rattle.cp_model.specs.PointOfView.{HasDeclaredVariables};
 ghost use Rattle.cp_model.specs.Term.{Term as PlainTerm};
 ghost use Rattle.cp_model.specs.Tree.{Pattern as Plain};
-ghost use Rattle.cp_skel.specs.Trees.{variables_view};
 ghost use Rattle.cp_skel.specs.View.{skeleton_view};
 ghost use Rattle.cp_escape.specs.Escape.{IsFirstWith};
 ghost use Rattle.cp_escape.specs.WidenedPattern.{BindsNothing, EndsBySending, StaysClosed, WidensBy};
@@ -95,14 +93,13 @@ fn outermost_staying(
 /// whose inverse key is assumed non-originating by the skeleton. Its locals are the variables that the skeleton does not use.
 ///
 /// `None` exactly if the child binds a variable of the skeleton, its last strand is not an added one that ends with a
-/// transmission, or there is no such encryption. The child's variables must be declared.
+/// transmission, or there is no such encryption.
 pub fn widen(
     alloc: Global,
     k: &Skeleton,
     child: &Skeleton,
     path: &Path,
 ) -> Result<Option<Pattern>, AllocError>
-    requires declared { HasDeclaredVariables (variables_view child.now.variables) (skeleton_view child.now) }
     ensures some { IfOk result (λ answer. IfSome answer (λ p. WidensBy (skeleton_view k.now) (skeleton_view child.now) path.now p)) }
     ensures none { IfOk result (λ answer. IfNone answer ((p : Plain) → WidensBy (skeleton_view k.now) (skeleton_view child.now) path.now p → ⊥)) }
 {
@@ -115,6 +112,6 @@ pub fn widen(
     let Some(encryption) = outermost_staying(alloc, k, &message, path)? else {
         return Ok(None);
     };
-    let locals = new_variables(alloc, k, child.variables(), &encryption)?;
+    let locals = new_variables(alloc, k, &encryption)?;
     Ok(Some(Pattern::new(encryption, locals)))
 }

@@ -1,7 +1,7 @@
 -- Children that give patterns.
-use Rattle.std.proofs.Common.{◌≡◌, ℕ, ◌+◌, ◌<◌, ◌≤◌, List, length, map, get_or, Option, Some, None, Result, Ok, Err, IfOk, IfNone, sym, subst, ◌⊎◌, ⊎_elim, arith}
+use Rattle.std.proofs.Common.{◌≡◌, ℕ, ◌+◌, ◌<◌, ◌≤◌, List, length, map, get_or, Option, Some, None, Result, Ok, Err, IfOk, IfNone, sym, subst, ⊎_elim, arith}
 use Rattle.cp_lists.specs.Lists.{item_at, IsIn}
-use Rattle.cp_lists.proofs.Items.{place_of, at_place, item_below, item_of_map, map_of_read}
+use Rattle.cp_lists.proofs.Items.{place_of, item_below, item_of_map, map_of_read}
 use Rattle.cp_lists.proofs.Least.{less_or_same}
 use Rattle.cp_model.specs.Skeleton.{Skeleton}
 use Rattle.cp_model.specs.Tree.{Pattern}
@@ -40,6 +40,3 @@ none_at_last k cs n whole none c q listed gives =
 
 pub given_at : (k : Skeleton) (cs : List program.Child) (n : ℕ) (child : program.Child) (p : Pattern) → n < length cs → child ≡ get_or cs n child → GivesPattern k (child_view child) p → NoneGives k cs n → IsGiven k (map child_view cs) n p
 given_at k cs n child p below is gives none = record { child = child_view child; at = map_of_read child_view cs n child below is; gives = gives; first = none }
-
-pub declared_child : {Q : Child → Type 0} (cs : List program.Child) (n : ℕ) (child : program.Child) → n < length cs → child ≡ get_or cs n child → ((c : Child) → IsIn c (map child_view cs) → Q c) → Q (child_view child)
-declared_child cs n child below is all = all (child_view child) (at_place (map child_view cs) n (child_view child) (map_of_read child_view cs n child below is))

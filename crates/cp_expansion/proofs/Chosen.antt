@@ -4,7 +4,7 @@ use Rattle.cp_lists.specs.Lists.{item_at, IsIn, here, there}
 use Rattle.cp_model.specs.declared.node.Node.{Node}
 use Rattle.cp_model.specs.Term.{Term}
 use Rattle.cp_model.specs.Skeleton.{SkeletonStrand, instance, listener, term_event_at, Skeleton}
-use Rattle.cp_model.specs.Strand.{recv}
+use Rattle.cp_model.specs.declared.strand.Event.TheVariants.{Receive as recv}
 use Rattle.cp_model.specs.Derivable.{DerivableAt}
 use Rattle.cp_derive.specs.Unrealised.{IsUnrealisedAt, IsListedBefore, AreRising, ListsUnrealised}
 use Rattle.cp_expansion.specs.ChosenNode.{is_listening, listens_at, last_listening, first_node, chosen}

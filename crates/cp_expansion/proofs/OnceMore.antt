@@ -3,17 +3,17 @@ use Rattle.std.proofs.Common.{◌≡◌, ℕ, ◌<◌, List, [], ◌∷◌, ◌+
 use Rattle.std.proofs.lemmas.List.{length-map}
 use Rattle.cp_lists.specs.Lists.{item_at, IsIn}
 use Rattle.cp_lists.proofs.Items.{item_below, item_still, at_place}
-use Rattle.cp_model.specs.Term.{Variable, Term}
-use Rattle.cp_model.specs.Strand.{Declaration, Protocol}
+use Rattle.cp_model.specs.Term.{Term}
+use Rattle.cp_model.specs.declared.variable.Variable.{Variable}
+use Rattle.cp_model.specs.Strand.{Protocol}
+use Rattle.cp_model.specs.declared.variable.Declaration.{Declaration}
 use Rattle.cp_model.specs.declared.node.Node.{Node}
 use Rattle.cp_model.specs.Skeleton.{Skeleton}
 use Rattle.cp_model.specs.Problem.{declared_sort, IsDeclared}
 use Rattle.cp_model.specs.PointOfView.{HasDeclaredVariables}
 use Rattle.cp_model.specs.Tree.{Pattern}
-use Rattle.cp_model.specs.Data.{Declared, SkeletonData}
-use Rattle.cp_strand.proofs.SameParts.{same_sort}
+use Rattle.cp_model.specs.Data.{SkeletonData}
 use Rattle.cp_skel.specs.View.{skeleton_view}
-use Rattle.cp_skel.specs.Trees.{declared_view, variables_view}
 use Rattle.cp_cohort.specs.CoveringChildren.{Child}
 use Rattle.cp_cohort.specs.Cohort.{GuardedTest}
 use Rattle.cp_cohort.specs.Way.{DeclaresMore}
@@ -35,21 +35,6 @@ listed_child k cs place p g = at_place (map child_view cs) place g.child g.at
 
 -- ---- tables
 
-same_declared : (d e : Declared) → declared_view d ≡ declared_view e → d ≡ e
-same_declared d e h =
-    let root : d.root ≡ e.root = ap (λ (x : Declaration). x.identifier) h in
-    let sort : d.sort ≡ e.sort = same_sort d.sort e.sort (ap (λ (x : Declaration). x.sort) h) in
-    λ i. record { root = root i; sort = sort i }
-
-pub more_behind : (ds es : List Declared) (more : List Declaration) → variables_view ds ≡ variables_view es ++ more → (rest : List Declared) × (ds ≡ es ++ rest)
-more_behind ds [] more e = (ds, refl)
-more_behind [] (f ∷ es) more e = absurd (cc)
-more_behind (d ∷ ds) (f ∷ es) more e =
-    let first : declared_view d ≡ declared_view f = cc in
-    let others : variables_view ds ≡ variables_view es ++ more = cc in
-    let behind = more_behind ds es more others in
-    (behind.0, λ i. same_declared d f first i ∷ behind.1 i)
-
 still_declared : (ds more : List Declaration) (x : Variable) → IsDeclared ds x → IsDeclared (ds ++ more) x
 still_declared ds more x d = still (item_at ds x.number) refl d
   where
@@ -69,30 +54,26 @@ declared_more ds es k m h = record {
 pub record IsNext (k grown : SkeletonData) (old new : List Pattern) (cs : List program.Child) (place : ℕ) (p : Pattern) (child : program.Child) : Type 0 where
   pub given : IsGiven (skeleton_view k) (map child_view cs) place p
   pub read : item_at (map child_view cs) place ≡ Some (child_view child)
-  pub sound : (c : Child) → IsIn c (map child_view cs) → DeclaresMore (variables_view k.variables) c.variables × HasDeclaredVariables c.variables c.skeleton
+  pub sound : (c : Child) → IsIn c (map child_view cs) → DeclaresMore k.variables c.variables
   pub grew : grown ≡ record k { variables = child.skeleton.variables }
   pub pushed : new ≡ old ++ p ∷ []
 
-pub grown_skeleton : (k grown : SkeletonData) (vs : List Declared) → grown ≡ record k { variables = vs } → skeleton_view k ≡ skeleton_view grown
+pub grown_skeleton : (k grown : SkeletonData) (vs : List Declaration) → grown ≡ record k { variables = vs } → skeleton_view k ≡ skeleton_view grown
 grown_skeleton k grown vs grew = sym (ap skeleton_view grew)
 
-pub grown_declared : (k grown : SkeletonData) (old new : List Pattern) (cs : List program.Child) (place : ℕ) (p : Pattern) (child : program.Child) → IsNext k grown old new cs place p child → HasDeclaredVariables (variables_view k.variables) (skeleton_view k)
-    → HasDeclaredVariables (variables_view grown.variables) (skeleton_view grown)
+pub grown_declared : (k grown : SkeletonData) (old new : List Pattern) (cs : List program.Child) (place : ℕ) (p : Pattern) (child : program.Child) → IsNext k grown old new cs place p child → HasDeclaredVariables k.variables (skeleton_view k)
+    → HasDeclaredVariables grown.variables (skeleton_view grown)
 grown_declared k grown old new cs place p child n h =
     let is : n.given.child ≡ child_view child = given_child (skeleton_view k) cs place p child n.given n.read in
-    let more : DeclaresMore (variables_view k.variables) (variables_view child.skeleton.variables) = subst (λ (c : Child). DeclaresMore (variables_view k.variables) c.variables) is (n.sound n.given.child (listed_child (skeleton_view k) cs place p n.given)).0 in
-    subst (λ (s : SkeletonData). HasDeclaredVariables (variables_view s.variables) (skeleton_view s)) (sym n.grew) (declared_more (variables_view k.variables) (variables_view child.skeleton.variables) (skeleton_view k) more h)
+    let more : DeclaresMore k.variables child.skeleton.variables = subst (λ (c : Child). DeclaresMore k.variables c.variables) is (n.sound n.given.child (listed_child (skeleton_view k) cs place p n.given)) in
+    subst (λ (s : SkeletonData). HasDeclaredVariables s.variables (skeleton_view s)) (sym n.grew) (declared_more k.variables child.skeleton.variables (skeleton_view k) more h)
 
-pub child_declared : (k grown : SkeletonData) (old new : List Pattern) (cs : List program.Child) (place : ℕ) (p : Pattern) (child : program.Child) → (n : IsNext k grown old new cs place p child) → HasDeclaredVariables n.given.child.variables n.given.child.skeleton
-child_declared k grown old new cs place p child n = (n.sound n.given.child (listed_child (skeleton_view k) cs place p n.given)).1
-
-pub table_behind : (k : SkeletonData) (cs : List program.Child) (place : ℕ) (p : Pattern) (child : program.Child) (vs : List Declared) → (g : IsGiven (skeleton_view k) (map child_view cs) place p) → item_at (map child_view cs) place ≡ Some (child_view child)
-    → ((c : Child) → IsIn c (map child_view cs) → DeclaresMore (variables_view k.variables) c.variables) → vs ≡ child.skeleton.variables → (rest : List Declared) × (vs ≡ k.variables ++ rest)
+pub table_behind : (k : SkeletonData) (cs : List program.Child) (place : ℕ) (p : Pattern) (child : program.Child) (vs : List Declaration) → (g : IsGiven (skeleton_view k) (map child_view cs) place p) → item_at (map child_view cs) place ≡ Some (child_view child)
+    → ((c : Child) → IsIn c (map child_view cs) → DeclaresMore k.variables c.variables) → vs ≡ child.skeleton.variables → (rest : List Declaration) × (vs ≡ k.variables ++ rest)
 table_behind k cs place p child vs g at sound is =
     let same : g.child ≡ child_view child = given_child (skeleton_view k) cs place p child g at in
-    let more : DeclaresMore (variables_view k.variables) (variables_view child.skeleton.variables) = subst (λ (c : Child). DeclaresMore (variables_view k.variables) c.variables) same (sound g.child (listed_child (skeleton_view k) cs place p g)) in
-    let behind = more_behind child.skeleton.variables k.variables more.more more.behind in
-    (behind.0, is ∙ behind.1)
+    let more : DeclaresMore k.variables child.skeleton.variables = subst (λ (c : Child). DeclaresMore k.variables c.variables) same (sound g.child (listed_child (skeleton_view k) cs place p g)) in
+    (more.more, is ∙ more.behind)
 
 pub next_test : (k grown : SkeletonData) (n : Node) (c : Term) (old new : List Pattern) (p : Pattern) (child : program.Child) (g : Child) → g ≡ child_view child → grown ≡ record k { variables = child.skeleton.variables } → new ≡ old ++ p ∷ []
     → guarded_test_of grown n c new ≡ asked_under (guarded_test_of k n c old) g p

@@ -1,9 +1,11 @@
 -- The expansion of an unrealised skeleton: its test, the patterns that guard it, and the children of the test.
 use Rattle.std.specs.Prelude.{◌≡◌, ◌<◌, ◌≤◌, ℕ, List, [], ◌∷◌, ◌++◌, length}
 use Rattle.cp_lists.specs.Lists.{IsIn}
-use Rattle.cp_model.specs.Strand.{Declaration, Protocol}
+use Rattle.cp_model.specs.Strand.{Protocol}
+use Rattle.cp_model.specs.declared.variable.Declaration.{Declaration}
 use Rattle.cp_model.specs.Skeleton.{Skeleton}
-use Rattle.cp_model.specs.Tree.{by_added_strand, Pattern, Test}
+use Rattle.cp_model.specs.Tree.{Pattern, Test}
+use Rattle.cp_model.specs.declared.tree.Operation.TheVariants.{AddedStrand as by_added_strand}
 use Rattle.cp_cohort.specs.CoveringChildren.{Child}
 use Rattle.cp_cohort.specs.Cohort.{GuardedTest, IsCohort}
 use Rattle.cp_escape.specs.Escape.{IsFirstWith, IsEscape}

@@ -1,7 +1,6 @@
 -- What expansions of the program stand for.
 use Rattle.std.specs.Prelude.{map}
-use Rattle.cp_skel.specs.Trees.{variables_view, test_view}
-use Rattle.cp_skel.specs.declared.tree.Test.{Test}
+use Rattle.cp_model.specs.Tree.{Test}
 use Rattle.cp_cohort.specs.Cohort.{GuardedTest}
 use Rattle.cp_cohort.specs.Views.{guarded_test_of, child_view}
 use Rattle.cp_expansion.specs.declared.expansion.Expansion as program
@@ -9,8 +8,8 @@ use Rattle.cp_expansion.specs.Expansion.{Expansion}
 
 -- The test that was asked last: of the skeleton with all variables, under all patterns.
 abbrev pub last_test : Test → program.Expansion → GuardedTest
-last_test t e = guarded_test_of e.skeleton t.node t.term e.patterns.items
+last_test t e = guarded_test_of e.skeleton t.node t.critical e.patterns.items
 
 -- The expansion by this test.
 abbrev pub expansion_view : Test → program.Expansion → Expansion
-expansion_view t e = record { test = test_view t; variables = variables_view e.skeleton.variables; patterns = e.patterns.items; children = map child_view e.children.items }
+expansion_view t e = record { test = t; variables = e.skeleton.variables; patterns = e.patterns.items; children = map child_view e.children.items }

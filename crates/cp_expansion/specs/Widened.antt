@@ -2,7 +2,8 @@
 use Rattle.std.specs.Prelude.{◌≡◌, ◌<◌, ℕ, List, Option, Some, None, map}
 use Rattle.cp_lists.specs.Lists.{item_at, IsIn}
 use Rattle.cp_model.specs.Skeleton.{Skeleton}
-use Rattle.cp_model.specs.Tree.{by_added_strand, Pattern}
+use Rattle.cp_model.specs.Tree.{Pattern}
+use Rattle.cp_model.specs.declared.tree.Operation.TheVariants.{AddedStrand as by_added_strand}
 use Rattle.cp_cohort.specs.CoveringChildren.{Child}
 use Rattle.cp_escape.specs.WidenedPattern.{WidensBy}
 use Rattle.cp_cohort.specs.Views.{child_view}

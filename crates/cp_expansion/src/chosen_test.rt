@@ -41,7 +41,7 @@ fn chosen(k: &Skeleton, nodes: &[Node]) -> Option<Node>
 /// message received there that is not derivable. `None` exactly if no reception is unrealised.
 pub fn test_of(alloc: Global, k: &Skeleton, unrealised: &[Node]) -> Result<Option<Test>, AllocError>
     requires listed { ListsUnrealised (skeleton_view k.now) unrealised.now }
-    ensures test { IfOk result (λ t. IfSome t (λ t. IsTestOf (skeleton_view k.now) t.node t.term)) }
+    ensures test { IfOk result (λ t. IfSome t (λ t. IsTestOf (skeleton_view k.now) t.node t.critical)) }
     ensures none { IfOk result (λ t. IsNone t ↔ (unrealised.now ≡ [])) }
 {
     let Some(node) = chosen(k, unrealised) else {
@@ -52,6 +52,6 @@ pub fn test_of(alloc: Global, k: &Skeleton, unrealised: &[Node]) -> Result<Optio
     };
     Ok(Some(Test {
         node,
-        term: critical.term,
+        critical: critical.term,
     }))
 }

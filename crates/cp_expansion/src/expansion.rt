@@ -6,7 +6,6 @@ ghost use Rattle.cp_theory.specs.Guards.{Guards};
 ghost use Rattle.cp_model.specs.Skeleton.{IsSkeleton};
 ghost use Rattle.cp_model.specs.PointOfView.{HasDeclaredVariables};
 ghost use Rattle.cp_skel.specs.View.{skeleton_view};
-ghost use Rattle.cp_skel.specs.Trees.{variables_view};
 ghost use Rattle.cp_cohort.specs.CoveringChildren.{Child as PlainChild};
 ghost use Rattle.cp_cohort.specs.Views.{child_view, guarded_test_of};
 ghost use Rattle.cp_expansion.specs.Expansion.{AreWidened, IsExpansionOf};
@@ -43,15 +42,15 @@ fn widened(
     mut patterns: Vec<Pattern>,
 ) -> Result<Expansion, AllocError>
     requires skeleton { IsSkeleton protocol.now (skeleton_view k.now) }
-    requires declared { HasDeclaredVariables (variables_view k.now.variables) (skeleton_view k.now) }
-    requires test { IsTest (skeleton_view k.now) test.now.node test.now.term }
-    requires guards { Guards patterns.items (skeleton_view k.now) test.now.node test.now.term }
-    ensures widened { IfOk result (λ e. AreWidened protocol.now (guarded_test_of k.now test.now.node test.now.term patterns.items) (last_test test.now e) (map child_view e.children.items)) }
+    requires declared { HasDeclaredVariables k.now.variables (skeleton_view k.now) }
+    requires test { IsTest (skeleton_view k.now) test.now.node test.now.critical }
+    requires guards { Guards patterns.items (skeleton_view k.now) test.now.node test.now.critical }
+    ensures widened { IfOk result (λ e. AreWidened protocol.now (guarded_test_of k.now test.now.node test.now.critical patterns.items) (last_test test.now e) (map child_view e.children.items)) }
     ensures same { IfOk result (λ e. skeleton_view e.skeleton ≡ skeleton_view k.now) }
     ensures sound { IfOk result (λ e. (c : PlainChild) → IsIn c (map child_view e.children.items) → IsSkeleton protocol.now c.skeleton × HasDeclaredVariables c.variables c.skeleton) }
 {
     widening_keeps_guards();
-    let children = cohort(alloc, protocol, k, test.node, &test.term, &patterns)?;
+    let children = cohort(alloc, protocol, k, test.node, &test.critical, &patterns)?;
     if patterns.len() >= MOST_PATTERNS {
         let skeleton = k.copy(alloc)?;
         return Ok(Expansion {
@@ -84,12 +83,12 @@ pub fn expand(
     test: &Test,
 ) -> Result<Expansion, AllocError>
     requires skeleton { IsSkeleton protocol.now (skeleton_view k.now) }
-    requires declared { HasDeclaredVariables (variables_view k.now.variables) (skeleton_view k.now) }
-    requires test { IsTestOf (skeleton_view k.now) test.now.node test.now.term }
-    ensures exact { IfOk result (λ e. IsExpansionOf protocol.now (variables_view k.now.variables) (skeleton_view k.now) (expansion_view test.now e)) }
+    requires declared { HasDeclaredVariables k.now.variables (skeleton_view k.now) }
+    requires test { IsTestOf (skeleton_view k.now) test.now.node test.now.critical }
+    ensures exact { IfOk result (λ e. IsExpansionOf protocol.now k.now.variables (skeleton_view k.now) (expansion_view test.now e)) }
     ensures same { IfOk result (λ e. skeleton_view e.skeleton ≡ skeleton_view k.now) }
     ensures sound { IfOk result (λ e. (c : PlainChild) → IsIn c (map child_view e.children.items) → IsSkeleton protocol.now c.skeleton × HasDeclaredVariables c.variables c.skeleton) }
 {
-    let patterns = escape(alloc, k, test.node, &test.term)?;
+    let patterns = escape(alloc, k, test.node, &test.critical)?;
     widened(alloc, protocol, k, test, patterns)
 }

@@ -1,6 +1,6 @@
 // Skeletons with larger tables of variables.
 ghost use Rattle.std.specs.Prelude.{◌≡◌, List, ◌++◌, IfOk};
-ghost use Rattle.cp_model.specs.Data.{Declared};
+ghost use Rattle.cp_model.specs.declared.variable.Declaration.{Declaration};
 
 use cp_skel::Skeleton;
 use cp_term::{VarId, VarTable};
@@ -12,7 +12,7 @@ pub(crate) fn with_variables(
     k: &Skeleton,
     variables: &VarTable,
 ) -> Result<Skeleton, AllocError>
-    requires more { (more : List Declared) × (variables.now ≡ k.now.variables ++ more) }
+    requires more { (more : List Declaration) × (variables.now ≡ k.now.variables ++ more) }
     ensures { IfOk result (λ l. l ≡ record k.now { variables = variables.now }) }
 {
     let mut grown = k.copy(alloc)?;

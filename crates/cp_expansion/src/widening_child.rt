@@ -1,11 +1,7 @@
 // Finds the first child that widens a set of patterns.
-ghost use Rattle.std.specs.Prelude.{map, IfOk, IfNone, IfSome};
-ghost use Rattle.cp_lists.specs.Lists.{IsIn};
-ghost use Rattle.cp_model.specs.PointOfView.{HasDeclaredVariables};
-ghost use Rattle.cp_skel.specs.Trees.{variables_view};
+ghost use Rattle.std.specs.Prelude.{IfOk, IfNone, IfSome};
 ghost use Rattle.cp_skel.specs.View.{skeleton_view};
 ghost use Rattle.cp_model.specs.Tree.{Pattern as PlainPattern};
-ghost use Rattle.cp_cohort.specs.CoveringChildren.{Child as PlainChild};
 ghost use Rattle.cp_cohort.specs.Views.{child_view};
 ghost use Rattle.cp_expansion.specs.Widened.{GivesPattern, FindsWidening};
 
@@ -24,7 +20,6 @@ pub(crate) struct Widening {
 
 /// The pattern that a child gives, if the child adds a strand and gives one.
 fn pattern_of(alloc: Global, k: &Skeleton, child: &Child) -> Result<Option<Pattern>, AllocError>
-    requires declared { HasDeclaredVariables (variables_view child.now.skeleton.variables) (skeleton_view child.now.skeleton) }
     ensures some { IfOk result (λ p. IfSome p (λ p. GivesPattern (skeleton_view k.now) (child_view child.now) p)) }
     ensures none { IfOk result (λ p. IfNone p ((q : PlainPattern) → GivesPattern (skeleton_view k.now) (child_view child.now) q → ⊥)) }
 {
@@ -40,7 +35,6 @@ pub(crate) fn first_widening(
     k: &Skeleton,
     children: &[Child],
 ) -> Result<Option<Widening>, AllocError>
-    requires declared { (c : PlainChild) → IsIn c (map child_view children.now) → HasDeclaredVariables c.variables c.skeleton }
     ensures { IfOk result (FindsWidening (skeleton_view k.now) children.now) }
 {
     for (number, child) in children.iter().enumerate() {

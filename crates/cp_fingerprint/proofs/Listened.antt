@@ -3,8 +3,11 @@ use Rattle.std.proofs.Common.{◌≡◌, ◌≤◌, ℕ, zero, suc, Bool, true, 
 use Rattle.std.specs.Prelude.{Some}
 use Rattle.cp_lists.specs.Lists.{item_at, IsIn, here}
 use Rattle.cp_lists.proofs.Members.{in_append, in_append_left, in_append_right}
-use Rattle.cp_model.specs.Term.{text_sort, datum_sort, name_sort, skey_sort, Variable, SymmetricTerm, skey_variable, ltk_term, symmetric_term, asymmetric_term, text_variable, datum_variable, name_variable, key_term, Term, tag_term, atom_term, pair_term, enc_term, atom_of_variable, variables_of, variables_of_atom, apply_to, apply_to_atom}
-use Rattle.cp_model.specs.Strand.{recv, variables_of_trace}
+use Rattle.cp_model.specs.Term.{SymmetricTerm, skey_variable, ltk_term, symmetric_term, asymmetric_term, text_variable, datum_variable, name_variable, key_term, Term, tag_term, atom_term, pair_term, enc_term, variables_of, variables_of_atom, apply_to, variable_term}
+use Rattle.cp_model.specs.declared.sort.Sort.TheVariants.{Text as text_sort, Datum as datum_sort, Name as name_sort, Skey as skey_sort}
+use Rattle.cp_model.specs.declared.variable.Variable.{Variable}
+use Rattle.cp_model.specs.Strand.{variables_of_trace}
+use Rattle.cp_model.specs.declared.strand.Event.TheVariants.{Receive as recv}
 use Rattle.cp_model.specs.Skeleton.{SkeletonStrand, instance, listener, Skeleton}
 use Rattle.cp_model.specs.Homomorphism.{SkeletonMap, IsEmbedding}
 use Rattle.cp_model.specs.Same.{has_variable}
@@ -40,14 +43,14 @@ module _ (a b : Skeleton) (f : SkeletonMap) (emb : IsEmbedding a b f) where
   abbrev theirs : List Variable
   theirs = variables_of_trace (listened b.strands)
 
-  heard_there : (x y : Variable) → IsIn x own → IsIn y (variables_of_atom (apply_to_atom f.terms (atom_of_variable x))) → IsIn y theirs
+  heard_there : (x y : Variable) → IsIn x own → IsIn y (variables_of (apply_to f.terms (variable_term x))) → IsIn y theirs
   heard_there x y p q =
       let h = heard_somewhere a.strands x p in
       let in_one : IsIn y (variables_of (apply_to f.terms h.message) ++ []) = in_trace_under f.terms (recv h.message ∷ []) x y (in_append_left [] h.occurs) q in
       heard_of b.strands (f.strands h.place) (apply_to f.terms h.message) y (emb.homomorphism.listeners h.place h.message h.at)
       (⊎_elim (λ r. r) (λ r. elim r [ ]) (in_append (variables_of (apply_to f.terms h.message)) [] in_one))
 
-  by_variable : (x y : Variable) → IsIn y (variables_of_atom (apply_to_atom f.terms (atom_of_variable x))) → has_variable own x ≡ true → has_variable theirs y ≡ true
+  by_variable : (x y : Variable) → IsIn y (variables_of (apply_to f.terms (variable_term x))) → has_variable own x ≡ true → has_variable theirs y ≡ true
   by_variable x y q e = in_has_variable theirs y (heard_there x y (variable_in own x e) q)
 
   of_skey : (k : SymmetricTerm) → ((m : ℕ) → k ≡ skey_variable m → has_variable theirs (record { sort = skey_sort; number = m }) ≡ true) → is_heard theirs (atom_term (key_term (symmetric_term k))) ≡ true

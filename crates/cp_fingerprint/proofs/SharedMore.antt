@@ -7,12 +7,15 @@ use Rattle.std.proofs.Math.Nat.{min-eq_left, min-eq_right, min-le_right, mul-le-
 use Rattle.cp_lists.specs.Lists.{item_at, IsIn}
 use Rattle.cp_lists.proofs.Members.{drop_read}
 use Rattle.cp_lists.proofs.Items.{map_of_item}
-use Rattle.cp_model.specs.Term.{Term, Variable, Substitution, tag_term, atom_term, pair_term, enc_term, text_variable, datum_variable, name_variable, key_term, symmetric_term, asymmetric_term, skey_variable, ltk_term, akey_variable, pubk_term, atom_of_variable, apply_to, apply_to_atom, composed, AgreeOnTerms}
-use Rattle.cp_model.specs.Strand.{Event, Role, Declaration, variables_of_trace, variables_of_prefix}
+use Rattle.cp_model.specs.Term.{Term, Substitution, tag_term, atom_term, pair_term, enc_term, text_variable, datum_variable, name_variable, key_term, symmetric_term, asymmetric_term, skey_variable, ltk_term, akey_variable, pubk_term, apply_to, composed, AgreeOnTerms, variable_term}
+use Rattle.cp_model.specs.declared.variable.Variable.{Variable}
+use Rattle.cp_model.specs.Strand.{Role, variables_of_trace, variables_of_prefix}
+use Rattle.cp_model.specs.declared.strand.Event.{Event}
+use Rattle.cp_model.specs.declared.variable.Declaration.{Declaration}
 use Rattle.cp_model.specs.Skeleton.{SkeletonStrand, instance, listener, Skeleton}
 use Rattle.cp_model.specs.Homomorphism.{SkeletonMap, IsEmbedding, Embeds}
 use Rattle.cp_model.specs.Same.{same_term, has_variable}
-use Rattle.cp_model.proofs.LawTerms.{atom_composed}
+use Rattle.cp_model.proofs.LawTerms.{term_composed}
 use Rattle.cp_model.proofs.LawPrefixes.{variables_of_higher}
 use Rattle.cp_model.proofs.SameTests.{variable_in, in_has_variable}
 use Rattle.cp_term.proofs.SameTerms.{same_Decides, test_is}
@@ -230,21 +233,21 @@ module _ (f : SkeletonMap) where
 
     module _ (name : ℕ) (xs ys : List Variable) (s t : Substitution) (within : (x : Variable) → IsIn x xs → IsIn x ys) (agree : AgreeOnTerms xs (composed s f.terms) t) where
       one_more : (i : ℕ) (d : Declaration) → IsIn (declared_variable i d) xs →
-          u (record { weight = place_weight name i; value = apply_to s (atom_term (atom_of_variable (declared_variable i d))) })
-          ≤ w (record { weight = place_weight name i; value = apply_to t (atom_term (atom_of_variable (declared_variable i d))) })
+          u (record { weight = place_weight name i; value = apply_to s (variable_term (declared_variable i d)) })
+          ≤ w (record { weight = place_weight name i; value = apply_to t (variable_term (declared_variable i d)) })
       one_more i d p =
-          let v = atom_of_variable (declared_variable i d) in
-          let e : apply_to_atom f.terms (apply_to_atom s v) ≡ apply_to_atom t v = sym (atom_composed s f.terms v) ∙ agree (declared_variable i d) p in
-          subst (λ a. u (record { weight = place_weight name i; value = apply_to s (atom_term v) }) ≤ w (record { weight = place_weight name i; value = atom_term a })) e
-          (more (record { weight = place_weight name i; value = apply_to s (atom_term v) }))
+          let v = variable_term (declared_variable i d) in
+          let e : apply_to f.terms (apply_to s v) ≡ apply_to t v = sym (term_composed s f.terms v) ∙ agree (declared_variable i d) p in
+          subst (λ (a : Term). u (record { weight = place_weight name i; value = apply_to s v }) ≤ w (record { weight = place_weight name i; value = a })) e
+          (more (record { weight = place_weight name i; value = apply_to s v }))
 
       declared_more : (i : ℕ) (ds : List Declaration) → sum_of u (declared_slots name xs s i ds) ≤ sum_of w (declared_slots name ys t i ds)
       declared_more i [] = omega arith
       declared_more i (d ∷ ds) =
           let x = declared_variable i d in
           step (has_variable xs x) (has_variable ys x)
-          (record { weight = place_weight name i; value = apply_to s (atom_term (atom_of_variable x)) })
-          (record { weight = place_weight name i; value = apply_to t (atom_term (atom_of_variable x)) })
+          (record { weight = place_weight name i; value = apply_to s (variable_term x) })
+          (record { weight = place_weight name i; value = apply_to t (variable_term x) })
           (declared_slots name xs s (suc i) ds) (declared_slots name ys t (suc i) ds)
           (λ e. in_has_variable ys x (within x (variable_in xs x e)))
           (λ e. one_more i d (variable_in xs x e))

@@ -1,7 +1,12 @@
 -- The bucket key: a number that tells how the role strands of a skeleton share values. No embedding makes it smaller.
 use Rattle.std.specs.Prelude.{◌+◌, ◌-◌, ◌*◌, ◌%◌, ◌^◌, ℕ, suc, Bool, true, List, [], ◌∷◌, ◌++◌, min, map, if◌then◌else◌, Vec}
-use Rattle.cp_model.specs.Term.{text_sort, datum_sort, name_sort, skey_sort, Variable, skey_variable, ltk_term, pubk_term, symmetric_term, asymmetric_term, text_variable, datum_variable, name_variable, key_term, Term, tag_term, atom_term, pair_term, enc_term, Substitution, atom_of_variable, apply_to}
-use Rattle.cp_model.specs.Strand.{Event, recv, Declaration, variables_of_trace, variables_of_prefix}
+use Rattle.cp_model.specs.Term.{skey_variable, ltk_term, pubk_term, symmetric_term, asymmetric_term, text_variable, datum_variable, name_variable, key_term, Term, tag_term, atom_term, pair_term, enc_term, Substitution, apply_to, variable_term}
+use Rattle.cp_model.specs.declared.sort.Sort.TheVariants.{Text as text_sort, Datum as datum_sort, Name as name_sort, Skey as skey_sort}
+use Rattle.cp_model.specs.declared.variable.Variable.{Variable}
+use Rattle.cp_model.specs.Strand.{variables_of_trace, variables_of_prefix}
+use Rattle.cp_model.specs.declared.strand.Event.{Event}
+use Rattle.cp_model.specs.declared.strand.Event.TheVariants.{Receive as recv}
+use Rattle.cp_model.specs.declared.variable.Declaration.{Declaration}
 use Rattle.cp_model.specs.Skeleton.{SkeletonStrand, instance, listener, Skeleton}
 use Rattle.cp_model.specs.Same.{same_term, has_variable}
 use Rattle.cp_fingerprint.specs.PartitionNumber.{mixed}
@@ -30,7 +35,7 @@ declared_variable i d = record { sort = d.sort; number = i }
 abbrev pub declared_slots : ℕ → List Variable → Substitution → ℕ → List Declaration → List Slot
 declared_slots name xs s i [] = []
 declared_slots name xs s i (d ∷ ds) = if has_variable xs (declared_variable i d)
-    then record { weight = place_weight name i; value = apply_to s (atom_term (atom_of_variable (declared_variable i d))) } ∷ declared_slots name xs s (suc i) ds
+    then record { weight = place_weight name i; value = apply_to s (variable_term (declared_variable i d)) } ∷ declared_slots name xs s (suc i) ds
     else declared_slots name xs s (suc i) ds
 
 -- The values of the variables that occur in the prefix of a role strand.

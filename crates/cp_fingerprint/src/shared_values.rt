@@ -1,7 +1,7 @@
 // A number for how role strands share values. Its sums and products saturate.
 ghost use Rattle.std.specs.Prelude.{◌≡◌, map, IfOk};
 ghost use Rattle.cp_model.specs.Strand.{variables_of_trace};
-ghost use Rattle.cp_strand.specs.View.{event_view, strand_view};
+ghost use Rattle.cp_strand.specs.View.{strand_view};
 ghost use Rattle.cp_skel.specs.View.{skeleton_view};
 ghost use Rattle.cp_fingerprint.specs.SharedValues.{lists_of, slots_in, listened, is_heard, heard_weight, weight_from, named_from, value_weight, share_from, squares_from, bucket_key_of};
 
@@ -12,7 +12,7 @@ use std::alloc::{AllocError, Global};
 
 /// The messages of the listeners.
 fn listened(alloc: Global, strands: &[Strand]) -> Result<Vec<Event>, AllocError>
-    ensures { IfOk result (λ es. map event_view es.items ≡ listened (map strand_view strands.now)) }
+    ensures { IfOk result (λ es. es.items ≡ listened (map strand_view strands.now)) }
 {
     let mut events = Vec::new(alloc);
     for strand in strands {
@@ -27,7 +27,7 @@ fn listened(alloc: Global, strands: &[Strand]) -> Result<Vec<Event>, AllocError>
 /// Whether the value occurs in these events, if it is a variable of a sort other than that of key pairs. Every other value counts
 /// as occurring, since a variable may map to it.
 fn is_heard(events: &[Event], value: &Term) -> bool
-    ensures { result ≡ is_heard (variables_of_trace (map event_view events.now)) value.now }
+    ensures { result ≡ is_heard (variables_of_trace events.now) value.now }
 {
     match value.shape() {
         Shape::Variable(id, sort) => sort == Sort::Akey || occurs(events, id, sort),
@@ -37,7 +37,7 @@ fn is_heard(events: &[Event], value: &Term) -> bool
 
 /// The weight for a value that listeners hear.
 fn heard_weight(events: &[Event], value: &Term) -> usize
-    ensures { result ≡ heard_weight (map event_view events.now) value.now }
+    ensures { result ≡ heard_weight events.now value.now }
 {
     if is_heard(events, value) { 4099 } else { 0 }
 }
@@ -101,7 +101,7 @@ fn value_weight(
     value: &Term,
     places: &Places,
 ) -> Result<usize, AllocError>
-    ensures { IfOk result (λ n. n ≡ value_weight (map event_view heard.now) (slots_in places.now) value.now) }
+    ensures { IfOk result (λ n. n ≡ value_weight heard.now (slots_in places.now) value.now) }
 {
     let first = heard_weight(heard, value);
     let weight = names_weight(alloc, first, value, places)?;
@@ -115,7 +115,7 @@ fn share_of(
     places: &Places,
     slots: &[Slot],
 ) -> Result<usize, AllocError>
-    ensures { IfOk result (λ n. n ≡ share_from 0 (map event_view heard.now) (slots_in places.now) slots.now) }
+    ensures { IfOk result (λ n. n ≡ share_from 0 heard.now (slots_in places.now) slots.now) }
 {
     let mut share: usize = 0;
     for slot in slots {
@@ -127,7 +127,7 @@ fn share_of(
 
 /// The share of the problem's places, plus the square of the share of each strand's places.
 fn bucket_key(alloc: Global, heard: &[Event], places: &Places) -> Result<usize, AllocError>
-    ensures { IfOk result (λ n. n ≡ squares_from (share_from 0 (map event_view heard.now) (slots_in places.now) places.now.values.items) (map event_view heard.now) (slots_in places.now) (lists_of places.now.strands.items)) }
+    ensures { IfOk result (λ n. n ≡ squares_from (share_from 0 heard.now (slots_in places.now) places.now.values.items) heard.now (slots_in places.now) (lists_of places.now.strands.items)) }
 {
     let mut bucket_key = share_of(alloc, heard, places, &places.values)?;
     for slots in &places.strands {

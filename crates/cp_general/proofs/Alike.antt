@@ -3,7 +3,7 @@ use Rattle.std.proofs.Common.{◌≡◌, ◌↔◌, ◌⊎◌, inl, inr, List, s
 use Rattle.std.specs.Prelude.{Some}
 use Rattle.cp_lists.specs.Lists.{IsIn, one_step, more_steps}
 use Rattle.cp_model.specs.Term.{AtomTerm, Term}
-use Rattle.cp_model.specs.Strand.{send}
+use Rattle.cp_model.specs.declared.strand.Event.TheVariants.{Send as send}
 use Rattle.cp_model.specs.declared.node.Node.{Node}
 use Rattle.cp_model.specs.declared.node.OrderPair.{OrderPair}
 use Rattle.cp_model.specs.Skeleton.{SkeletonStrand, UniqueAt, Assumptions, FromProblem, Skeleton, term_event_at, OrderStep, along_strand_of, along_pair, Before}

@@ -3,16 +3,18 @@ use Rattle.std.proofs.Common.{◌≡◌, ◌≢◌, ℕ, List, Some, map, refl, 
 use Rattle.cp_lists.specs.Lists.{item_at, IsIn}
 use Rattle.cp_lists.proofs.Members.{in_append_left}
 use Rattle.cp_lists.proofs.Mapped.{map_same, map_then, map_alike}
-use Rattle.cp_model.specs.Term.{Variable, AtomTerm, atom_of_variable, Term, apply_to, apply_to_atom}
+use Rattle.cp_model.specs.Term.{AtomTerm, Term, apply_to, variable_term}
+use Rattle.cp_model.specs.declared.variable.Variable.{Variable}
 use Rattle.cp_model.specs.Identity.{unchanged}
-use Rattle.cp_model.specs.Strand.{Declaration, Protocol}
+use Rattle.cp_model.specs.Strand.{Protocol}
+use Rattle.cp_model.specs.declared.variable.Declaration.{Declaration}
 use Rattle.cp_model.specs.Bundle.{node_at}
 use Rattle.cp_model.specs.declared.node.Node.{Node}
 use Rattle.cp_model.specs.Skeleton.{SkeletonStrand, instance, listener, UniqueAt, Skeleton, Before, IsSkeleton}
 use Rattle.cp_model.specs.Homomorphism.{SkeletonMap, IsHomomorphism, Embeds}
 use Rattle.cp_model.specs.Problem.{variables_of_strands, variables_of_atoms, variables_of_uniques, variables_of_assumptions, IsDeclared}
 use Rattle.cp_model.specs.PointOfView.{HasDeclaredVariables}
-use Rattle.cp_model.proofs.LawTerms.{atom_composed, atom_unchanged, term_unchanged}
+use Rattle.cp_model.proofs.LawTerms.{atom_unchanged, term_unchanged, term_composed}
 use Rattle.cp_skel.specs.Ordered.{IsOrdered}
 use Rattle.cp_skel.specs.Deletion.{renumbered, node_renumbered, unique_renumbered, as_it_is, IsOriginOn, IsForgottenNon, IsForgottenPenetratorNon}
 use Rattle.cp_skel.proofs.NumbersWithout.{restored, restored_renumbered, renumbered_restored, restored_other, item_without, node_restored, node_again}
@@ -83,7 +85,7 @@ module _ (d : ℕ) (k h : Skeleton) (del : Deletes d k h) where
       to_terms = terms;
       on_instance = strand_was s (instance role height terms) at;
       at_least = le_refl height;
-      equal_terms = λ x i. atom_composed terms unchanged (atom_of_variable x) ∙ atom_unchanged (apply_to_atom terms (atom_of_variable x));
+      equal_terms = λ x i. term_composed terms unchanged (variable_term x) ∙ term_unchanged (apply_to terms (variable_term x));
     };
     listeners = λ s t at. strand_was s (listener t) at ∙ ap (λ (u : Term). Some (listener u)) (sym (term_unchanged t));
     ordered = before_was;

@@ -5,7 +5,9 @@ use Rattle.cp_lists.proofs.Mapped.{map_same}
 use Rattle.cp_lists.proofs.Reached.{steps_append}
 use Rattle.cp_model.specs.Term.{apply_to}
 use Rattle.cp_model.specs.Identity.{unchanged}
-use Rattle.cp_model.specs.Strand.{send, recv, Declaration, Protocol}
+use Rattle.cp_model.specs.Strand.{Protocol}
+use Rattle.cp_model.specs.declared.strand.Event.TheVariants.{Send as send, Receive as recv}
+use Rattle.cp_model.specs.declared.variable.Declaration.{Declaration}
 use Rattle.cp_model.specs.declared.node.Node.{Node}
 use Rattle.cp_model.specs.declared.node.OrderPair.{OrderPair}
 use Rattle.cp_model.specs.Skeleton.{SkeletonStrand, term_event_at, Skeleton, OrderStep, along_strand_of, along_pair, Before, IsOrderPair, IsSkeleton}

@@ -3,7 +3,8 @@
 use Rattle.std.proofs.Common.{◌≡◌, ℕ, ◌+◌, List, Some, refl, sym, ap, ◌∙◌, subst, ⊎_elim, lt_of_lt_of_le, arith}
 use Rattle.cp_lists.specs.Lists.{item_at, IsIn}
 use Rattle.cp_model.specs.Term.{AtomTerm, Term, Substitution, apply_to, apply_to_atom, composed}
-use Rattle.cp_model.specs.Strand.{Role, Declaration, Protocol, Applies}
+use Rattle.cp_model.specs.Strand.{Role, Protocol, Applies}
+use Rattle.cp_model.specs.declared.variable.Declaration.{Declaration}
 use Rattle.cp_model.specs.Bundle.{node_at}
 use Rattle.cp_model.specs.declared.node.Node.{Node}
 use Rattle.cp_model.specs.Skeleton.{instance, listener, UniqueAt, Skeleton, Before, IsSkeleton}

@@ -4,9 +4,10 @@ use Rattle.std.specs.Prelude.{◌==◌, not, Some, length}
 use Rattle.std.proofs.lemmas.Bool.{and_from, and_parts}
 use Rattle.std.proofs.lemmas.Bool.Decides.{nat_tests, same_from_decides}
 use Rattle.cp_lists.specs.Lists.{IsIn, here, there}
-use Rattle.cp_lists.proofs.Members.{in_append, in_append_left, in_append_right, into_map, from_map, in_if_here, in_if_behind}
+use Rattle.cp_lists.proofs.Members.{in_append, in_append_left, in_append_right, in_if_here, in_if_behind}
 use Rattle.cp_model.specs.Term.{Term}
-use Rattle.cp_model.specs.Strand.{Event, send, recv}
+use Rattle.cp_model.specs.declared.strand.Event.{Event}
+use Rattle.cp_model.specs.declared.strand.Event.TheVariants.{Send as send, Receive as recv}
 use Rattle.cp_model.specs.declared.node.Node.{Node}
 use Rattle.cp_model.specs.declared.node.OrderPair.{OrderPair}
 use Rattle.cp_model.specs.Order.{ReachesAlong}
@@ -14,8 +15,7 @@ use Rattle.cp_model.specs.OrderTests.{reaches_within}
 use Rattle.cp_model.specs.Skeleton.{term_event_at, Skeleton, Before}
 use Rattle.cp_model.proofs.LawOrder.{before_leads, leads_before}
 use Rattle.cp_model.proofs.BoundedSearch.{bounded_search}
-use Rattle.cp_strand.specs.View.{event_view}
-use Rattle.cp_skel.specs.Events.{located_event_view, events_of}
+use Rattle.cp_skel.specs.Events.{events_of}
 use Rattle.cp_skel.specs.declared.events.LocatedEvent.{LocatedEvent}
 use Rattle.cp_skel.specs.Ordered.{IsOrdered}
 use Rattle.cp_skel.proofs.EventLists.{listed_event, located_event_at, listed_at}
@@ -33,28 +33,28 @@ of_if true z y ys (there m) = inr m
 of_if false z y ys m = inr m
 
 module _ (test : Event Term → Bool) where
-  in_nodes : (os : List LocatedEvent) (o : LocatedEvent) → IsIn o os → test (event_view o.event) ≡ true → IsIn o.node (nodes_where test os)
+  in_nodes : (os : List LocatedEvent) (o : LocatedEvent) → IsIn o os → test o.event ≡ true → IsIn o.node (nodes_where test os)
   in_nodes [] o m e = elim m [ ]
-  in_nodes (x ∷ os) o here e = in_if_here (test (event_view o.event)) o.node (nodes_where test os) e
-  in_nodes (x ∷ os) o (there m) e = in_if_behind (test (event_view x.event)) x.node o.node (nodes_where test os) (in_nodes os o m e)
+  in_nodes (x ∷ os) o here e = in_if_here (test o.event) o.node (nodes_where test os) e
+  in_nodes (x ∷ os) o (there m) e = in_if_behind (test x.event) x.node o.node (nodes_where test os) (in_nodes os o m e)
 
   record IsNodeWhere (os : List LocatedEvent) (n : Node) : Type 0 where
     occurrence : LocatedEvent
     listed : IsIn occurrence os
-    passes : test (event_view occurrence.event) ≡ true
+    passes : test occurrence.event ≡ true
     same : occurrence.node ≡ n
 
   of_nodes : (os : List LocatedEvent) (n : Node) → IsIn n (nodes_where test os) → IsNodeWhere os n
   of_nodes [] n m = elim m [ ]
-  of_nodes (o ∷ os) n m = elim (of_if (test (event_view o.event)) o.node n (nodes_where test os) m) as (λ _. IsNodeWhere (o ∷ os) n) [
+  of_nodes (o ∷ os) n m = elim (of_if (test o.event) o.node n (nodes_where test os) m) as (λ _. IsNodeWhere (o ∷ os) n) [
     | inl h ↦ record { occurrence = o; listed = here; passes = h.0; same = h.1 }
     | inr i ↦ let r = of_nodes os n i in record { occurrence = r.occurrence; listed = there r.listed; passes = r.passes; same = r.same }
   ]
 
-  among_all : (os : List LocatedEvent) (n : Node) → IsIn n (nodes_where test os) → IsIn n (map node_of (map located_event_view os))
+  among_all : (os : List LocatedEvent) (n : Node) → IsIn n (nodes_where test os) → IsIn n (map node_of os)
   among_all [] n m = elim m [ ]
-  among_all (o ∷ os) n m = elim (of_if (test (event_view o.event)) o.node n (nodes_where test os) m) as (λ _. IsIn n (map node_of (map located_event_view (o ∷ os)))) [
-    | inl h ↦ subst (λ (x : Node). IsIn x (map node_of (map located_event_view (o ∷ os)))) h.1 here
+  among_all (o ∷ os) n m = elim (of_if (test o.event) o.node n (nodes_where test os) m) as (λ _. IsIn n (map node_of (o ∷ os))) [
+    | inl h ↦ subst (λ (x : Node). IsIn x (map node_of (o ∷ os))) h.1 here
     | inr i ↦ there (among_all os n i)
   ]
 
@@ -62,9 +62,9 @@ module _ (test : Event Term → Bool) where
   rise_if true x ns f r = (f, r)
   rise_if false x ns f r = r
 
-  nodes_rise : (os : List LocatedEvent) → AreRising (map node_of (map located_event_view os)) → AreRising (nodes_where test os)
+  nodes_rise : (os : List LocatedEvent) → AreRising (map node_of os) → AreRising (nodes_where test os)
   nodes_rise [] r = tt
-  nodes_rise (o ∷ os) r = rise_if (test (event_view o.event)) o.node (nodes_where test os) (λ n i. r.0 n (among_all os n i)) (nodes_rise os r.1)
+  nodes_rise (o ∷ os) r = rise_if (test o.event) o.node (nodes_where test os) (λ n i. r.0 n (among_all os n i)) (nodes_rise os r.1)
 
 -- ---- pairs of nodes
 
@@ -171,7 +171,7 @@ received_is : (e : Event Term) → is_reception e ≡ true → (t : Term) × (e 
 received_is (recv t) h = (t, refl)
 received_is (send t) h = absurd (cc)
 
-module _ (k : Skeleton) (ordered : IsOrdered k) (os : List LocatedEvent) (all : map located_event_view os ≡ events_of k) where
+module _ (k : Skeleton) (ordered : IsOrdered k) (os : List LocatedEvent) (all : os ≡ events_of k) where
   abbrev sent : List Node
   sent = nodes_where is_transmission os
 
@@ -181,26 +181,24 @@ module _ (k : Skeleton) (ordered : IsOrdered k) (os : List LocatedEvent) (all : 
   abbrev listed : List OrderPair
   listed = pairs_between sent (map (gathered k.pairs) received)
 
-  event_of : (o : LocatedEvent) → IsIn o os → term_event_at k.strands o.node ≡ Some (event_view o.event)
-  event_of o i = listed_event k (located_event_view o) (subst (IsIn (located_event_view o)) all (into_map located_event_view i))
+  event_of : (o : LocatedEvent) → IsIn o os → term_event_at k.strands o.node ≡ Some o.event
+  event_of o i = listed_event k o (subst (IsIn o) all i)
 
   node_sent : (n : Node) → IsIn n sent → (t : Term) × (term_event_at k.strands n ≡ Some (send t))
   node_sent n i =
       let r = of_nodes is_transmission os n i in
-      let s = sent_is (event_view r.occurrence.event) r.passes in
-      (s.0, subst (λ (z : Node). term_event_at k.strands z ≡ Some (send s.0)) r.same (event_of r.occurrence r.listed ∙ ap (λ e. Some e) s.1))
+      let s = sent_is r.occurrence.event r.passes in
+      (s.0, subst (λ (z : Node). term_event_at k.strands z ≡ Some (send s.0)) r.same (event_of r.occurrence r.listed ∙ ap Some s.1))
 
   node_received : (n : Node) → IsIn n received → (t : Term) × (term_event_at k.strands n ≡ Some (recv t))
   node_received n i =
       let r = of_nodes is_reception os n i in
-      let s = received_is (event_view r.occurrence.event) r.passes in
-      (s.0, subst (λ (z : Node). term_event_at k.strands z ≡ Some (recv s.0)) r.same (event_of r.occurrence r.listed ∙ ap (λ e. Some e) s.1))
+      let s = received_is r.occurrence.event r.passes in
+      (s.0, subst (λ (z : Node). term_event_at k.strands z ≡ Some (recv s.0)) r.same (event_of r.occurrence r.listed ∙ ap Some s.1))
 
   found : (test : Event Term → Bool) (n : Node) (e : Event Term) → term_event_at k.strands n ≡ Some e → test e ≡ true → IsIn n (nodes_where test os)
   found test n e at h =
-      let r = from_map located_event_view os (subst (IsIn (located_event_at k n e)) (sym all) (listed_at k n e at)) in
-      let there_is : event_view r.0.event ≡ e = ap (λ o. o.event) r.2 in
-      subst (λ (z : Node). IsIn z (nodes_where test os)) (ap (λ o. o.node) r.2) (in_nodes test os r.0 r.1 (ap test there_is ∙ h))
+      in_nodes test os (located_event_at k n e) (subst (IsIn (located_event_at k n e)) (sym all) (listed_at k n e at)) h
 
   is_before : (x y : Node) → x.strand ≢ y.strand → (x ≡ y) ⊎ Before k x y → Before k x y
   is_before x y h (inl e) = absurd (h (ap (λ (n : Node). n.strand) e))
@@ -223,7 +221,7 @@ module _ (k : Skeleton) (ordered : IsOrdered k) (os : List LocatedEvent) (all : 
       (found is_reception q.later (recv h.pair.received) h.pair.reception refl)
       (says_across q.earlier (gathered k.pairs q.later) h.pair.between_strands (before_leads k q.earlier q.later h.ordered))
 
-  events_rise : AreRising (map node_of (map located_event_view os))
+  events_rise : AreRising (map node_of os)
   events_rise = subst (λ es. AreRising (map node_of es)) (sym all) (all_rise 0 k.strands)
 
   pub lists_order : ListsOrder k listed
@@ -233,7 +231,7 @@ module _ (k : Skeleton) (ordered : IsOrdered k) (os : List LocatedEvent) (all : 
   }
 
 -- The same of what the program gathers.
-pub lists_gathered : (k : Skeleton) (ordered : IsOrdered k) (os : List LocatedEvent) → map located_event_view os ≡ events_of k → (order pairs : List OrderPair) (froms : List Node) (tos : List Reception) → order ≡ k.pairs
+pub lists_gathered : (k : Skeleton) (ordered : IsOrdered k) (os : List LocatedEvent) → os ≡ events_of k → (order pairs : List OrderPair) (froms : List Node) (tos : List Reception) → order ≡ k.pairs
     → froms ≡ nodes_where is_transmission os → tos ≡ map (gathered order) (nodes_where is_reception os) → pairs ≡ pairs_between froms tos → ListsOrder k pairs
 lists_gathered k ordered os all order pairs froms tos o f t p =
     let all_received : tos ≡ map (gathered k.pairs) (nodes_where is_reception os) = t ∙ (λ i. map (gathered (o i)) (nodes_where is_reception os)) in

@@ -1,17 +1,13 @@
 -- Where a map from a problem takes the problem's strands.
-use Rattle.std.proofs.Common.{◌≡◌, ℕ, suc, ◌+◌, ◌<◌, List, Some, length, sym, ap, ◌∙◌, subst, arith}
-use Rattle.cp_lists.specs.Lists.{item_at, IsIn, one_step, more_steps}
+use Rattle.std.proofs.Common.{◌≡◌, ℕ, ◌+◌, ◌<◌, List, Some, length, sym, ap, ◌∙◌, subst, arith}
+use Rattle.cp_lists.specs.Lists.{item_at, IsIn}
 use Rattle.cp_lists.proofs.Items.{at_place, map_of_item}
-use Rattle.cp_model.specs.Strand.{Declaration, Protocol}
-use Rattle.cp_model.specs.Bundle.{node_at}
-use Rattle.cp_model.specs.declared.node.Node.{Node}
-use Rattle.cp_model.specs.Skeleton.{Skeleton, OrderStep, along_strand_of, along_pair, Before, IsSkeleton}
+use Rattle.cp_model.specs.declared.variable.Declaration.{Declaration}
+use Rattle.cp_model.specs.Skeleton.{Skeleton}
 use Rattle.cp_model.specs.Homomorphism.{map_from_problem, CarriesHomomorphism}
 use Rattle.cp_model.specs.PointOfView.{IsPointOfView}
-use Rattle.cp_model.proofs.SingleMaps.{states_itself}
 use Rattle.cp_model.proofs.StatedItself.{numbers_below}
 use Rattle.cp_collapse.proofs.Lowest.{numbers_at}
-use Rattle.cp_collapse.proofs.StatedCollapse.{node_below, pair_below}
 
 module _ (variables : List Declaration) (problem : Skeleton) (own : IsPointOfView variables problem) where
   pub strand_below : (s : ℕ) → IsIn s problem.from_problem.strands → s < length problem.strands
@@ -27,15 +23,3 @@ module _ (variables : List Declaration) (problem : Skeleton) (own : IsPointOfVie
 
     pub entry_in : IsIn ((map_from_problem k).strands s) k.from_problem.strands
     entry_in = at_place k.from_problem.strands s ((map_from_problem k).strands s) entry_at
-
--- What is before something in the problem, and what something is before, is on one of its strands.
-module _ (protocol : Protocol) (variables : List Declaration) (problem : Skeleton) (sp : IsSkeleton protocol problem) (own : IsPointOfView variables problem) where
-  step_below : {x y : Node} → OrderStep problem x y → (x.strand < length problem.strands) × (y.strand < length problem.strands)
-  step_below (along_strand_of {s = s} {i = i} {e = e} at) =
-      let below : s < length problem.strands = node_below protocol variables problem sp (states_itself own) (node_at s (suc i)) e at in
-      (below, below)
-  step_below (along_pair {p = p} i) = pair_below protocol variables problem sp (states_itself own) p (subst (IsIn p) (sym own.pairs) i)
-
-  pub before_below : {x y : Node} → Before problem x y → (x.strand < length problem.strands) × (y.strand < length problem.strands)
-  before_below (one_step s) = step_below s
-  before_below (more_steps s r) = ((step_below s).0, (before_below r).1)

@@ -4,7 +4,8 @@ use Rattle.cp_lists.specs.Lists.{item_at, IsIn, here, there, one_step, more_step
 use Rattle.cp_lists.proofs.Members.{not_in_none, of_each}
 use Rattle.cp_model.specs.Term.{Term, Substitution}
 use Rattle.cp_model.specs.Identity.{unchanged}
-use Rattle.cp_model.specs.Strand.{send, recv, Role, IsHeight}
+use Rattle.cp_model.specs.Strand.{Role, IsHeight}
+use Rattle.cp_model.specs.declared.strand.Event.TheVariants.{Send as send, Receive as recv}
 use Rattle.cp_model.specs.Bundle.{node_at}
 use Rattle.cp_model.specs.declared.node.Node.{Node}
 use Rattle.cp_model.specs.declared.node.OrderPair.{OrderPair}

@@ -1,6 +1,7 @@
 -- What a skeleton generalises to is sound where the skeleton is, it is fit, it embeds in the skeleton, and no step applies to it.
 use Rattle.std.proofs.Common.{ℕ, List}
-use Rattle.cp_model.specs.Strand.{Declaration, Protocol}
+use Rattle.cp_model.specs.Strand.{Protocol}
+use Rattle.cp_model.specs.declared.variable.Declaration.{Declaration}
 use Rattle.cp_model.specs.declared.node.OrderPair.{OrderPair}
 use Rattle.cp_model.specs.Skeleton.{Skeleton, IsSkeleton}
 use Rattle.cp_model.specs.Homomorphism.{Embeds, CarriesHomomorphism}

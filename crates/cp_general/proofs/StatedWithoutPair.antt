@@ -1,12 +1,14 @@
 -- A skeleton without a pair of its order that the problem does not state keeps what the problem states, and carries the
 -- homomorphism from it.
-use Rattle.std.proofs.Common.{◌≡◌, ◌≢◌, ◌⊎◌, inl, inr, ℕ, suc, ◌<◌, List, Some, refl, sym, subst, arith}
+use Rattle.std.proofs.Common.{◌≡◌, ◌⊎◌, inl, inr, ℕ, suc, ◌<◌, List, Some, refl, sym, subst, arith}
 use native.Mathlib.Decide.{ℕ_discrete, dec_lt}
 use Rattle.cp_lists.specs.Lists.{item_at, IsIn, one_step, more_steps}
 use Rattle.cp_lists.proofs.Items.{map_of_item}
 use Rattle.cp_lists.proofs.Reached.{steps_append}
 use Rattle.cp_model.specs.Term.{Term, Substitution, apply_to}
-use Rattle.cp_model.specs.Strand.{Event, send, recv, event_map, Role, Declaration, Protocol}
+use Rattle.cp_model.specs.Strand.{event_map, Role, Protocol}
+use Rattle.cp_model.specs.declared.strand.Event.{Event}
+use Rattle.cp_model.specs.declared.variable.Declaration.{Declaration}
 use Rattle.cp_model.specs.Bundle.{node_at}
 use Rattle.cp_model.specs.declared.node.Node.{Node}
 use Rattle.cp_model.specs.declared.node.OrderPair.{OrderPair}
@@ -17,11 +19,13 @@ use Rattle.cp_model.specs.Stated.{pair_image, KeepsStated}
 use Rattle.cp_model.specs.Order.{on_strand}
 use Rattle.cp_model.proofs.LawOrder.{leads_before}
 use Rattle.cp_model.proofs.LawStandings.{strand_of_event, skeleton_climb}
-use Rattle.cp_skel.specs.Ordered.{ordered_by}
+use Rattle.cp_model.proofs.OwnOrder.{own_before}
+use Rattle.cp_skel.specs.Ordered.{IsOrdered, ordered_by}
 use Rattle.cp_collapse.proofs.Merged.{event_goes}
 use Rattle.cp_general.specs.Steps.{Weakens}
 use Rattle.cp_general.proofs.DroppedPairs.{dropped_is_skeleton}
 use Rattle.cp_general.proofs.HomomorphismByStated.{homomorphism_by_stated}
+use Rattle.cp_general.proofs.Ways.{begins, ends}
 
 -- ---- events where a homomorphism takes them
 
@@ -63,24 +67,9 @@ module _ (protocol : Protocol) (variables : List Declaration) (problem k h : Ske
   event_of_problem : (n : Node) (e : Event Term) → term_event_at problem.strands n ≡ Some e → term_event_at k.strands (mapped f n) ≡ Some (event_map (apply_to f.terms) e)
   event_of_problem = event_there problem k f carries.homomorphism
 
-  image_is_pair : (q : OrderPair) → IsOrderPair problem q → (pair_image f q).earlier.strand ≢ (pair_image f q).later.strand → IsOrderPair k (pair_image f q)
-  image_is_pair q o between = record {
-    sent = apply_to f.terms o.sent;
-    received = apply_to f.terms o.received;
-    transmission = event_of_problem q.earlier (send o.sent) o.transmission;
-    reception = event_of_problem q.later (recv o.received) o.reception;
-    between_strands = between;
-  }
-
-  own_is_pair : (q : OrderPair) → IsIn q k.from_problem.pairs → IsOrderPair k q
-  own_is_pair q i =
-      let o = (keeps.pairs q).0 i in
-      subst (IsOrderPair k) o.0.image
-      (image_is_pair o.0.item (sp.order_pairs o.0.item (subst (IsIn o.0.item) own.pairs o.0.listed)) (subst (λ (r : OrderPair). r.earlier.strand ≢ r.later.strand) (sym o.0.image) o.1))
-
-  -- Each pair that the problem states stays.
-  own_stays : (q : OrderPair) → IsIn q k.from_problem.pairs → IsIn q h.pairs
-  own_stays q i = (drop.pairs q).1 (record { pair = own_is_pair q i; ordered = keeps.ordered q i }, λ e. drop.not_own (subst (λ (r : OrderPair). IsIn r k.from_problem.pairs) e i))
+  -- What the problem states to be before something still is.
+  own_stays : (q : OrderPair) → IsIn q k.from_problem.pairs → Before left q.earlier q.later
+  own_stays q i = subst (λ (s : Skeleton). Before s q.earlier q.later) drop.same (drop.stated q i)
 
   left_keeps_stated : KeepsStated problem left
   left_keeps_stated = record {
@@ -90,7 +79,7 @@ module _ (protocol : Protocol) (variables : List Declaration) (problem k h : Ske
     unique = keeps.unique;
     assumed = record { non = keeps.assumed.non; penetrator_non = keeps.assumed.penetrator_non; unique = keeps.assumed.unique };
     pairs = keeps.pairs;
-    ordered = λ q i. one_step (along_pair (own_stays q i));
+    ordered = own_stays;
   }
 
   pub dropped_keeps_stated : KeepsStated problem h
@@ -99,23 +88,26 @@ module _ (protocol : Protocol) (variables : List Declaration) (problem k h : Ske
   -- ---- the homomorphism
 
   module _ (sk : IsSkeleton protocol k) where
-    -- A pair of the problem comes to lie forward on one strand, or is one of those that stay.
-    pair_before : (q : OrderPair) → IsIn q problem.pairs → Dec (f.strands q.earlier.strand ≡ f.strands q.later.strand) → Before left (mapped f q.earlier) (mapped f q.later)
+    -- A pair that the problem states comes to lie forward on one strand, or is still in the order.
+    pair_before : (q : OrderPair) → IsIn q problem.from_problem.pairs → Dec (f.strands q.earlier.strand ≡ f.strands q.later.strand) → Before left (mapped f q.earlier) (mapped f q.later)
     pair_before q i (yes same) =
-        let o = sp.order_pairs q i in
-        let before : Before k (mapped f q.earlier) (mapped f q.later) = carries.homomorphism.ordered q.earlier q.later (one_step (along_pair i)) in
-        let there : IsNodeOf k.strands (mapped f q.earlier) = (send (apply_to f.terms o.sent), event_of_problem q.earlier (send o.sent) o.transmission) in
-        let up : q.earlier.index < q.later.index = rises k sk.order_pairs sk.no_cycle (mapped f q.earlier) (mapped f q.later) there before same in
+        let own_way : Before problem q.earlier q.later = own_before problem own.ordered q i in
+        let first : IsNodeOf problem.strands q.earlier = begins problem ordered q.earlier q.later own_way in
+        let last : IsNodeOf problem.strands q.later = ends problem ordered q.earlier q.later own_way in
+        let there : IsNodeOf k.strands (mapped f q.earlier) = (event_map (apply_to f.terms) first.0, event_of_problem q.earlier first.0 first.1) in
+        let up : q.earlier.index < q.later.index = rises k sk.order_pairs sk.no_cycle (mapped f q.earlier) (mapped f q.later) there (carries.homomorphism.ordered q.earlier q.later own_way) same in
         subst (λ (s : ℕ). Before left (node_at s q.earlier.index) (mapped f q.later)) (sym same)
-        (skeleton_climb left (f.strands q.later.strand) q.earlier.index q.later.index (recv (apply_to f.terms o.received)) (event_of_problem q.later (recv o.received) o.reception) up)
-    pair_before q i (no other) =
-        one_step (along_pair (own_stays (pair_image f q) ((keeps.pairs (pair_image f q)).1 (record { item = q; listed = subst (IsIn q) (sym own.pairs) i; image = refl }, other))))
+        (skeleton_climb left (f.strands q.later.strand) q.earlier.index q.later.index (event_map (apply_to f.terms) last.0) (event_of_problem q.later last.0 last.1) up)
+      where
+        ordered : IsOrdered problem
+        ordered = record { order_pairs = sp.order_pairs; no_cycle = sp.no_cycle }
+    pair_before q i (no other) = own_stays (pair_image f q) ((keeps.pairs (pair_image f q)).1 (record { item = q; listed = i; image = refl }, other))
 
-    step_goes : {x y : Node} → OrderStep problem x y → Before left (mapped f x) (mapped f y)
+    step_goes : {x y : Node} → OrderStep (record problem { pairs = problem.from_problem.pairs }) x y → Before left (mapped f x) (mapped f y)
     step_goes (along_strand_of {s = s} {i = i} {e = e} at) = one_step (along_strand_of (event_of_problem (node_at s (suc i)) e at))
     step_goes (along_pair {p = q} i) = pair_before q i (ℕ_discrete (f.strands q.earlier.strand) (f.strands q.later.strand))
 
-    before_goes : {x y : Node} → Before problem x y → Before left (mapped f x) (mapped f y)
+    before_goes : {x y : Node} → Before (record problem { pairs = problem.from_problem.pairs }) x y → Before left (mapped f x) (mapped f y)
     before_goes (one_step s) = step_goes s
     before_goes (more_steps s r) = steps_append (step_goes s) (before_goes r)
 
@@ -129,7 +121,7 @@ module _ (protocol : Protocol) (variables : List Declaration) (problem k h : Ske
 
     left_carries : CarriesHomomorphism problem left
     left_carries = record {
-      homomorphism = homomorphism_by_stated protocol variables problem left own left_is_skeleton left_keeps_stated instance_goes carries.homomorphism.listeners (λ x y b. before_goes b);
+      homomorphism = homomorphism_by_stated protocol variables problem left own left_is_skeleton left_keeps_stated instance_goes carries.homomorphism.listeners (λ x y b. before_goes ((own.ordered.order x y).1 b));
       strands = carries.strands;
       values = carries.values;
     }

@@ -5,7 +5,8 @@ use Rattle.cp_lists.specs.Lists.{item_at, IsIn}
 use Rattle.cp_lists.proofs.Items.{item_below, map_of_item}
 use Rattle.cp_lists.proofs.Mapped.{map_then, map_alike}
 use Rattle.cp_model.specs.Term.{AtomTerm, Term, Substitution, apply_to, apply_to_atom, composed, AgreeOnTerms}
-use Rattle.cp_model.specs.Strand.{Role, Declaration, Protocol, variables_of_prefix}
+use Rattle.cp_model.specs.Strand.{Role, Protocol, variables_of_prefix}
+use Rattle.cp_model.specs.declared.variable.Declaration.{Declaration}
 use Rattle.cp_model.specs.Bundle.{node_at}
 use Rattle.cp_model.specs.declared.node.Node.{Node}
 use Rattle.cp_model.specs.declared.node.OrderPair.{OrderPair}
@@ -18,9 +19,9 @@ use Rattle.cp_skel.specs.Deletion.{renumbered, node_renumbered, unique_renumbere
 use Rattle.cp_skel.proofs.NumbersWithout.{renumbered_apart}
 use Rattle.cp_skel.proofs.PairsWithout.{in_left, was_left}
 use Rattle.cp_skel.proofs.FromProblemWithout.{in_range_without, assumed_without, ordered_without}
-use Rattle.cp_collapse.proofs.StatedCollapse.{origin_below, pair_below}
+use Rattle.cp_collapse.proofs.StatedCollapse.{origin_below, before_below, pair_below}
 use Rattle.cp_general.specs.Steps.{Deletes}
-use Rattle.cp_general.proofs.ProblemStrands.{strand_below, entry_at, entry_in, before_below}
+use Rattle.cp_general.proofs.ProblemStrands.{strand_below, entry_at, entry_in}
 use Rattle.cp_general.proofs.DeletedStrands.{strand_stays, deleted_is_skeleton}
 use Rattle.cp_general.proofs.HomomorphismByStated.{homomorphism_by_stated}
 
@@ -133,7 +134,7 @@ module _ (protocol : Protocol) (variables : List Declaration) (problem k h : Ske
 
   before_goes : (x y : Node) → Before problem x y → Before h (mapped last x) (mapped last y)
   before_goes x y b =
-      let below = before_below protocol variables problem sp own b in
+      let below = before_below protocol variables problem sp (states_itself own) b in
       subst (λ (n : Node). Before h n (mapped last y)) (sym (node_goes x below.0))
       (subst (Before h (node_renumbered d (mapped first x))) (sym (node_goes y below.1))
       ((del.order (mapped first x) (mapped first y) (off x.strand below.0) (off y.strand below.1)).1 (carries.homomorphism.ordered x y b)))

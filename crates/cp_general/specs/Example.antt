@@ -1,8 +1,10 @@
 -- An example: a text is heard that two strands have sent before.
 use Rattle.std.specs.Prelude.{ℕ, List, [], ◌∷◌}
-use Rattle.cp_model.specs.Term.{text_sort, text_variable, Term, atom_term}
+use Rattle.cp_model.specs.Term.{text_variable, Term, atom_term}
+use Rattle.cp_model.specs.declared.sort.Sort.TheVariants.{Text as text_sort}
 use Rattle.cp_model.specs.Identity.{unchanged}
-use Rattle.cp_model.specs.Strand.{send, Role, Protocol}
+use Rattle.cp_model.specs.Strand.{Role, Protocol}
+use Rattle.cp_model.specs.declared.strand.Event.TheVariants.{Send as send}
 use Rattle.cp_model.specs.Bundle.{node_at}
 use Rattle.cp_model.specs.declared.node.OrderPair.{OrderPair}
 use Rattle.cp_model.specs.Skeleton.{SkeletonStrand, instance, listener, Assumptions, Skeleton}

@@ -1,15 +1,15 @@
 -- The pairs of a skeleton's order in a list, and how they are gathered.
+use Rattle.cp_skel.specs.declared.events.LocatedEvent.{LocatedEvent}
 use Rattle.std.specs.Prelude.{◌↔◌, ◌==◌, ◌&&◌, not, if◌then◌else◌, length, Bool, true, false, List, [], ◌∷◌, ◌++◌}
 use Rattle.cp_lists.specs.Lists.{IsIn}
 use Rattle.cp_model.specs.Term.{Term}
-use Rattle.cp_model.specs.Strand.{Event, send, recv}
+use Rattle.cp_model.specs.declared.strand.Event.{Event}
+use Rattle.cp_model.specs.declared.strand.Event.TheVariants.{Send as send, Receive as recv}
 use Rattle.cp_model.specs.Same.{same_node}
 use Rattle.cp_model.specs.declared.node.Node.{Node}
 use Rattle.cp_model.specs.declared.node.OrderPair.{OrderPair}
 use Rattle.cp_model.specs.OrderTests.{reaches_within}
 use Rattle.cp_model.specs.Skeleton.{Skeleton}
-use Rattle.cp_strand.specs.View.{event_view}
-use Rattle.cp_skel.specs.declared.events.LocatedEvent as program
 use Rattle.cp_general.specs.declared.pairs.Reception.{Reception}
 use Rattle.cp_general.specs.Steps.{IsPairOfOrder, IsLowerPair}
 
@@ -35,9 +35,9 @@ is_reception (send t) = false
 is_reception (recv t) = true
 
 -- The nodes of those of the events that pass the test.
-abbrev pub nodes_where : (Event Term → Bool) → List program.LocatedEvent → List Node
+abbrev pub nodes_where : (Event Term → Bool) → List LocatedEvent → List Node
 nodes_where test [] = []
-nodes_where test (o ∷ os) = if test (event_view o.event) then o.node ∷ nodes_where test os else nodes_where test os
+nodes_where test (o ∷ os) = if test o.event then o.node ∷ nodes_where test os else nodes_where test os
 
 -- The reception at a node, with its predecessors along these pairs.
 abbrev pub gathered : List OrderPair → Node → Reception

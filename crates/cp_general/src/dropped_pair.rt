@@ -5,7 +5,7 @@ ghost use Rattle.cp_lists.specs.Lists.{IsIn};
 ghost use Rattle.cp_model.specs.declared.node.OrderPair.{OrderPair as Plain};
 ghost use Rattle.cp_model.specs.OrderTests.{any_pair};
 ghost use Rattle.cp_model.specs.Term.{Term};
-ghost use Rattle.cp_model.specs.Strand.{recv};
+ghost use Rattle.cp_model.specs.declared.strand.Event.TheVariants.{Receive as recv};
 ghost use Rattle.cp_model.specs.Skeleton.{IsNodeOf, term_event_at};
 ghost use Rattle.cp_model.specs.Derivable.{DerivableAt};
 ghost use Rattle.cp_skel.specs.Ordered.{ordered_by};

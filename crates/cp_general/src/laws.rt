@@ -1,6 +1,7 @@
 // Laws of generalising. Each is the contract of a function that does nothing.
 ghost use Rattle.std.specs.Prelude.{List};
-ghost use Rattle.cp_model.specs.Strand.{Declaration, Protocol};
+ghost use Rattle.cp_model.specs.Strand.{Protocol};
+ghost use Rattle.cp_model.specs.declared.variable.Declaration.{Declaration};
 ghost use Rattle.cp_model.specs.Skeleton.{Skeleton, IsSkeleton};
 ghost use Rattle.cp_model.specs.Realisation.{KeepsAssumptions};
 ghost use Rattle.cp_model.specs.Standing.{IsRealised};

@@ -2,7 +2,6 @@
 ghost use Rattle.std.specs.Prelude.{◌≡◌, ◌↔◌, ◌++◌, map, IfOk, OnOk};
 ghost use Rattle.cp_model.specs.declared.node.Node.{Node as Plain};
 ghost use Rattle.cp_model.specs.Skeleton.{Before};
-ghost use Rattle.cp_strand.specs.View.{event_view};
 ghost use Rattle.cp_skel.specs.Ordered.{ordered_by};
 ghost use Rattle.cp_skel.specs.Sound.{IsSound};
 ghost use Rattle.cp_skel.specs.View.{skeleton_view};
@@ -20,14 +19,14 @@ struct Reception<'a> {
 
 /// Whether the event is a transmission.
 fn is_transmission(event: &Event) -> bool
-    ensures { result ≡ is_transmission (event_view event.now) }
+    ensures { result ≡ is_transmission event.now }
 {
     matches!(event, Event::Send(_))
 }
 
 /// Whether the event is a reception.
 fn is_reception(event: &Event) -> bool
-    ensures { result ≡ is_reception (event_view event.now) }
+    ensures { result ≡ is_reception event.now }
 {
     matches!(event, Event::Receive(_))
 }

@@ -6,7 +6,8 @@ use Rattle.std.proofs.lemmas.List.{drop_all}
 use Rattle.cp_lists.proofs.Members.{drop_read}
 use Rattle.cp_lists.specs.Lists.{item_at}
 use Rattle.cp_model.specs.Term.{AtomTerm, Term, atom_term, Substitution, apply_to_atom, apply_to}
-use Rattle.cp_model.specs.Strand.{Event, payload}
+use Rattle.cp_model.specs.Strand.{payload}
+use Rattle.cp_model.specs.declared.strand.Event.{Event}
 use Rattle.cp_model.specs.Skeleton.{SkeletonStrand, instance, UniqueAt, Skeleton}
 use Rattle.cp_model.specs.declared.node.OrderPair.{OrderPair}
 use Rattle.cp_model.specs.declared.node.Node.{Node}
@@ -168,42 +169,42 @@ problem_kept a b xs ys ts us given found answer is_xs is_ys is_ts is_us h k =
     (λ f g. ap (map (apply_to f.terms)) is_ts ∙ g.values ∙ sym is_us)
     h k
 
-module _ {E : Type 0} (view : E → Event Term) (s t : Substitution) where
-  pub events_next : (es : List E) (i : ℕ) (e : E) (given found next : PartialMap) → i < length es → e ≡ get_or es i e →
-      IsSoFar (λ f. MakesEvents f.terms (map view es) s t) (λ f. MakesEvents f.terms (map view (drop i es)) s t) given found →
-      IsExtended (λ f. apply_to f.terms (apply_to s (payload (view e))) ≡ apply_to t (payload (view e))) found next →
-      IsSoFar (λ f. MakesEvents f.terms (map view es) s t) (λ f. MakesEvents f.terms (map view (drop (i + 1) es)) s t) given next
+module _ (s t : Substitution) where
+  pub events_next : (es : List (Event Term)) (i : ℕ) (e : Event Term) (given found next : PartialMap) → i < length es → e ≡ get_or es i e →
+      IsSoFar (λ f. MakesEvents f.terms es s t) (λ f. MakesEvents f.terms (drop i es) s t) given found →
+      IsExtended (λ f. apply_to f.terms (apply_to s (payload e)) ≡ apply_to t (payload e)) found next →
+      IsSoFar (λ f. MakesEvents f.terms es s t) (λ f. MakesEvents f.terms (drop (i + 1) es) s t) given next
   events_next es i e given found next l is_e h k =
       let d = drop_read es i e l is_e in
-      so_far_next (λ f. MakesEvents f.terms (map view es) s t) (λ f. MakesEvents f.terms (map view (drop i es)) s t)
-      (λ f. apply_to f.terms (apply_to s (payload (view e))) ≡ apply_to t (payload (view e))) (λ f. MakesEvents f.terms (map view (drop (i + 1) es)) s t) given found next
-      (λ f p q. subst (λ (ds : List E). MakesEvents f.terms (map view ds) s t) (sym d) (p, q))
-      (λ f p. (whole f e (drop (i + 1) es) (subst (λ (ds : List E). MakesEvents f.terms (map view ds) s t) d p)).0)
-      (λ f p. (whole f e (drop (i + 1) es) (subst (λ (ds : List E). MakesEvents f.terms (map view ds) s t) d p)).1)
+      so_far_next (λ f. MakesEvents f.terms es s t) (λ f. MakesEvents f.terms (drop i es) s t)
+      (λ f. apply_to f.terms (apply_to s (payload e)) ≡ apply_to t (payload e)) (λ f. MakesEvents f.terms (drop (i + 1) es) s t) given found next
+      (λ f p q. subst (λ (ds : List (Event Term)). MakesEvents f.terms ds s t) (sym d) (p, q))
+      (λ f p. (whole f e (drop (i + 1) es) (subst (λ (ds : List (Event Term)). MakesEvents f.terms ds s t) d p)).0)
+      (λ f p. (whole f e (drop (i + 1) es) (subst (λ (ds : List (Event Term)). MakesEvents f.terms ds s t) d p)).1)
       h k
     where
-      whole : (f : SkeletonMap) (e : E) (ds : List E) → MakesEvents f.terms (map view (e ∷ ds)) s t →
-          (apply_to f.terms (apply_to s (payload (view e))) ≡ apply_to t (payload (view e))) × MakesEvents f.terms (map view ds) s t
+      whole : (f : SkeletonMap) (e : Event Term) (ds : List (Event Term)) → MakesEvents f.terms (e ∷ ds) s t →
+          (apply_to f.terms (apply_to s (payload e)) ≡ apply_to t (payload e)) × MakesEvents f.terms ds s t
       whole f e ds p = p
 
-  pub events_never : (es : List E) (i : ℕ) (e : E) (given found : PartialMap) → i < length es → e ≡ get_or es i e →
-      IsSoFar (λ f. MakesEvents f.terms (map view es) s t) (λ f. MakesEvents f.terms (map view (drop i es)) s t) given found →
-      IsOfNoExtension (λ f. apply_to f.terms (apply_to s (payload (view e))) ≡ apply_to t (payload (view e))) found → IsOfNoExtension (λ f. MakesEvents f.terms (map view es) s t) given
+  pub events_never : (es : List (Event Term)) (i : ℕ) (e : Event Term) (given found : PartialMap) → i < length es → e ≡ get_or es i e →
+      IsSoFar (λ f. MakesEvents f.terms es s t) (λ f. MakesEvents f.terms (drop i es) s t) given found →
+      IsOfNoExtension (λ f. apply_to f.terms (apply_to s (payload e)) ≡ apply_to t (payload e)) found → IsOfNoExtension (λ f. MakesEvents f.terms es s t) given
   events_never es i e given found l is_e h k =
       let d = drop_read es i e l is_e in
-      so_far_never (λ f. MakesEvents f.terms (map view es) s t) (λ f. MakesEvents f.terms (map view (drop i es)) s t)
-      (λ f. apply_to f.terms (apply_to s (payload (view e))) ≡ apply_to t (payload (view e))) given found
-      (λ f p. first f e (drop (i + 1) es) (subst (λ (ds : List E). MakesEvents f.terms (map view ds) s t) d p))
+      so_far_never (λ f. MakesEvents f.terms es s t) (λ f. MakesEvents f.terms (drop i es) s t)
+      (λ f. apply_to f.terms (apply_to s (payload e)) ≡ apply_to t (payload e)) given found
+      (λ f p. first f e (drop (i + 1) es) (subst (λ (ds : List (Event Term)). MakesEvents f.terms ds s t) d p))
       h k
     where
-      first : (f : SkeletonMap) (e : E) (ds : List E) → MakesEvents f.terms (map view (e ∷ ds)) s t → apply_to f.terms (apply_to s (payload (view e))) ≡ apply_to t (payload (view e))
+      first : (f : SkeletonMap) (e : Event Term) (ds : List (Event Term)) → MakesEvents f.terms (e ∷ ds) s t → apply_to f.terms (apply_to s (payload e)) ≡ apply_to t (payload e)
       first f e ds p = p.0
 
-  pub events_all : (es : List E) (i : ℕ) (given found : PartialMap) → length es ≤ i →
-      IsSoFar (λ f. MakesEvents f.terms (map view es) s t) (λ f. MakesEvents f.terms (map view (drop i es)) s t) given found → IsExtended (λ f. MakesEvents f.terms (map view es) s t) given found
+  pub events_all : (es : List (Event Term)) (i : ℕ) (given found : PartialMap) → length es ≤ i →
+      IsSoFar (λ f. MakesEvents f.terms es s t) (λ f. MakesEvents f.terms (drop i es) s t) given found → IsExtended (λ f. MakesEvents f.terms es s t) given found
   events_all es i given found done h =
-      so_far_all (λ f. MakesEvents f.terms (map view es) s t) (λ f. MakesEvents f.terms (map view (drop i es)) s t) given found
-      (λ f. subst (λ (ds : List E). MakesEvents f.terms (map view ds) s t) (sym (drop_all i es done)) tt) h
+      so_far_all (λ f. MakesEvents f.terms es s t) (λ f. MakesEvents f.terms (drop i es) s t) given found
+      (λ f. subst (λ (ds : List (Event Term)). MakesEvents f.terms ds s t) (sym (drop_all i es done)) tt) h
 
 -- ---- strands that are kept apart
 

@@ -1,10 +1,12 @@
 -- Messages that become others, event by event.
 use Rattle.std.proofs.Common.{◌≡◌, ℕ, zero, suc, ◌<◌, ◌≤◌, ◌+◌, List, [], ◌∷◌, length, map, take, drop, get_or, sym, ap, ◌∙◌, subst, subst₂, arith}
 use Rattle.std.specs.Prelude.{Option}
-use Rattle.std.proofs.lemmas.List.{drop_all, length-map}
+use Rattle.std.proofs.lemmas.List.{drop_all}
 use Rattle.cp_lists.proofs.Members.{drop_read}
 use Rattle.cp_model.specs.Term.{Term, Substitution, apply_to}
-use Rattle.cp_model.specs.Strand.{Event, send, recv, payload, event_map, Role}
+use Rattle.cp_model.specs.Strand.{payload, event_map, Role}
+use Rattle.cp_model.specs.declared.strand.Event.{Event}
+use Rattle.cp_model.specs.declared.strand.Event.TheVariants.{Send as send, Receive as recv}
 use Rattle.cp_model.specs.Skeleton.{skeleton_trace}
 use Rattle.cp_model.specs.Homomorphism.{SkeletonMap, substitution_by}
 use Rattle.cp_model.specs.Data.{InstanceData, StrandData}
@@ -16,47 +18,46 @@ use Rattle.cp_hom.specs.declared.partials.Partial.{Partial}
 
 -- ---- two lists of events, one event after the other
 
-module _ {E : Type 0} (view : E → Event Term) where
-  -- The map makes the messages of the one list those of the other.
-  abbrev pub AllMade : List E → List E → SkeletonMap → Type 0
-  AllMade xs ys f = MakesMessages f.terms (map view xs) (map view ys)
+-- The map makes the messages of the one list those of the other.
+abbrev pub AllMade : List (Event Term) → List (Event Term) → SkeletonMap → Type 0
+AllMade xs ys f = MakesMessages f.terms xs ys
 
-  first_made : (f : SkeletonMap) (x y : E) (xs ys : List E) → AllMade (x ∷ xs) (y ∷ ys) f → apply_to f.terms (payload (view x)) ≡ payload (view y)
-  first_made f x y xs ys p = p.0
+first_made : (f : SkeletonMap) (x y : Event Term) (xs ys : List (Event Term)) → AllMade (x ∷ xs) (y ∷ ys) f → apply_to f.terms (payload x) ≡ payload y
+first_made f x y xs ys p = p.0
 
-  rest_made : (f : SkeletonMap) (x y : E) (xs ys : List E) → AllMade (x ∷ xs) (y ∷ ys) f → AllMade xs ys f
-  rest_made f x y xs ys p = p.1
+rest_made : (f : SkeletonMap) (x y : Event Term) (xs ys : List (Event Term)) → AllMade (x ∷ xs) (y ∷ ys) f → AllMade xs ys f
+rest_made f x y xs ys p = p.1
 
-  module _ (xs ys : List E) (i : ℕ) (given found : PartialMap) (h : IsSoFar (AllMade xs ys) (AllMade (drop i xs) (drop i ys)) given found) where
-    module _ (x y : E) (l : i < length xs) (no_more : length xs ≤ length ys) (is_x : x ≡ get_or xs i x) (is_y : y ≡ get_or ys i y) where
-      from_next : drop i xs ≡ x ∷ drop (i + 1) xs
-      from_next = drop_read xs i x l is_x
+module _ (xs ys : List (Event Term)) (i : ℕ) (given found : PartialMap) (h : IsSoFar (AllMade xs ys) (AllMade (drop i xs) (drop i ys)) given found) where
+  module _ (x y : Event Term) (l : i < length xs) (no_more : length xs ≤ length ys) (is_x : x ≡ get_or xs i x) (is_y : y ≡ get_or ys i y) where
+    from_next : drop i xs ≡ x ∷ drop (i + 1) xs
+    from_next = drop_read xs i x l is_x
 
-      to_next : drop i ys ≡ y ∷ drop (i + 1) ys
-      to_next = drop_read ys i y (omega (arith, l, no_more)) is_y
+    to_next : drop i ys ≡ y ∷ drop (i + 1) ys
+    to_next = drop_read ys i y (omega (arith, l, no_more)) is_y
 
-      opened : (f : SkeletonMap) → AllMade (drop i xs) (drop i ys) f → AllMade (x ∷ drop (i + 1) xs) (y ∷ drop (i + 1) ys) f
-      opened f p = subst₂ (λ (us vs : List E). AllMade us vs f) from_next to_next p
+    opened : (f : SkeletonMap) → AllMade (drop i xs) (drop i ys) f → AllMade (x ∷ drop (i + 1) xs) (y ∷ drop (i + 1) ys) f
+    opened f p = subst₂ (λ (us vs : List (Event Term)). AllMade us vs f) from_next to_next p
 
-      pub messages_next : (next : PartialMap) → IsExtended (λ f. apply_to f.terms (payload (view x)) ≡ payload (view y)) found next →
-          IsSoFar (AllMade xs ys) (AllMade (drop (i + 1) xs) (drop (i + 1) ys)) given next
-      messages_next next k =
-          so_far_next (AllMade xs ys) (AllMade (drop i xs) (drop i ys)) (λ f. apply_to f.terms (payload (view x)) ≡ payload (view y)) (AllMade (drop (i + 1) xs) (drop (i + 1) ys)) given found next
-          (λ f p q. subst₂ (λ (us vs : List E). AllMade us vs f) (sym from_next) (sym to_next) (p, q))
-          (λ f p. first_made f x y (drop (i + 1) xs) (drop (i + 1) ys) (opened f p))
-          (λ f p. rest_made f x y (drop (i + 1) xs) (drop (i + 1) ys) (opened f p))
-          h k
+    pub messages_next : (next : PartialMap) → IsExtended (λ f. apply_to f.terms (payload x) ≡ payload y) found next →
+        IsSoFar (AllMade xs ys) (AllMade (drop (i + 1) xs) (drop (i + 1) ys)) given next
+    messages_next next k =
+        so_far_next (AllMade xs ys) (AllMade (drop i xs) (drop i ys)) (λ f. apply_to f.terms (payload x) ≡ payload y) (AllMade (drop (i + 1) xs) (drop (i + 1) ys)) given found next
+        (λ f p q. subst₂ (λ (us vs : List (Event Term)). AllMade us vs f) (sym from_next) (sym to_next) (p, q))
+        (λ f p. first_made f x y (drop (i + 1) xs) (drop (i + 1) ys) (opened f p))
+        (λ f p. rest_made f x y (drop (i + 1) xs) (drop (i + 1) ys) (opened f p))
+        h k
 
-      pub messages_never : IsOfNoExtension (λ f. apply_to f.terms (payload (view x)) ≡ payload (view y)) found → IsOfNoExtension (AllMade xs ys) given
-      messages_never k =
-          so_far_never (AllMade xs ys) (AllMade (drop i xs) (drop i ys)) (λ f. apply_to f.terms (payload (view x)) ≡ payload (view y)) given found
-          (λ f p. first_made f x y (drop (i + 1) xs) (drop (i + 1) ys) (opened f p))
-          h k
+    pub messages_never : IsOfNoExtension (λ f. apply_to f.terms (payload x) ≡ payload y) found → IsOfNoExtension (AllMade xs ys) given
+    messages_never k =
+        so_far_never (AllMade xs ys) (AllMade (drop i xs) (drop i ys)) (λ f. apply_to f.terms (payload x) ≡ payload y) given found
+        (λ f p. first_made f x y (drop (i + 1) xs) (drop (i + 1) ys) (opened f p))
+        h k
 
-    pub messages_all : length xs ≤ i → IsExtended (AllMade xs ys) given found
-    messages_all done =
-        so_far_all (AllMade xs ys) (AllMade (drop i xs) (drop i ys)) given found
-        (λ f. subst (λ (us : List E). AllMade us (drop i ys) f) (sym (drop_all i xs done)) tt) h
+  pub messages_all : length xs ≤ i → IsExtended (AllMade xs ys) given found
+  messages_all done =
+      so_far_all (AllMade xs ys) (AllMade (drop i xs) (drop i ys)) given found
+      (λ f. subst (λ (us : List (Event Term)). AllMade us (drop i ys) f) (sym (drop_all i xs done)) tt) h
 
 -- ---- events of one role under two substitutions
 
@@ -85,26 +86,26 @@ no_longer s t (suc h) (suc height) (e ∷ es) l = let k = no_longer s t h height
 
 -- ---- strands that hold their events
 
-module _ {E : Type 0} (view : E → Event Term) (xs ys : List E) (i j : InstanceData) (from to : StrandData) (is_from : instance_as_data i ≡ from) (is_to : instance_as_data j ≡ to)
-    (l : i.height ≤ j.height) (same : i.role ≡ j.role) (are_xs : map view xs ≡ skeleton_trace (strand_view from)) (are_ys : map view ys ≡ skeleton_trace (strand_view to)) where
-  first_held : map view xs ≡ skeleton_trace (instance_view i)
+module _ (xs ys : List (Event Term)) (i j : InstanceData) (from to : StrandData) (is_from : instance_as_data i ≡ from) (is_to : instance_as_data j ≡ to)
+    (l : i.height ≤ j.height) (same : i.role ≡ j.role) (are_xs : xs ≡ skeleton_trace (strand_view from)) (are_ys : ys ≡ skeleton_trace (strand_view to)) where
+  first_held : xs ≡ skeleton_trace (instance_view i)
   first_held = are_xs ∙ ap (λ (d : StrandData). skeleton_trace (strand_view d)) (sym is_from)
 
-  others_held : map view ys ≡ skeleton_trace (instance_view (record j { role = i.role }))
+  others_held : ys ≡ skeleton_trace (instance_view (record j { role = i.role }))
   others_held = are_ys ∙ ap (λ (d : StrandData). skeleton_trace (strand_view d)) (sym is_to) ∙ ap (λ (r : Role). skeleton_trace (instance_view (record j { role = r }))) (sym same)
 
   pub fewer_held : length xs ≤ length ys
   fewer_held =
-      let e : length xs ≡ length (skeleton_trace (instance_view i)) = sym (length-map xs view) ∙ ap length first_held in
-      let d : length ys ≡ length (skeleton_trace (instance_view (record j { role = i.role }))) = sym (length-map ys view) ∙ ap length others_held in
+      let e : length xs ≡ length (skeleton_trace (instance_view i)) = ap length first_held in
+      let d : length ys ≡ length (skeleton_trace (instance_view (record j { role = i.role }))) = ap length others_held in
       let k = no_longer (apply_to (substitution_by i.values)) (apply_to (substitution_by j.values)) i.height j.height i.role.trace l in
       omega (arith, e, d, k)
 
-  pub part_by_messages : (given : PartialMap) (answer : Option Partial) → FindsMaps (λ f. MakesMessages f.terms (map view xs) (map view ys)) given answer →
+  pub part_by_messages : (given : PartialMap) (answer : Option Partial) → FindsMaps (λ f. MakesMessages f.terms xs ys) given answer →
       FindsMaps (λ f. MakesPart f.terms (strand_view from) (strand_view to)) given answer
   part_by_messages given answer h =
       subst₂ (λ (d e : StrandData). FindsMaps (λ f. MakesPart f.terms (strand_view d) (strand_view e)) given answer) is_from is_to
-      (finds_like (λ f. MakesMessages f.terms (map view xs) (map view ys)) (λ f. MakesPart f.terms (instance_view i) (instance_view j)) given answer
+      (finds_like (λ f. MakesMessages f.terms xs ys) (λ f. MakesPart f.terms (instance_view i) (instance_view j)) given answer
       (λ f p. (
         same,
         l,

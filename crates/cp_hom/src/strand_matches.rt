@@ -1,8 +1,8 @@
 // Maps strands to parts of others.
-ghost use Rattle.std.specs.Prelude.{◌≡◌, ◌≤◌, length, map, IfOk};
+ghost use Rattle.std.specs.Prelude.{◌≡◌, ◌≤◌, length, IfOk};
 ghost use Rattle.cp_model.specs.Homomorphism.{substitution_by};
 ghost use Rattle.cp_model.specs.Term.{apply_to};
-ghost use Rattle.cp_strand.specs.View.{event_view, strand_view};
+ghost use Rattle.cp_strand.specs.View.{strand_view};
 ghost use Rattle.cp_hom.specs.PartialMaps.{partial_view, FindsMaps};
 ghost use Rattle.cp_hom.specs.Counterparts.{MakesEvents, MakesMessages, MakesPart};
 
@@ -37,7 +37,7 @@ fn match_events(
     given: Partial,
 ) -> Result<Option<Partial>, AllocError>
     ensures { IfOk result (FindsMaps
-        (λ f. MakesEvents f.terms (map event_view events.now) (substitution_by from.now) (substitution_by to.now))
+        (λ f. MakesEvents f.terms events.now (substitution_by from.now) (substitution_by to.now))
         (partial_view given)) }
 {
     let mut found = given;
@@ -59,7 +59,7 @@ fn match_messages(
 ) -> Result<Option<Partial>, AllocError>
     requires { length events.now ≤ length others.now }
     ensures { IfOk result (FindsMaps
-        (λ f. MakesMessages f.terms (map event_view events.now) (map event_view others.now))
+        (λ f. MakesMessages f.terms events.now others.now)
         (partial_view given)) }
 {
     let mut found = given;

@@ -1,6 +1,9 @@
 // The test of a text that was sent under a key, and the pattern that guards it.
+ghost use Rattle.std.specs.Prelude.{◌≡◌};
+ghost use Rattle.cp_model.specs.declared.sort.Sort.TheVariants.{Text};
+
 use crate::stated::{skeleton_of, text};
-use cp_model::Node;
+use cp_model::{Node, Variable};
 use cp_pattern::{all_within, is_guarded, is_test};
 use cp_skel::{Skeleton, StrandShape};
 use cp_term::{Locals, Pattern, Sort, Term, VarId, enc, var};
@@ -14,11 +17,21 @@ const HEARD: &str =
     "(defskeleton v (vars (n text) (k skey)) (defstrand s 1 (n n) (k k)) (deflistener n) \
     (precedes ((0 0) (1 0))) (non-orig k) (uniq-orig n))";
 
+/// The variable of sort text with this number.
+fn text_numbered(number: usize) -> Variable
+    ensures { result ≡ record { sort = Text; number = number } }
+{
+    Variable {
+        sort: Sort::Text,
+        number,
+    }
+}
+
 /// The pattern of any text under the key 1.
 fn pattern(alloc: Global) -> Result<Pattern, AllocError> {
     let text = VarId::numbered(0);
     let mut locals = Locals::new(alloc);
-    locals.push(text)?;
+    locals.push(text_numbered(0))?;
     let key = var(alloc, VarId::numbered(1), Sort::Skey)?;
     let term = enc(alloc, var(alloc, text, Sort::Text)?, key)?;
     Ok(Pattern::new(term, locals))
@@ -55,24 +68,24 @@ fn is_tested_and_guarded(alloc: Global, k: &Skeleton) -> Result<bool, AllocError
     Ok(is_tested(alloc, k, &text)? && guards(alloc, k, &text)? && !do_guard(alloc, k, &text, &[])?)
 }
 
-/// Whether the text has one of these numbers or occurs in the first strand's role.
-fn is_within(k: &Skeleton, numbers: &[VarId], text: &Term) -> bool {
+/// Whether the text is one of these locals or occurs in the first strand's role.
+fn is_within(k: &Skeleton, locals: &[Variable], text: &Term) -> bool {
     match k.strands().first() {
         Some(strand) => match strand.shape() {
-            StrandShape::Instance(instance) => all_within(instance.role().trace(), numbers, text),
+            StrandShape::Instance(instance) => all_within(instance.role().trace(), locals, text),
             StrandShape::Listener(_) => false,
         },
         None => false,
     }
 }
 
-/// Whether the text 0 occurs in the role, and the text 2 only passes by its number.
+/// Whether the text 0 occurs in the role, and the text 2 only passes as a local.
 fn are_within(alloc: Global, k: &Skeleton) -> Result<bool, AllocError> {
     let other = text(alloc, 2)?;
     Ok(
         is_within(k, &[], &text(alloc, 0)?)
             && !is_within(k, &[], &other)
-            && is_within(k, &[VarId::numbered(2)], &other),
+            && is_within(k, &[text_numbered(2)], &other),
     )
 }
 

@@ -3,7 +3,8 @@ use crate::stated::{NEEDHAM_SCHROEDER, forms_of, joined, last_problem};
 use cp_load::load;
 use cp_print::print_shapes;
 use cp_sexpr::Form;
-use cp_skel::{Mark, Operation, Outcome, Skeleton, Tree, TreeNode};
+use cp_skel::{Mark, Nodes, Numbers, Operation, Outcome, Skeleton, Tree, TreeNode};
+use cp_term::Patterns;
 use std::alloc::{AllocError, Global};
 use std::test::Fail;
 
@@ -21,10 +22,10 @@ fn shape(alloc: Global, skeleton: Skeleton) -> TreeNode {
         parent: None,
         operation: Operation::Problem,
         skeleton,
-        unrealised: Vec::new(alloc),
+        unrealised: Nodes::new(alloc),
         test: None,
-        patterns: Vec::new(alloc),
-        children: Vec::new(alloc),
+        patterns: Patterns::new(alloc),
+        children: Numbers::new(alloc),
         mark: Some(Mark::Shape),
     }
 }

@@ -2,10 +2,9 @@
 ghost use Rattle.std.specs.Prelude.{◌≡◌, option_map, IfOk, IsTrue};
 ghost use Rattle.cp_model.specs.Skeleton.{IsNodeOf, term_event_at};
 ghost use Rattle.cp_model.specs.Term.{atom_term, text_variable};
-ghost use Rattle.cp_strand.specs.View.{event_view};
 ghost use Rattle.cp_skel.specs.View.{skeleton_view};
 
-use cp_load::load;
+use cp_load::{Entry, load};
 use cp_model::Node;
 use cp_sexpr::{Form, MAX_LENGTH, read};
 use cp_skel::{Event, Skeleton};
@@ -42,9 +41,9 @@ pub(crate) fn last_problem(alloc: Global, forms: &[Form]) -> Result<Skeleton, Fa
     let Ok(input) = load(alloc, forms) else {
         return Err(Fail::new("the forms have a fault"));
     };
-    let mut problems = input.problems;
-    match problems.pop() {
-        Some(Some(problem)) => Ok(problem.skeleton),
+    let mut entries = input.entries;
+    match entries.pop() {
+        Some(Entry::Problem(problem)) => Ok(problem.skeleton),
         _ => Err(Fail::new("the last form states no problem")),
     }
 }
@@ -63,7 +62,7 @@ pub(crate) fn skeleton_of(alloc: Global, protocol: &str, problem: &str) -> Resul
 
 /// The event at a node, if there is one.
 pub(crate) fn event_at(alloc: Global, k: &Skeleton, node: Node) -> Result<Option<Event>, AllocError>
-    ensures { IfOk result (λ e. option_map event_view e ≡ term_event_at (skeleton_view k.now).strands node) }
+    ensures { IfOk result (λ e. e ≡ term_event_at (skeleton_view k.now).strands node) }
 {
     match k.strands().get(node.strand) {
         Some(strand) => strand.event(alloc, node.index),

@@ -11,7 +11,9 @@ use Rattle.cp_model.specs.Skeleton.{SkeletonStrand}
 use Rattle.cp_language.specs.Roles.{text_of_symbol}
 use Rattle.cp_language.specs.Problems.{number_of, Problem}
 use Rattle.cp_report.specs.Misfits.{place_before, misfit, unless_misfit, entries_misfits, symbol_misfits}
-use Rattle.cp_report.specs.Labels.{OperationWord, problem_word, collapsed_word, contracted_word, displaced_word, added_strand_word, added_listener_word, generalised_word, no_operation_word, operation_word, is_operation, operation_kinds, operation_misfits, block_misfits, block_checks}
+use Rattle.cp_report.specs.declared.operations.OperationWord.{OperationWord}
+use Rattle.cp_report.specs.declared.operations.OperationWord.TheVariants.{Problem as problem_word, Collapsed as collapsed_word, Contracted as contracted_word, Displaced as displaced_word, AddedStrand as added_strand_word, AddedListener as added_listener_word, Generalised as generalised_word, Unknown as no_operation_word}
+use Rattle.cp_report.specs.Labels.{operation_word, is_operation, operation_kinds, operation_misfits, block_misfits, block_checks}
 use Rattle.cp_spelled.specs.FirstMisfit.{first_onto}
 use Rattle.cp_scope.proofs.FirstOf.{first_onto-append}
 use Rattle.cp_items.specs.Parts.{blocks_of, kinds_behind, operation_item_misfits}

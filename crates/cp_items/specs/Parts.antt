@@ -5,11 +5,13 @@ use Rattle.cp_sexpr.specs.Syntax.{Form}
 use Rattle.cp_language.specs.Roles.{text_of_symbol}
 use Rattle.cp_language.specs.Problems.{number_of}
 use Rattle.cp_model.specs.Skeleton.{SkeletonStrand}
-use Rattle.cp_model.specs.Strand.{Declaration}
+use Rattle.cp_model.specs.declared.variable.Declaration.{Declaration}
 use Rattle.cp_report.specs.Misfits.{misfit, misfit_unless, unless_misfit, lacking, each_misfits, any_number_misfits, symbol_misfits, entries_misfits}
 use Rattle.cp_report.specs.Spelled.{pattern_misfits}
 use Rattle.cp_report.specs.Skeletons.{strand_number_misfits}
-use Rattle.cp_report.specs.Labels.{OperationWord, problem_word, collapsed_word, contracted_word, displaced_word, added_strand_word, added_listener_word, generalised_word, no_operation_word, operation_word, is_operation, block_misfits, index_misfits}
+use Rattle.cp_report.specs.declared.operations.OperationWord.{OperationWord}
+use Rattle.cp_report.specs.declared.operations.OperationWord.TheVariants.{Problem as problem_word, Collapsed as collapsed_word, Contracted as contracted_word, Displaced as displaced_word, AddedStrand as added_strand_word, AddedListener as added_listener_word, Generalised as generalised_word, Unknown as no_operation_word}
+use Rattle.cp_report.specs.Labels.{operation_word, is_operation, block_misfits, index_misfits}
 
 -- ---- operations
 

@@ -2,8 +2,7 @@
 ghost use Rattle.std.specs.Prelude.{◌≡◌, [], ◌∷◌, map, option_map, Some, IfOk, OnOk};
 ghost use Rattle.cp_sexpr.specs.View.{view};
 ghost use Rattle.cp_language.specs.Problems.{option_node};
-ghost use Rattle.cp_strand.specs.View.{declaration_view, strand_view};
-ghost use Rattle.cp_skel.specs.Trees.{test_view};
+ghost use Rattle.cp_strand.specs.View.{strand_view};
 ghost use Rattle.cp_report.specs.Misfits.{each_misfits};
 ghost use Rattle.cp_report.specs.Spelled.{pattern_misfits, pattern_of};
 ghost use Rattle.cp_report.specs.Skeletons.{node_misfits, node_or_first};
@@ -75,7 +74,7 @@ pub fn test_of(
     scope: Scope<'_>,
     item: Option<&Form>,
 ) -> Result<Option<Test>, AllocError>
-    ensures { IfOk result (λ t. option_map test_view t ≡ test_of (scope_view scope.entry) (option_map (λ f. view f.now) item.entry)) }
+    ensures { IfOk result (λ t. t ≡ test_of (scope_view scope.entry) (option_map (λ f. view f.now) item.entry)) }
 {
     let Some(item) = item else {
         return Ok(None);
@@ -83,7 +82,10 @@ pub fn test_of(
     let entries = items_behind(item);
     let node = node_or_first(item_at(entries, 0));
     let term = term_or_tag(alloc, scope, item_at(entries, 1))?;
-    Ok(Some(Test { node, term }))
+    Ok(Some(Test {
+        node,
+        critical: term,
+    }))
 }
 
 /// Each of these forms must be a pattern.
@@ -93,7 +95,7 @@ fn patterns_misfits(
     items: &[Form],
     first: &mut FirstMisfit,
 ) -> Result<(), AllocError>
-    ensures { OnOk result (first.new ≡ first_onto first.old (each_misfits (pattern_misfits (map declaration_view variables.now)) (map view items.now))) }
+    ensures { OnOk result (first.new ≡ first_onto first.old (each_misfits (pattern_misfits variables.now) (map view items.now))) }
 {
     for item in items {
         pattern_misfits(alloc, variables, item, first)?;
@@ -110,7 +112,7 @@ pub fn escape_misfits(
     items: &[Form],
     first: &mut FirstMisfit,
 ) -> Result<(), AllocError>
-    ensures { OnOk result (first.new ≡ first_onto first.old (escape_item_misfits has_test (map declaration_view variables.now) place (map view items.now))) }
+    ensures { OnOk result (first.new ≡ first_onto first.old (escape_item_misfits has_test variables.now place (map view items.now))) }
 {
     first.note_unless(has_test, place);
     lacking(1, place, items, first);
@@ -119,8 +121,8 @@ pub fn escape_misfits(
 
 /// The pattern that a form is. It must be one.
 fn pattern_stated(alloc: Global, variables: &Variables, form: &Form) -> Result<Pattern, AllocError>
-    requires { pattern_misfits (map declaration_view variables.now) (view form.now) ≡ [] }
-    ensures { IfOk result (λ p. p ≡ pattern_of (map declaration_view variables.now) (view form.now)) }
+    requires { pattern_misfits variables.now (view form.now) ≡ [] }
+    ensures { IfOk result (λ p. p ≡ pattern_of variables.now (view form.now)) }
 {
     match pattern_of(alloc, variables, form)? {
         Some(pattern) => Ok(pattern),
@@ -134,8 +136,8 @@ pub fn patterns_of(
     variables: &Variables,
     items: &[Form],
 ) -> Result<Vec<Pattern>, AllocError>
-    requires { each_misfits (pattern_misfits (map declaration_view variables.now)) (map view items.now) ≡ [] }
-    ensures { IfOk result (λ v. v.items ≡ map (pattern_of (map declaration_view variables.now)) (map view items.now)) }
+    requires { each_misfits (pattern_misfits variables.now) (map view items.now) ≡ [] }
+    ensures { IfOk result (λ v. v.items ≡ map (pattern_of variables.now) (map view items.now)) }
 {
     let mut patterns = Vec::new(alloc);
     for item in items {

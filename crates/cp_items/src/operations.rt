@@ -3,39 +3,25 @@ ghost use Rattle.std.specs.Prelude.{◌≡◌, nat_le, ◌&&◌, [], ◌∷◌, 
 ghost use Rattle.cp_lists.specs.Lists.{item_at};
 ghost use Rattle.cp_sexpr.specs.View.{view};
 ghost use Rattle.cp_language.specs.Problems.{number_of, name_in_front};
-ghost use Rattle.cp_skel.specs.Trees.{operation_view};
 ghost use Rattle.cp_report.specs.Misfits.{any_number_misfits, entries_misfits, symbol_misfits};
 ghost use Rattle.cp_report.specs.Labels.{operation_word, is_operation, makes_root, is_number, block_misfits, node_stated, operation_by};
 ghost use Rattle.cp_spelled.specs.FirstMisfit.{first_onto};
 ghost use Rattle.cp_items.specs.Parts.{blocks_of, kinds_behind, operation_item_misfits, is_fitting};
-ghost use Rattle.cp_items.specs.Words.{word_view};
 
 use crate::heads::name_in_front;
 use crate::numbers::{number_stated, numbers_of};
 use cp_base::Place;
+use cp_report::OperationWord;
 use cp_scope::{is_word, item_at, later_items, place_of, symbol_or_empty};
 use cp_sexpr::Form;
-use cp_skel::{Node, Operation};
+use cp_skel::{Node, Numbers, Operation};
 use cp_spelled::{FirstMisfit, no_more, one_number_misfits};
 use cp_stated::{number_of, two_numbers_misfits};
 use std::alloc::{AllocError, Global};
 
-/// What the word after `by` names.
-#[derive(Clone, Copy)]
-pub enum OperationWord {
-    Problem,
-    Collapsed,
-    Contracted,
-    Displaced,
-    AddedStrand,
-    AddedListener,
-    Generalised,
-    Unknown,
-}
-
 /// What a word names.
 pub(crate) fn operation_word(word: &[u8]) -> OperationWord
-    ensures { word_view result ≡ operation_word word.now }
+    ensures { result ≡ operation_word word.now }
 {
     if is_word(word, b"problem") {
         OperationWord::Problem
@@ -58,21 +44,21 @@ pub(crate) fn operation_word(word: &[u8]) -> OperationWord
 
 /// What the first word among the entries names.
 pub fn word_in_front(items: &[Form]) -> OperationWord
-    ensures { word_view result ≡ operation_word (name_in_front (map view items.now)) }
+    ensures { result ≡ operation_word (name_in_front (map view items.now)) }
 {
     operation_word(name_in_front(items))
 }
 
 /// Whether a word names an operation.
 pub fn is_operation(word: OperationWord) -> bool
-    ensures { result ≡ is_operation (word_view word) }
+    ensures { result ≡ is_operation word }
 {
     !matches!(word, OperationWord::Unknown)
 }
 
 /// Whether an operation makes roots.
 pub fn makes_root(word: OperationWord) -> bool
-    ensures { result ≡ makes_root (word_view word) }
+    ensures { result ≡ makes_root word }
 {
     matches!(word, OperationWord::Problem | OperationWord::Collapsed)
 }
@@ -122,7 +108,7 @@ fn behind_word_misfits(
     items: &[Form],
     first: &mut FirstMisfit,
 )
-    ensures { first.new ≡ first_onto first.old (entries_misfits (kinds_behind strands (word_view word) (map view items.now)) place (map view items.now)) }
+    ensures { first.new ≡ first_onto first.old (entries_misfits (kinds_behind strands word (map view items.now)) place (map view items.now)) }
 {
     match word {
         OperationWord::Collapsed => partition_misfits(strands, place, items, first),
@@ -187,11 +173,14 @@ pub fn operation_by(
     word: OperationWord,
     items: &[Form],
 ) -> Result<Operation, AllocError>
-    ensures { IfOk result (λ o. operation_view o ≡ operation_by (word_view word) (map view items.now)) }
+    ensures { IfOk result (λ o. o ≡ operation_by word (map view items.now)) }
 {
     match word {
         OperationWord::Problem | OperationWord::Unknown => Ok(Operation::Problem),
-        OperationWord::Collapsed => Ok(Operation::Collapsed(numbers_of(alloc, items)?)),
+        OperationWord::Collapsed => {
+            let numbers = numbers_of(alloc, items)?;
+            Ok(Operation::Collapsed(Numbers::of(numbers)))
+        }
         OperationWord::Contracted => Ok(Operation::Contracted(node_stated(items))),
         OperationWord::Displaced => Ok(Operation::Displaced(node_stated(items))),
         OperationWord::AddedStrand => Ok(Operation::AddedStrand(number_stated(items))),

@@ -5,9 +5,8 @@ ghost use Rattle.cp_strand.specs.View.{strand_view};
 ghost use Rattle.cp_report.specs.Labels.{index_misfits, operation_place_misfits};
 ghost use Rattle.cp_spelled.specs.FirstMisfit.{first_onto};
 ghost use Rattle.cp_items.specs.Parts.{node_place_misfits, strand_place_misfits};
-ghost use Rattle.cp_items.specs.Words.{word_view};
 
-use crate::operations::OperationWord;
+use cp_report::OperationWord;
 use cp_scope::place_of;
 use cp_sexpr::Form;
 use cp_skel::{Node, Strand};
@@ -57,7 +56,7 @@ pub fn operation_place_misfits(
     items: &[Form],
     first: &mut FirstMisfit,
 )
-    ensures { first.new ≡ first_onto first.old (operation_place_misfits (map strand_view strands.now) (word_view word) (map view items.now)) }
+    ensures { first.new ≡ first_onto first.old (operation_place_misfits (map strand_view strands.now) word (map view items.now)) }
 {
     match word {
         OperationWord::Contracted | OperationWord::Displaced => {

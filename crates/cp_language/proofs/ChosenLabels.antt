@@ -3,7 +3,7 @@ use Rattle.std.proofs.Common.{◌≡◌, ℕ, suc, List, [], ◌∷◌, ◌++◌
 use Rattle.cp_model.specs.Tree.{Label, Tree}
 use Rattle.cp_sexpr.specs.Syntax.{Form}
 use Rattle.cp_language.specs.Problems.{Problem}
-use Rattle.cp_language.specs.Input.{Entry}
+use Rattle.cp_language.specs.Input.{Entry, form_of, stated}
 use Rattle.cp_language.specs.Names.{problem_names}
 use Rattle.cp_language.specs.Report.{labels_from, label_form, status_form, tree_forms, report_from, report_forms, report_text, text_of_forms}
 use Rattle.cp_language.specs.ShapesText.{chosen_from, chosen_tree_forms, chosen_report_from, chosen_report_forms, chosen_text}
@@ -22,7 +22,7 @@ all_behind f (Some p) (t ∷ ts) chosen whole same = ap₂ (λ (here behind : Li
 
 pub all_forms : (entries : List Entry) (trees : List Tree) → chosen_report_forms (λ l. true) entries trees ≡ report_forms entries trees
 all_forms [] ts = refl
-all_forms (e ∷ es) ts = all_behind e.form e.problem ts (chosen_report_forms (λ l. true) es) (report_forms es) (all_forms es)
+all_forms (e ∷ es) ts = all_behind (form_of e) (stated e) ts (chosen_report_forms (λ l. true) es) (report_forms es) (all_forms es)
 
 -- the text of a report of all labels
 pub all_text : (entries : List Entry) (trees : List Tree) → chosen_text (λ l. true) entries trees ≡ report_text entries trees

@@ -1,12 +1,14 @@
 -- What holds of the roles of a protocol without faults, role by role. A property speaks of the names before the roles, and
 -- of the roles; what is given is a fact of the forms behind each head.
-use Rattle.std.proofs.Common.{◌≡◌, ℕ, List, [], ◌∷◌, ◌++◌, Option, Some, None, if◌then◌else◌}
+use Rattle.std.proofs.Common.{◌≡◌, ℕ, List, [], ◌∷◌, Option, Some, None, if◌then◌else◌}
 use Rattle.cp_base.specs.declared.place.Place.{Place}
 use Rattle.cp_lists.specs.Lists.{IsIn, here, there}
 use Rattle.cp_lists.proofs.Appended.{none_before, none_behind}
 use Rattle.cp_model.specs.Strand.{Role}
 use Rattle.cp_sexpr.specs.Syntax.{Form}
-use Rattle.cp_language.specs.Words.{ItemHead, role_item, non_item, penetrator_non_item, unique_item, strand_item, listener_item, precedes_item, comment_item, item_out_of_profile, no_item, item_head}
+use Rattle.cp_language.specs.declared.words.ItemHead.{ItemHead}
+use Rattle.cp_language.specs.declared.words.ItemHead.TheVariants.{Role as role_item, Non as non_item, PenetratorNon as penetrator_non_item, Unique as unique_item, Strand as strand_item, Listener as listener_item, Precedes as precedes_item, Comment as comment_item, OutOfProfile as item_out_of_profile, Unknown as no_item}
+use Rattle.cp_language.specs.Words.{item_head}
 use Rattle.cp_language.specs.Faults.{place_of}
 use Rattle.cp_language.specs.Roles.{Headed, headed, item_faults, headed_item_faults, role_faults, item_or_none, items_behind, role_of, is_role_item, protocol_item_faults, role_name_onto, roles_faults, roles_in}
 

@@ -5,8 +5,14 @@ use Rattle.std.proofs.lemmas.List.{length-append}
 use Rattle.cp_base.specs.declared.place.Place.{Place}
 use Rattle.cp_base.specs.declared.place.Code.TheVariants.{BadShape, DuplicateVar, NotInPrefix, IllSorted}
 use Rattle.cp_lists.specs.Lists.{item_at, IsIn, here, there}
-use Rattle.cp_model.specs.Term.{Sort, text_sort, datum_sort, name_sort, skey_sort, akey_sort, Variable, atom_of_variable, SymmetricTerm, skey_variable, ltk_term, PairTerm, akey_variable, pubk_term, KeyTerm, symmetric_term, asymmetric_term, AtomTerm, text_variable, datum_variable, name_variable, key_term, Term, tag_term, atom_term, pair_term, enc_term, variables_of_symmetric, variables_of_pair, variables_of_key, variables_of_atom, variables_of, Substitution, apply_to_symmetric, apply_to_half, apply_to_key, apply_to_atom, apply_to}
-use Rattle.cp_model.specs.Strand.{Event, send, recv, payload, event_map, Declaration, Role, variables_of_trace, variables_of_prefix}
+use Rattle.cp_model.specs.Term.{variable_term, SymmetricTerm, skey_variable, ltk_term, PairTerm, akey_variable, pubk_term, KeyTerm, symmetric_term, asymmetric_term, AtomTerm, text_variable, datum_variable, name_variable, key_term, Term, tag_term, atom_term, pair_term, enc_term, variables_of_symmetric, variables_of_pair, variables_of_key, variables_of_atom, variables_of, Substitution, apply_to_symmetric, apply_to_half, apply_to_key, apply_to_atom, apply_to}
+use Rattle.cp_model.specs.declared.sort.Sort.{Sort}
+use Rattle.cp_model.specs.declared.sort.Sort.TheVariants.{Text as text_sort, Datum as datum_sort, Name as name_sort, Skey as skey_sort, Akey as akey_sort}
+use Rattle.cp_model.specs.declared.variable.Variable.{Variable}
+use Rattle.cp_model.specs.Strand.{payload, event_map, Role, variables_of_trace, variables_of_prefix}
+use Rattle.cp_model.specs.declared.strand.Event.{Event}
+use Rattle.cp_model.specs.declared.strand.Event.TheVariants.{Send as send, Receive as recv}
+use Rattle.cp_model.specs.declared.variable.Declaration.{Declaration}
 use Rattle.cp_model.specs.Homomorphism.{text_in, datum_in, name_in, skey_in, akey_in, substitution_by}
 use Rattle.cp_model.specs.Problem.{declared_sort, IsDeclared}
 use Rattle.cp_lists.proofs.Members.{in_append_left, in_append_right, only_item}
@@ -28,7 +34,7 @@ use Rattle.cp_language.proofs.Roles.{IsSoundRole, prefix_declared}
 
 -- The substitution gives each of these variables a term with declared variables.
 abbrev pub TakesToDeclared : Substitution → List Declaration → List Variable → Type 0
-TakesToDeclared s ds xs = (x : Variable) → IsIn x xs → AreDeclared ds (variables_of_atom (apply_to_atom s (atom_of_variable x)))
+TakesToDeclared s ds xs = (x : Variable) → IsIn x xs → AreDeclared ds (variables_of (apply_to s (variable_term x)))
 
 takes_left : (s : Substitution) (ds : List Declaration) (xs ys : List Variable) → TakesToDeclared s ds (xs ++ ys) → TakesToDeclared s ds xs
 takes_left s ds xs ys h x p = h x (in_append_left ys p)
@@ -87,7 +93,7 @@ pub record HasTerm (ds : List Declaration) (s : Sort) (o : Option Term) : Type 0
   pub declared : AreDeclared ds (variables_of term)
 
 -- a term of the variable's sort is taken
-term_is_taken : (ts : List Term) (s : Sort) (n : ℕ) (t : Term) → item_at ts n ≡ Some t → IsOfSort s t → atom_term (apply_to_atom (substitution_by ts) (atom_of_variable (record { sort = s; number = n }))) ≡ t
+term_is_taken : (ts : List Term) (s : Sort) (n : ℕ) (t : Term) → item_at ts n ≡ Some t → IsOfSort s t → apply_to (substitution_by ts) (variable_term (record { sort = s; number = n })) ≡ t
 term_is_taken ts text_sort n t e h =
     ap (λ (o : Option Term). atom_term (text_variable (text_in n o))) e ∙ ap (λ (u : Term). atom_term (text_variable (text_in n (Some u)))) h.1 ∙ sym h.1
 term_is_taken ts datum_sort n t e h =
@@ -100,7 +106,7 @@ term_is_taken ts akey_sort n t e h =
     ap (λ (o : Option Term). atom_term (key_term (asymmetric_term (akey_in n o).0 (akey_in n o).1))) e
     ∙ ap (λ (u : Term). atom_term (key_term (asymmetric_term (akey_in n (Some u)).0 (akey_in n (Some u)).1))) h.2 ∙ sym h.2
 
-taken_declared : (ds : List Declaration) (ts : List Term) (x : Variable) → HasTerm ds x.sort (item_at ts x.number) → AreDeclared ds (variables_of_atom (apply_to_atom (substitution_by ts) (atom_of_variable x)))
+taken_declared : (ds : List Declaration) (ts : List Term) (x : Variable) → HasTerm ds x.sort (item_at ts x.number) → AreDeclared ds (variables_of (apply_to (substitution_by ts) (variable_term x)))
 taken_declared ds ts x h = subst (λ (t : Term). AreDeclared ds (variables_of t)) (sym (term_is_taken ts x.sort x.number h.term h.at h.sorted)) h.declared
 
 -- ---- declarations go on
@@ -136,7 +142,7 @@ first_term : (prefix : List Variable) (ds : List Declaration) (maplets : List Fo
     HasTerm full d.sort (Some (term_or_fresh o (not (is_known o) && has_variable prefix (record { sort = d.sort; number = n })) d.sort next))
 first_term prefix ds maplets full next n d (Some t) given made occurs = let h = given t refl in record { term = t; at = refl; sorted = h.0; declared = h.1 }
 first_term prefix ds maplets full next n d None given made occurs = record {
-  term = atom_term (atom_of_variable (record { sort = d.sort; number = next }));
+  term = variable_term (record { sort = d.sort; number = next });
   at = ap (λ (b : Bool). Some (term_or_fresh None b d.sort next)) occurs;
   sorted = variable_of_sort (record { sort = d.sort; number = next });
   declared = variable_declared full (record { sort = d.sort; number = next }) (made occurs);

@@ -22,3 +22,4 @@ pub mod NoCycle
 pub mod Problems
 pub mod Example
 pub mod OwnNames
+pub mod Entries

@@ -6,11 +6,12 @@ use Rattle.cp_base.specs.declared.place.Code.TheVariants.{OutOfProfile, BadShape
 use Rattle.cp_base.specs.declared.place.Refusal.{Refusal}
 use Rattle.cp_lists.specs.Lists.{item_at}
 use Rattle.cp_lists.proofs.Appended.{none_before, none_behind, none_of_three}
-use Rattle.cp_model.specs.Term.{Sort}
-use Rattle.cp_model.specs.Strand.{Declaration}
+use Rattle.cp_model.specs.declared.sort.Sort.{Sort}
+use Rattle.cp_model.specs.declared.variable.Declaration.{Declaration}
 use Rattle.cp_sexpr.specs.Syntax.{Form, symbol, string, number, list}
 use Rattle.cp_model.specs.Same.{same_text}
-use Rattle.cp_language.specs.Words.{is_one_of, heads_out_of_profile, SortWord}
+use Rattle.cp_language.specs.declared.words.SortWord.{SortWord}
+use Rattle.cp_language.specs.Words.{is_one_of, heads_out_of_profile}
 use Rattle.cp_language.specs.Faults.{fault, place_of, items_of}
 use Rattle.cp_language.specs.Terms.{variable_from, variable_named, lacks}
 use Rattle.cp_language.specs.Roles.{Headed, headed, text_of_symbol, fixed_head_faults, items_behind, front_of, last_form, sort_named, is_of_messages, sort_or_text, last_sort_faults, identifier_faults, identifiers_faults, declared_identifiers, list_items, declaration_faults, declarations_faults, vars_faults, declared_of, declarations_in, declarations_of}

@@ -3,7 +3,7 @@ use Rattle.std.proofs.Common.{◌≡◌, List, [], ◌∷◌, Bool, true, false,
 use Rattle.std.proofs.lemmas.Bool.{both_ways}
 use Rattle.cp_lists.specs.Lists.{IsIn, there}
 use Rattle.cp_lists.proofs.Members.{head_or_behind, at_head}
-use Rattle.cp_model.specs.Term.{Variable}
+use Rattle.cp_model.specs.declared.variable.Variable.{Variable}
 use Rattle.cp_model.specs.Same.{has_variable}
 use Rattle.cp_model.proofs.SameTests.{in_has_variable}
 use Rattle.cp_language.specs.Report.{variables_but}

@@ -7,8 +7,9 @@ use Rattle.cp_base.specs.declared.place.Code.TheVariants.{DuplicateRole}
 use Rattle.cp_lists.specs.Lists.{item_at, IsIn, here, there}
 use Rattle.cp_lists.proofs.Items.{item_in_front}
 use Rattle.cp_lists.proofs.Appended.{none_of_four}
-use Rattle.cp_model.specs.Term.{Variable}
-use Rattle.cp_model.specs.Strand.{Declaration, Role}
+use Rattle.cp_model.specs.declared.variable.Variable.{Variable}
+use Rattle.cp_model.specs.Strand.{Role}
+use Rattle.cp_model.specs.declared.variable.Declaration.{Declaration}
 use Rattle.cp_model.specs.Same.{same_text}
 use Rattle.cp_model.proofs.SameTests.{same_text_itself}
 use Rattle.cp_sexpr.specs.Syntax.{Form, symbol, string, number, list}

@@ -4,20 +4,23 @@ use Rattle.cp_base.specs.declared.place.Place.{Place}
 use Rattle.cp_base.specs.declared.place.Code.TheVariants.{BadShape}
 use Rattle.cp_lists.specs.Lists.{item_at, IsIn, here, there}
 use Rattle.cp_model.specs.Term.{AtomTerm, variables_of, Substitution, apply_to_atom}
-use Rattle.cp_model.specs.Strand.{Declaration, Role, Protocol, prefix_of, variables_of_trace}
+use Rattle.cp_model.specs.Strand.{Role, Protocol, prefix_of, variables_of_trace}
+use Rattle.cp_model.specs.declared.variable.Declaration.{Declaration}
 use Rattle.cp_model.specs.Bundle.{node_at}
 use Rattle.cp_model.specs.Skeleton.{SkeletonStrand, instance, listener, skeleton_trace, Assumptions, Skeleton, GivesAssumptions, IsSkeleton}
 use Rattle.cp_model.specs.Problem.{variables_of_strands, variables_of_atoms, variables_of_uniques, variables_of_assumptions, variables_of_skeleton}
 use Rattle.cp_model.specs.PointOfView.{AssumesNoMore, IsPointOfView}
 use Rattle.cp_model.specs.Stated.{HasOwnAssumptions}
 use Rattle.cp_sexpr.specs.Syntax.{Form, Forms}
-use Rattle.cp_language.specs.Words.{TopHead, protocol_form, problem_form, free_form, top_out_of_profile, no_top, top_head}
+use Rattle.cp_language.specs.declared.words.TopHead.{TopHead}
+use Rattle.cp_language.specs.declared.words.TopHead.TheVariants.{Protocol as protocol_form, Problem as problem_form, Free as free_form, OutOfProfile as top_out_of_profile, Unknown as no_top}
+use Rattle.cp_language.specs.Words.{top_head}
 use Rattle.cp_language.specs.Faults.{fault_unless, place_of, items_of}
 use Rattle.cp_language.specs.Terms.{variable_named}
 use Rattle.cp_language.specs.Roles.{Headed, headed, text_of_symbol, vars_faults, declarations_of, forms_under, is_non_item, is_penetrator_non_item, is_unique_item, atoms_in, protocol_of}
 use Rattle.cp_model.specs.Given.{given_non, given_penetrator_non, given_uniques, with_given}
 use Rattle.cp_language.specs.Problems.{protocol_named, role_named, ItemStage, body_faults, has_strand, before_items, roles_of, protocol_name_faults, problem_strands, problem_faults, own_uniques, own_assumptions, own_skeleton, Problem, protocol_or_none, problem_with, problem_of}
-use Rattle.cp_language.specs.Input.{protocol_names, top_faults, headed_top_faults, protocols_onto, protocols_behind, faults_from, faults_of, Entry, problem_by, stated_problem, entries_from, input_of}
+use Rattle.cp_language.specs.Input.{protocol_names, top_faults, headed_top_faults, protocols_onto, protocols_behind, faults_from, faults_of, Entry, stated, entry_of_head, headed_entry, entries_from, input_of}
 use Rattle.cp_language.proofs.Terms.{AreDeclared, none_declared, both_declared}
 use Rattle.cp_language.specs.Role.{IsWellFormedRole}
 use Rattle.cp_language.proofs.Names.{AreDistinct, variables_distinct, named_itself}
@@ -30,6 +33,7 @@ use Rattle.cp_language.proofs.Values.{AtomsDeclared, atoms_declared, stated_decl
 use Rattle.cp_lists.proofs.Items.{at_place}
 use Rattle.cp_lists.proofs.Appended.{none_before, none_behind, none_of_four}
 use Rattle.cp_model.proofs.Gathered.{onto-keeps, onto-takes, onto-only, atoms, uniques as gathered_uniques}
+use Rattle.cp_model.proofs.OwnOrder.{own_if_same}
 use Rattle.cp_language.proofs.Atoms.{onto_declared, given_declared, given_there, non_given, penetrator_non_given}
 use Rattle.cp_language.proofs.Uniques as uniques
 use Rattle.cp_language.proofs.NoCycle.{no_cycle, are_pairs}
@@ -52,11 +56,12 @@ pub record IsSoundProtocol (p : Protocol) : Type 0 where
   pub roles : AreSoundRoles p.roles
   pub named : HaveOwnNames [] p.roles
 
--- The problem is a skeleton over its protocol that maps to itself; the protocol is sound; and each identifier that is
--- declared is that of its own variable.
+-- The problem is a skeleton over its protocol that maps to itself, and states its pairs; the protocol is sound; and each
+-- identifier that is declared is that of its own variable.
 pub record IsSoundProblem (p : Problem) : Type 0 where
   pub skeleton : IsSkeleton p.protocol p.skeleton
   pub own : IsPointOfView p.variables p.skeleton
+  pub pairs : p.skeleton.from_problem.pairs ≡ p.skeleton.pairs
   pub sound : IsSoundProtocol p.protocol
   pub declared : (i : ℕ) (d : Declaration) → i < p.declared → item_at p.variables i ≡ Some d → variable_named p.variables d.identifier ≡ Some (record { sort = d.sort; number = i })
 
@@ -132,7 +137,7 @@ module _ (protocol : Protocol) (ds : List Declaration) (body : List Form) (stran
   }
 
   is_own : IsPointOfView full k
-  is_own = record { strands = refl; values = refl; closed = all_declared; assumed = own_assumed; no_more = no_more; pairs = refl }
+  is_own = record { strands = refl; values = refl; closed = all_declared; assumed = own_assumed; no_more = no_more; ordered = own_if_same k (are_pairs k says.order) refl }
 
 abbrev at_start : ItemStage
 at_start = record { after_strand = false; after_item = false }
@@ -147,6 +152,7 @@ with_protocol p sound ds distinct body e =
     record {
       skeleton = is_skeleton p ds body s.strands (ds ++ s.fresh) strands says extends;
       own = is_own p ds body s.strands (ds ++ s.fresh) strands says extends;
+      pairs = refl;
       sound = sound;
       declared = λ i d less at. declared_named ds s.fresh i d distinct less at;
     }
@@ -190,21 +196,21 @@ sound_protocol : (p : Protocol) → AreSoundRoles p.roles × HaveOwnNames [] p.r
 sound_protocol p h = record { roles = h.0; named = h.1 }
 
 -- what a form states, and the protocols that stand above the forms behind it
-by_head : (above : List Protocol) (at : Place) (k : TopHead) (fs : List Form) → AreSoundProtocols above → top_faults above at k fs ≡ [] → IsSoundOption (problem_by above k fs) × AreSoundProtocols (protocols_onto k fs above)
-by_head above at protocol_form fs sound e = (none_sound, one_more (protocol_of fs) above (sound_protocol (protocol_of fs) (protocol_sound (protocol_names above) at fs e)) sound)
-by_head above at problem_form fs sound e = (stated_sound (problem_of above fs) (problem_sound above at fs sound e), sound)
-by_head above at free_form fs sound e = (none_sound, sound)
-by_head above at top_out_of_profile fs sound e = absurd (cc)
-by_head above at no_top fs sound e = absurd (cc)
+by_head : (above : List Protocol) (at : Place) (k : TopHead) (fs : List Form) (f : Form) → AreSoundProtocols above → top_faults above at k fs ≡ [] → IsSoundOption (stated (entry_of_head above k fs f)) × AreSoundProtocols (protocols_onto k fs above)
+by_head above at protocol_form fs f sound e = (none_sound, one_more (protocol_of fs) above (sound_protocol (protocol_of fs) (protocol_sound (protocol_names above) at fs e)) sound)
+by_head above at problem_form fs f sound e = (stated_sound (problem_of above fs) (problem_sound above at fs sound e), sound)
+by_head above at free_form fs f sound e = (none_sound, sound)
+by_head above at top_out_of_profile fs f sound e = absurd (cc)
+by_head above at no_top fs f sound e = absurd (cc)
 
-form_sound : (above : List Protocol) (at : Place) (o : Option Headed) → AreSoundProtocols above → headed_top_faults above at o ≡ [] → IsSoundOption (stated_problem above o) × AreSoundProtocols (protocols_behind o above)
-form_sound above at None sound e = absurd (cc)
-form_sound above at (Some h) sound e = by_head above at (top_head h.head) h.items sound e
+form_sound : (above : List Protocol) (at : Place) (o : Option Headed) (f : Form) → AreSoundProtocols above → headed_top_faults above at o ≡ [] → IsSoundOption (stated (headed_entry above o f)) × AreSoundProtocols (protocols_behind o above)
+form_sound above at None f sound e = absurd (cc)
+form_sound above at (Some h) f sound e = by_head above at (top_head h.head) h.items f sound e
 
 abbrev AreSoundEntries : List Entry → Type 0
-AreSoundEntries entries = (e : Entry) → IsIn e entries → IsSoundOption e.problem
+AreSoundEntries entries = (e : Entry) → IsIn e entries → IsSoundOption (stated e)
 
-one_more_entry : (e : Entry) (es : List Entry) → IsSoundOption e.problem → AreSoundEntries es → AreSoundEntries (e ∷ es)
+one_more_entry : (e : Entry) (es : List Entry) → IsSoundOption (stated e) → AreSoundEntries es → AreSoundEntries (e ∷ es)
 one_more_entry e es h hs f here = h
 one_more_entry e es h hs f (there i) = hs f i
 
@@ -213,20 +219,24 @@ entries_sound above [] sound e = λ f i. elim i [ ]
 entries_sound above (f ∷ fs) sound e =
     let first = headed_top_faults above (place_of f) (headed f) in
     let rest = faults_from (protocols_behind (headed f) above) fs in
-    let h = form_sound above (place_of f) (headed f) sound (none_before first rest e) in
-    one_more_entry (record { form = f; problem = stated_problem above (headed f) }) (entries_from (protocols_behind (headed f) above) fs) h.0
+    let h = form_sound above (place_of f) (headed f) f sound (none_before first rest e) in
+    one_more_entry (headed_entry above (headed f) f) (entries_from (protocols_behind (headed f) above) fs) h.0
     (entries_sound (protocols_behind (headed f) above) fs h.1 (none_behind first rest e))
 
 problems_sound : (fs : Forms) → faults_of fs ≡ [] → AreSoundEntries (input_of fs)
 problems_sound fs e = entries_sound [] (items_of fs) (λ q i. elim i [ ]) e
 
 -- Each problem of well-formed input is a skeleton over its protocol.
-pub are_skeletons : (fs : Forms) (e : Entry) (p : Problem) → faults_of fs ≡ [] → IsIn e (input_of fs) → e.problem ≡ Some p → IsSkeleton p.protocol p.skeleton
+pub are_skeletons : (fs : Forms) (e : Entry) (p : Problem) → faults_of fs ≡ [] → IsIn e (input_of fs) → stated e ≡ Some p → IsSkeleton p.protocol p.skeleton
 are_skeletons fs e p faultless i at = (problems_sound fs faultless e i p at).skeleton
 
 -- Each problem of well-formed input maps to itself.
-pub map_to_themselves : (fs : Forms) (e : Entry) (p : Problem) → faults_of fs ≡ [] → IsIn e (input_of fs) → e.problem ≡ Some p → IsPointOfView p.variables p.skeleton
+pub map_to_themselves : (fs : Forms) (e : Entry) (p : Problem) → faults_of fs ≡ [] → IsIn e (input_of fs) → stated e ≡ Some p → IsPointOfView p.variables p.skeleton
 map_to_themselves fs e p faultless i at = (problems_sound fs faultless e i p at).own
+
+-- The pairs that a problem of well-formed input states are its pairs.
+pub state_their_pairs : (fs : Forms) (e : Entry) (p : Problem) → faults_of fs ≡ [] → IsIn e (input_of fs) → stated e ≡ Some p → p.skeleton.from_problem.pairs ≡ p.skeleton.pairs
+state_their_pairs fs e p faultless i at = (problems_sound fs faultless e i p at).pairs
 
 well_formed_role : (r : Role) → IsSoundRole r → IsWellFormedRole r
 well_formed_role r h = record {
@@ -238,14 +248,14 @@ well_formed_role r h = record {
 }
 
 -- The roles of a problem's protocol are well formed.
-pub roles_are_well_formed : (fs : Forms) (e : Entry) (p : Problem) (r : Role) → faults_of fs ≡ [] → IsIn e (input_of fs) → e.problem ≡ Some p → IsIn r p.protocol.roles → IsWellFormedRole r
+pub roles_are_well_formed : (fs : Forms) (e : Entry) (p : Problem) (r : Role) → faults_of fs ≡ [] → IsIn e (input_of fs) → stated e ≡ Some p → IsIn r p.protocol.roles → IsWellFormedRole r
 roles_are_well_formed fs e p r faultless i at listed = well_formed_role r ((problems_sound fs faultless e i p at).sound.roles r listed)
 
 -- A role of a problem's protocol is found by its name.
-pub roles_found : (fs : Forms) (e : Entry) (p : Problem) (r : Role) → faults_of fs ≡ [] → IsIn e (input_of fs) → e.problem ≡ Some p → IsIn r p.protocol.roles → role_named p.protocol.roles r.name ≡ Some r
+pub roles_found : (fs : Forms) (e : Entry) (p : Problem) (r : Role) → faults_of fs ≡ [] → IsIn e (input_of fs) → stated e ≡ Some p → IsIn r p.protocol.roles → role_named p.protocol.roles r.name ≡ Some r
 roles_found fs e p r faultless i at listed = role_found [] p.protocol.roles r (problems_sound fs faultless e i p at).sound.named listed
 
 -- An identifier that a problem declares is that of its own variable.
-pub variables_found : (fs : Forms) (e : Entry) (p : Problem) (n : ℕ) (d : Declaration) → faults_of fs ≡ [] → IsIn e (input_of fs) → e.problem ≡ Some p → n < p.declared → item_at p.variables n ≡ Some d
+pub variables_found : (fs : Forms) (e : Entry) (p : Problem) (n : ℕ) (d : Declaration) → faults_of fs ≡ [] → IsIn e (input_of fs) → stated e ≡ Some p → n < p.declared → item_at p.variables n ≡ Some d
     → variable_named p.variables d.identifier ≡ Some (record { sort = d.sort; number = n })
 variables_found fs e p n d faultless i at less there_is = (problems_sound fs faultless e i p at).declared n d less there_is

@@ -3,17 +3,28 @@
 use Rattle.std.specs.Prelude.{◌≡◌, ℕ, List, [], ◌∷◌, ◌++◌, true, false, codes, refl, Option, Some, None}
 use Rattle.std.specs.Fmt.{digits}
 use Rattle.cp_base.specs.declared.place.Place.{Place}
-use Rattle.cp_model.specs.Term.{Sort, text_sort, datum_sort, name_sort, skey_sort, akey_sort, Variable, AtomTerm, text_variable, datum_variable, name_variable, key_term, KeyTerm, symmetric_term, asymmetric_term, skey_variable, ltk_term, pubk_term, akey_variable, Term, tag_term, atom_term, pair_term, enc_term}
-use Rattle.cp_model.specs.Strand.{Event, send, recv, Declaration, Role}
+use Rattle.cp_model.specs.Term.{AtomTerm, text_variable, datum_variable, name_variable, key_term, KeyTerm, symmetric_term, asymmetric_term, skey_variable, ltk_term, pubk_term, akey_variable, Term, tag_term, atom_term, pair_term, enc_term}
+use Rattle.cp_model.specs.declared.sort.Sort.{Sort}
+use Rattle.cp_model.specs.declared.sort.Sort.TheVariants.{Text as text_sort, Datum as datum_sort, Name as name_sort, Skey as skey_sort, Akey as akey_sort}
+use Rattle.cp_model.specs.declared.variable.Variable.{Variable}
+use Rattle.cp_model.specs.Strand.{Role}
+use Rattle.cp_model.specs.declared.strand.Event.{Event}
+use Rattle.cp_model.specs.declared.strand.Event.TheVariants.{Send as send, Receive as recv}
+use Rattle.cp_model.specs.declared.variable.Declaration.{Declaration}
 use Rattle.cp_model.specs.Bundle.{node_at}
 use Rattle.cp_model.specs.declared.node.Node.{Node}
 use Rattle.cp_model.specs.Skeleton.{SkeletonStrand, instance, listener, Assumptions, Skeleton}
 use Rattle.cp_model.specs.declared.node.OrderPair.{OrderPair}
 use Rattle.cp_model.specs.Homomorphism.{substitution_by}
-use Rattle.cp_model.specs.Tree.{Operation, by_problem, by_collapse, by_contraction, by_displacement, by_added_strand, by_added_listener, by_generalising, Mark, shape, dead, seen, instance_of, limit_steps, limit_strands, complete, at_step_limit, at_strand_limit, Pattern, Test, Label, Tree}
+use Rattle.cp_model.specs.Tree.{Pattern, Test, Label, Tree}
+use Rattle.cp_model.specs.declared.tree.Operation.{Operation}
+use Rattle.cp_model.specs.declared.tree.Operation.TheVariants.{Problem as by_problem, Collapsed as by_collapse, Contracted as by_contraction, Displaced as by_displacement, AddedStrand as by_added_strand, AddedListener as by_added_listener, Generalised as by_generalising}
+use Rattle.cp_model.specs.declared.tree.Mark.{Mark}
+use Rattle.cp_model.specs.declared.tree.Mark.TheVariants.{Shape as shape, Dead as dead, Seen as seen, InstanceOf as instance_of, LimitSteps as limit_steps, LimitStrands as limit_strands}
+use Rattle.cp_model.specs.declared.tree.Outcome.TheVariants.{Complete as complete, LimitSteps as at_step_limit, LimitStrands as at_strand_limit}
 use Rattle.cp_sexpr.specs.Syntax.{symbol, string, number, list, Forms, none, more}
 use Rattle.cp_language.specs.Problems.{Problem}
-use Rattle.cp_language.specs.Input.{Entry, input_of}
+use Rattle.cp_language.specs.Input.{Entry, stated, input_of}
 use Rattle.cp_language.specs.Report.{report_text}
 use Rattle.cp_language.specs.ShapesText.{shapes_text}
 
@@ -26,7 +37,7 @@ line t rest = t ++ 10 ∷ rest
 -- The skeleton of the last problem of an input.
 abbrev skeleton_of : List Entry → Skeleton → Skeleton
 skeleton_of [] k = k
-skeleton_of (e ∷ es) k = skeleton_of es (of_entry e.problem)
+skeleton_of (e ∷ es) k = skeleton_of es (of_entry (stated e))
   where
     of_entry : Option Problem → Skeleton
     of_entry None = k

@@ -6,11 +6,16 @@ use Rattle.cp_base.specs.declared.place.Refusal.{Refusal}
 use Rattle.cp_base.specs.declared.place.Code.TheVariants.{DuplicateProtocol, DuplicateRole}
 use Rattle.cp_lists.specs.Lists.{IsIn, here, there}
 use Rattle.cp_model.specs.Term.{Term, variables_of}
-use Rattle.cp_model.specs.Strand.{Event, send, recv, payload, Declaration, Role, variables_of_trace, variables_of_prefix}
+use Rattle.cp_model.specs.Strand.{payload, Role, variables_of_trace, variables_of_prefix}
+use Rattle.cp_model.specs.declared.strand.Event.{Event}
+use Rattle.cp_model.specs.declared.strand.Event.TheVariants.{Send as send, Receive as recv}
+use Rattle.cp_model.specs.declared.variable.Declaration.{Declaration}
 use Rattle.cp_model.proofs.LawPrefixes.{in_front_of_trace}
 use Rattle.cp_lists.proofs.Appended.{none_before, none_behind, none_of_three, none_of_four}
 use Rattle.cp_sexpr.specs.Syntax.{Form}
-use Rattle.cp_language.specs.Words.{event_head, ItemHead, role_item, non_item, penetrator_non_item, unique_item, strand_item, listener_item, precedes_item, comment_item, item_out_of_profile, no_item, item_head}
+use Rattle.cp_language.specs.declared.words.ItemHead.{ItemHead}
+use Rattle.cp_language.specs.declared.words.ItemHead.TheVariants.{Role as role_item, Non as non_item, PenetratorNon as penetrator_non_item, Unique as unique_item, Strand as strand_item, Listener as listener_item, Precedes as precedes_item, Comment as comment_item, OutOfProfile as item_out_of_profile, Unknown as no_item}
+use Rattle.cp_language.specs.Words.{event_head, item_head}
 use Rattle.cp_language.specs.Faults.{fault, place_of}
 use Rattle.cp_language.specs.Terms.{term_faults, atom_faults, term_of}
 use Rattle.cp_language.specs.Roles.{Headed, headed, items_behind, vars_faults, declarations_of, trace_faults, where_faultless, message_of, is_sending, event_of, events_in, events_stated, role_unique_faults, each_faults, role_item_faults, headed_item_faults, item_faults, name_faults_at, role_faults, item_or_none, forms_under, is_non_item, is_penetrator_non_item, is_unique_item, is_role_item, role_of, roles_faults, algebra_faults, protocol_faults, roles_in, protocol_of}

@@ -7,11 +7,13 @@ use Rattle.cp_base.specs.declared.place.Code.TheVariants.{BadHeight, UnknownRole
 use Rattle.cp_lists.specs.Lists.{IsIn, here, there}
 use Rattle.cp_lists.proofs.Appended.{none_before, none_of_three}
 use Rattle.cp_model.specs.Term.{variables_of}
-use Rattle.cp_model.specs.Strand.{Declaration, Role, Protocol, IsHeight, variables_of_prefix}
+use Rattle.cp_model.specs.Strand.{Role, Protocol, IsHeight, variables_of_prefix}
+use Rattle.cp_model.specs.declared.variable.Declaration.{Declaration}
 use Rattle.cp_model.specs.Skeleton.{SkeletonStrand, instance, listener}
 use Rattle.cp_sexpr.specs.Syntax.{Form, symbol, string, number, list}
 use Rattle.cp_model.specs.Same.{same_text}
-use Rattle.cp_language.specs.Words.{ItemHead, role_item, non_item, penetrator_non_item, unique_item, strand_item, listener_item, precedes_item, comment_item, item_out_of_profile, no_item}
+use Rattle.cp_language.specs.declared.words.ItemHead.{ItemHead}
+use Rattle.cp_language.specs.declared.words.ItemHead.TheVariants.{Role as role_item, Non as non_item, PenetratorNon as penetrator_non_item, Unique as unique_item, Strand as strand_item, Listener as listener_item, Precedes as precedes_item, Comment as comment_item, OutOfProfile as item_out_of_profile, Unknown as no_item}
 use Rattle.cp_language.specs.Terms.{term_faults}
 use Rattle.cp_language.specs.Roles.{headed, text_of_symbol, item_or_none, items_behind}
 use Rattle.cp_language.specs.Problems.{protocol_named, role_named, is_known, role_name_faults, height_faults, number_of, maplets_faults_of, instance_faults, listener_faults, Strands, instance_by, strand_by, fresh_of, with_strand, strands_from}

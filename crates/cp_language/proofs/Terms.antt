@@ -6,16 +6,23 @@ use Rattle.cp_base.specs.declared.place.Code.{Code}
 use Rattle.cp_base.specs.declared.place.Code.TheVariants.{BadShape, IllSorted, KeySort}
 use Rattle.cp_base.specs.declared.place.Refusal.{Refusal}
 use Rattle.cp_lists.specs.Lists.{item_at, IsIn, here, there}
-use Rattle.cp_model.specs.Term.{Sort, text_sort, datum_sort, name_sort, skey_sort, akey_sort, Variable, atom_of_variable, SymmetricTerm, skey_variable, ltk_term, PairTerm, akey_variable, pubk_term, symmetric_term, asymmetric_term, inverse_term, text_variable, datum_variable, name_variable, key_term, Term, tag_term, atom_term, enc_term, variables_of_key, variables_of_atom, variables_of}
-use Rattle.cp_model.specs.Strand.{Declaration}
+use Rattle.cp_model.specs.Term.{variable_term, SymmetricTerm, skey_variable, ltk_term, PairTerm, akey_variable, pubk_term, symmetric_term, asymmetric_term, inverse_term, text_variable, datum_variable, name_variable, key_term, Term, tag_term, atom_term, enc_term, variables_of_key, variables_of}
+use Rattle.cp_model.specs.declared.sort.Sort.{Sort}
+use Rattle.cp_model.specs.declared.sort.Sort.TheVariants.{Text as text_sort, Datum as datum_sort, Name as name_sort, Skey as skey_sort, Akey as akey_sort}
+use Rattle.cp_model.specs.declared.variable.Variable.{Variable}
+use Rattle.cp_model.specs.declared.variable.Declaration.{Declaration}
 use Rattle.cp_model.specs.Problem.{declared_sort, IsDeclared}
 use Rattle.cp_lists.proofs.Members.{in_append}
 use Rattle.cp_lists.proofs.Appended.{none_before, none_behind, none_of_three, none_of_four}
 use Rattle.cp_sexpr.specs.Syntax.{Form, symbol, string, number, list, Forms, none, more}
 use Rattle.cp_model.specs.Same.{same_text}
-use Rattle.cp_language.specs.Words.{TermHead, cat, encrypt, long_term_key, public_key, private_key, inverse_key, operation_out_of_profile, no_operation, term_head}
+use Rattle.cp_language.specs.declared.words.TermHead.{TermHead}
+use Rattle.cp_language.specs.declared.words.TermHead.TheVariants.{Cat as cat, Enc as encrypt, Ltk as long_term_key, Pubk as public_key, Privk as private_key, Invk as inverse_key, OutOfProfile as operation_out_of_profile, Unknown as no_operation}
+use Rattle.cp_language.specs.Words.{term_head}
 use Rattle.cp_language.specs.Faults.{fault, fault_unless, place_of, items_of}
-use Rattle.cp_language.specs.Terms.{variable_from, variable_named, TermSort, of_atoms, of_all, sort_of_variable, sort_of_cat, sort_by_head, sort_of, sorts_of, is_sort, sort_faults, lacks, first_faults, all_faults, last_key_faults, operation_faults, name_faults, applied_faults, undeclared, term_faults, each_term_faults, term_of_variable, paired, all_but_last, last_of, as_key, as_name, key_as_term, long_term, inverted, key_of_name, applied, term_of, terms_of}
+use Rattle.cp_language.specs.declared.sorts.TermSort.{TermSort}
+use Rattle.cp_language.specs.declared.sorts.TermSort.TheVariants.{Atoms as of_atoms, All as of_all}
+use Rattle.cp_language.specs.Terms.{variable_from, variable_named, sort_of_variable, sort_of_cat, sort_by_head, sort_of, sorts_of, is_sort, sort_faults, lacks, first_faults, all_faults, last_key_faults, operation_faults, name_faults, applied_faults, undeclared, term_faults, each_term_faults, term_of_variable, paired, all_but_last, last_of, as_key, as_name, key_as_term, long_term, inverted, key_of_name, applied, term_of, terms_of}
 use Rattle.cp_model.proofs.SameTests.{sort_is}
 
 -- ---- no fault in two lists of faults is none in each
@@ -74,24 +81,24 @@ IsOfSort name_sort t = (n : ℕ) × (t ≡ atom_term (name_variable n))
 IsOfSort skey_sort t = (k : SymmetricTerm) × (t ≡ atom_term (key_term (symmetric_term k)))
 IsOfSort akey_sort t = (flag : Bool) × (k : PairTerm) × (t ≡ atom_term (key_term (asymmetric_term flag k)))
 
-of_sort_numbered : (s : Sort) (n : ℕ) → IsOfSort s (atom_term (atom_of_variable (record { sort = s; number = n })))
+of_sort_numbered : (s : Sort) (n : ℕ) → IsOfSort s (variable_term (record { sort = s; number = n }))
 of_sort_numbered text_sort n = (n, refl)
 of_sort_numbered datum_sort n = (n, refl)
 of_sort_numbered name_sort n = (n, refl)
 of_sort_numbered skey_sort n = (skey_variable n, refl)
 of_sort_numbered akey_sort n = (false, akey_variable n, refl)
 
-pub variable_of_sort : (x : Variable) → IsOfSort x.sort (atom_term (atom_of_variable x))
+pub variable_of_sort : (x : Variable) → IsOfSort x.sort (variable_term x)
 variable_of_sort x = of_sort_numbered x.sort x.number
 
-declared_numbered : (ds : List Declaration) (s : Sort) (n : ℕ) → IsDeclared ds (record { sort = s; number = n }) → AreDeclared ds (variables_of_atom (atom_of_variable (record { sort = s; number = n })))
+declared_numbered : (ds : List Declaration) (s : Sort) (n : ℕ) → IsDeclared ds (record { sort = s; number = n }) → AreDeclared ds (variables_of (variable_term (record { sort = s; number = n })))
 declared_numbered ds text_sort n d = one_declared ds (record { sort = text_sort; number = n }) d
 declared_numbered ds datum_sort n d = one_declared ds (record { sort = datum_sort; number = n }) d
 declared_numbered ds name_sort n d = one_declared ds (record { sort = name_sort; number = n }) d
 declared_numbered ds skey_sort n d = one_declared ds (record { sort = skey_sort; number = n }) d
 declared_numbered ds akey_sort n d = one_declared ds (record { sort = akey_sort; number = n }) d
 
-pub variable_declared : (ds : List Declaration) (x : Variable) → IsDeclared ds x → AreDeclared ds (variables_of_atom (atom_of_variable x))
+pub variable_declared : (ds : List Declaration) (x : Variable) → IsDeclared ds x → AreDeclared ds (variables_of (variable_term x))
 variable_declared ds x d = declared_numbered ds x.sort x.number d
 
 -- A term with declared variables that is of this sort; the sort is known.
@@ -294,7 +301,7 @@ applied_is_sound ds at no_operation fs h e = absurd (cc)
 
 variable_is_sound : (ds : List Declaration) (at : Place) (o : Option Variable) → ((x : Variable) → o ≡ Some x → IsDeclared ds x) → undeclared at o ≡ [] → IsSound ds (sort_of_variable o) (term_of_variable o)
 variable_is_sound ds at None h e = absurd (cc)
-variable_is_sound ds at (Some x) h e = atom_is_sound ds x.sort (atom_term (atom_of_variable x)) (variable_declared ds x (h x refl)) (variable_of_sort x)
+variable_is_sound ds at (Some x) h e = atom_is_sound ds x.sort (variable_term x) (variable_declared ds x (h x refl)) (variable_of_sort x)
 
 mutual
   -- A term without faults is sound.

@@ -3,7 +3,10 @@ use Rattle.std.proofs.Common.{◌≡◌, ℕ, zero, suc, ◌+◌, ◌<◌, List,
 use Rattle.std.proofs.lemmas.Bool.{lt-ltb, cond-true}
 use Rattle.cp_lists.specs.Lists.{item_at, IsIn, here, there}
 use Rattle.cp_model.specs.Term.{AtomTerm, Term, atom_term, pair_term, enc_term, IsCarriedByTerm, itself_term, in_left_term, in_right_term, in_plaintext_term, variables_of, variables_of_atom, variables_of_key, Substitution, apply_to_atom, apply_to}
-use Rattle.cp_model.specs.Strand.{Event, send, payload, event_map, OriginatesInTerms, Declaration, Role, prefix_of, variables_of_trace, AppliesAt}
+use Rattle.cp_model.specs.Strand.{payload, event_map, OriginatesInTerms, Role, prefix_of, variables_of_trace, AppliesAt}
+use Rattle.cp_model.specs.declared.strand.Event.{Event}
+use Rattle.cp_model.specs.declared.strand.Event.TheVariants.{Send as send}
+use Rattle.cp_model.specs.declared.variable.Declaration.{Declaration}
 use Rattle.cp_model.specs.Bundle.{node_at}
 use Rattle.cp_model.specs.Skeleton.{SkeletonStrand, instance, listener, skeleton_trace, skeleton_trace_or_none, UniqueAt, Skeleton, IsOrigin}
 use Rattle.cp_model.specs.Problem.{variables_of_uniques}

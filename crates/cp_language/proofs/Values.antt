@@ -4,13 +4,19 @@ use Rattle.std.proofs.Common.{◌≡◌, ℕ, List, [], ◌∷◌, true, Option,
 use Rattle.cp_base.specs.declared.place.Code.TheVariants.{NotAtom, RoleUniqNoOrigin}
 use Rattle.cp_lists.specs.Lists.{IsIn, here, there}
 use Rattle.cp_lists.proofs.Appended.{none_before, none_behind}
-use Rattle.cp_model.specs.Term.{Sort, text_sort, datum_sort, name_sort, skey_sort, akey_sort, AtomTerm, Term, atom_term, variables_of, variables_of_atom}
-use Rattle.cp_model.specs.Strand.{Event, OriginatesInTerms, Declaration}
+use Rattle.cp_model.specs.Term.{AtomTerm, Term, atom_term, variables_of, variables_of_atom}
+use Rattle.cp_model.specs.declared.sort.Sort.{Sort}
+use Rattle.cp_model.specs.declared.sort.Sort.TheVariants.{Text as text_sort, Datum as datum_sort, Name as name_sort, Skey as skey_sort, Akey as akey_sort}
+use Rattle.cp_model.specs.Strand.{OriginatesInTerms}
+use Rattle.cp_model.specs.declared.strand.Event.{Event}
+use Rattle.cp_model.specs.declared.variable.Declaration.{Declaration}
 use Rattle.cp_model.specs.Problem.{variables_of_atoms}
 use Rattle.cp_sexpr.specs.Syntax.{Form}
 use Rattle.cp_model.specs.Same.{origin_in}
 use Rattle.cp_language.specs.Faults.{fault_unless, place_of}
-use Rattle.cp_language.specs.Terms.{TermSort, of_atoms, of_all, sort_of, admits_atom, term_faults, atom_faults, term_of, as_atom}
+use Rattle.cp_language.specs.declared.sorts.TermSort.{TermSort}
+use Rattle.cp_language.specs.declared.sorts.TermSort.TheVariants.{Atoms as of_atoms, All as of_all}
+use Rattle.cp_language.specs.Terms.{sort_of, admits_atom, term_faults, atom_faults, term_of, as_atom}
 use Rattle.cp_language.specs.Roles.{is_somewhere, role_unique_faults, each_faults, atoms_in}
 use Rattle.cp_model.proofs.SameTests.{origin_found}
 use Rattle.cp_language.proofs.Terms.{holds, AreDeclared, none_declared, both_declared, IsOfSort, IsSound, term_is_sound}

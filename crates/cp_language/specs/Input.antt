@@ -5,7 +5,9 @@ use Rattle.cp_base.specs.declared.place.Code.TheVariants.{UnknownForm, OutOfProf
 use Rattle.cp_base.specs.declared.place.Refusal.{Refusal}
 use Rattle.cp_model.specs.Strand.{Protocol}
 use Rattle.cp_sexpr.specs.Syntax.{Form, Forms}
-use Rattle.cp_language.specs.Words.{TopHead, protocol_form, problem_form, free_form, top_out_of_profile, no_top, top_head}
+use Rattle.cp_language.specs.declared.words.TopHead.{TopHead}
+use Rattle.cp_language.specs.declared.words.TopHead.TheVariants.{Protocol as protocol_form, Problem as problem_form, Free as free_form, OutOfProfile as top_out_of_profile, Unknown as no_top}
+use Rattle.cp_language.specs.Words.{top_head}
 use Rattle.cp_language.specs.Faults.{fault, place_of, items_of}
 use Rattle.cp_language.specs.Roles.{Headed, headed, protocol_faults, protocol_of}
 use Rattle.cp_language.specs.Problems.{Problem, problem_faults, problem_of}
@@ -46,23 +48,47 @@ faults_of fs = faults_from [] (items_of fs)
 
 -- ---- what it states
 
--- A form of the input, with the problem that it states if it states one.
-pub record Entry : Type 0 where
-  pub form : Form
-  pub problem : Option Problem
+-- A form of the input: one that states nothing, one that states a protocol, or one that states a problem.
+pub data Entry : Type 0 where
+  plain_entry : Form → Entry
+  protocol_entry : Form → Protocol → Entry
+  problem_entry : Form → Problem → Entry
 
-abbrev pub problem_by : List Protocol → TopHead → List Form → Option Problem
-problem_by above problem_form fs = Some (problem_of above fs)
-problem_by above _ fs = None
+abbrev pub form_of : Entry → Form
+form_of (plain_entry f) = f
+form_of (protocol_entry f p) = f
+form_of (problem_entry f p) = f
 
-abbrev pub stated_problem : List Protocol → Option Headed → Option Problem
-stated_problem above None = None
-stated_problem above (Some h) = problem_by above (top_head h.head) h.items
+-- The protocol that it states, if it states one.
+abbrev pub stated_protocol : Entry → Option Protocol
+stated_protocol (plain_entry f) = None
+stated_protocol (protocol_entry f p) = Some p
+stated_protocol (problem_entry f p) = None
+
+-- The problem that it states, if it states one.
+abbrev pub stated : Entry → Option Problem
+stated (plain_entry f) = None
+stated (protocol_entry f p) = None
+stated (problem_entry f p) = Some p
+
+-- The entry of a form with this head and these items behind it, below these protocols.
+abbrev pub entry_of_head : List Protocol → TopHead → List Form → Form → Entry
+entry_of_head above protocol_form fs f = protocol_entry f (protocol_of fs)
+entry_of_head above problem_form fs f = problem_entry f (problem_of above fs)
+entry_of_head above _ fs f = plain_entry f
+
+abbrev pub headed_entry : List Protocol → Option Headed → Form → Entry
+headed_entry above None f = plain_entry f
+headed_entry above (Some h) f = entry_of_head above (top_head h.head) h.items f
+
+-- The problem that the form states, below these protocols, if it states one.
+abbrev pub stated_problem : List Protocol → Form → Option Problem
+stated_problem above f = stated (headed_entry above (headed f) f)
 
 abbrev pub entries_from : List Protocol → List Form → List Entry
 entries_from above [] = []
-entries_from above (f ∷ fs) = record { form = f; problem = stated_problem above (headed f) } ∷ entries_from (protocols_behind (headed f) above) fs
+entries_from above (f ∷ fs) = headed_entry above (headed f) f ∷ entries_from (protocols_behind (headed f) above) fs
 
--- The forms of the input in order, each with its problem.
+-- The forms of the input in order, each with what it states.
 abbrev pub input_of : Forms → List Entry
 input_of fs = entries_from [] (items_of fs)

@@ -1,10 +1,15 @@
 -- Problems of the input: their faults, and the skeletons that they state.
-use Rattle.std.specs.Prelude.{◌==◌, ◌&&◌, ◌||◌, nat_lt, nat_le, ℕ, zero, suc, ◌+◌, List, [], ◌∷◌, ◌++◌, length, Bool, true, false, not, if◌then◌else◌, Option, Some, None}
+use Rattle.std.specs.Prelude.{◌==◌, ◌&&◌, ◌||◌, nat_lt, nat_le, ℕ, suc, ◌+◌, List, [], ◌∷◌, ◌++◌, length, Bool, true, false, not, if◌then◌else◌, Option, Some, None}
 use Rattle.cp_base.specs.declared.place.Place.{Place}
 use Rattle.cp_base.specs.declared.place.Code.TheVariants.{UnknownForm, OutOfProfile, BadShape, UnknownProtocol, UnknownRole, DuplicateVar, BadHeight, UnknownVar, NotInPrefix, UniqNowhere, BadNode, CyclicOrder}
 use Rattle.cp_base.specs.declared.place.Refusal.{Refusal}
-use Rattle.cp_model.specs.Term.{Sort, Variable, atom_of_variable, AtomTerm, Term, tag_term, atom_term}
-use Rattle.cp_model.specs.Strand.{Event, send, recv, Declaration, Role, Protocol, variables_of_prefix}
+use Rattle.cp_model.specs.Term.{variable_term, AtomTerm, Term, tag_term, atom_term}
+use Rattle.cp_model.specs.declared.sort.Sort.{Sort}
+use Rattle.cp_model.specs.declared.variable.Variable.{Variable}
+use Rattle.cp_model.specs.Strand.{Role, Protocol, variables_of_prefix}
+use Rattle.cp_model.specs.declared.strand.Event.{Event}
+use Rattle.cp_model.specs.declared.strand.Event.TheVariants.{Send as send, Receive as recv}
+use Rattle.cp_model.specs.declared.variable.Declaration.{Declaration}
 use Rattle.cp_model.specs.Bundle.{node_at}
 use Rattle.cp_model.specs.declared.node.Node.{Node}
 use Rattle.cp_model.specs.Skeleton.{SkeletonStrand, instance, listener, skeleton_trace, term_event_at, UniqueAt, Assumptions, Skeleton}
@@ -15,7 +20,9 @@ use Rattle.cp_model.specs.Problem.{numbers_from, variable_terms}
 use Rattle.cp_sexpr.specs.Syntax.{Form, symbol, number, list}
 use Rattle.cp_model.specs.Given.{atoms_onto, uniques_onto, with_given}
 use Rattle.cp_model.specs.Same.{same_text, origin_in, has_variable}
-use Rattle.cp_language.specs.Words.{is_one_of, ItemHead, role_item, non_item, penetrator_non_item, unique_item, strand_item, listener_item, precedes_item, comment_item, item_out_of_profile, no_item}
+use Rattle.cp_language.specs.declared.words.ItemHead.{ItemHead}
+use Rattle.cp_language.specs.declared.words.ItemHead.TheVariants.{Role as role_item, Non as non_item, PenetratorNon as penetrator_non_item, Unique as unique_item, Strand as strand_item, Listener as listener_item, Precedes as precedes_item, Comment as comment_item, OutOfProfile as item_out_of_profile, Unknown as no_item}
+use Rattle.cp_language.specs.Words.{is_one_of}
 use Rattle.cp_language.specs.Faults.{fault, fault_unless, place_of, items_of}
 use Rattle.cp_language.specs.Terms.{variable_named, lacks, exceeds, sort_faults, term_faults, atom_faults, term_of, as_atom}
 use Rattle.cp_language.specs.Roles.{headed, text_of_symbol, list_items, item_or_none, items_behind, vars_faults, declarations_of, unless_faulty, each_faults, item_faults, forms_under, is_non_item, is_penetrator_non_item, is_unique_item, atoms_in}
@@ -140,7 +147,7 @@ is_fresh prefix ds maplets n d = not (is_known (term_mapped ds d.identifier mapl
 
 abbrev pub term_or_fresh : Option Term → Bool → Sort → ℕ → Term
 term_or_fresh (Some t) fresh s next = t
-term_or_fresh None true s next = atom_term (atom_of_variable (record { sort = s; number = next }))
+term_or_fresh None true s next = variable_term (record { sort = s; number = next })
 term_or_fresh None false s next = tag_term []
 
 -- next is the number of the next fresh variable, and n that of the first role variable of the list.

@@ -1,8 +1,11 @@
 -- The report: the forms of the input in order, each problem followed by the labels of its tree and its status.
 use Rattle.std.specs.Prelude.{◌≡◌, ℕ, suc, ◌+◌, ◌==◌, ◌&&◌, ◌||◌, List, [], ◌∷◌, ◌++◌, length, map, Bool, false, not, codes, if◌then◌else◌, Option, Some, None}
 use Rattle.cp_lists.specs.Lists.{item_at, IsIn}
-use Rattle.cp_model.specs.Term.{Variable, atom_of_variable, Term, variables_of, Substitution, apply_to_atom}
-use Rattle.cp_model.specs.Strand.{Event, Declaration, variables_of_prefix}
+use Rattle.cp_model.specs.Term.{apply_to, variable_term, Term, variables_of, Substitution}
+use Rattle.cp_model.specs.declared.variable.Variable.{Variable}
+use Rattle.cp_model.specs.Strand.{variables_of_prefix}
+use Rattle.cp_model.specs.declared.strand.Event.{Event}
+use Rattle.cp_model.specs.declared.variable.Declaration.{Declaration}
 use Rattle.cp_model.specs.Bundle.{node_at}
 use Rattle.cp_model.specs.declared.node.Node.{Node}
 use Rattle.cp_model.specs.Skeleton.{SkeletonStrand, instance, listener, skeleton_trace, UniqueAt, Skeleton}
@@ -10,12 +13,18 @@ use Rattle.cp_model.specs.declared.node.OrderPair.{OrderPair}
 use Rattle.cp_model.specs.Problem.{IsDeclared, variables_of_skeleton}
 pub use Rattle.cp_model.specs.Problem.{variables_of_terms}
 use Rattle.cp_model.specs.Given.{listed}
-use Rattle.cp_model.specs.Tree.{Operation, by_problem, by_collapse, by_contraction, by_displacement, by_added_strand, by_added_listener, by_generalising, Mark, shape, dead, seen, instance_of, limit_steps, limit_strands, Outcome, complete, at_step_limit, at_strand_limit, Pattern, Test, Label, Tree, expanded_count}
+use Rattle.cp_model.specs.Tree.{Pattern, Test, Label, Tree, expanded_count}
+use Rattle.cp_model.specs.declared.tree.Operation.{Operation}
+use Rattle.cp_model.specs.declared.tree.Operation.TheVariants.{Problem as by_problem, Collapsed as by_collapse, Contracted as by_contraction, Displaced as by_displacement, AddedStrand as by_added_strand, AddedListener as by_added_listener, Generalised as by_generalising}
+use Rattle.cp_model.specs.declared.tree.Mark.{Mark}
+use Rattle.cp_model.specs.declared.tree.Mark.TheVariants.{Shape as shape, Dead as dead, Seen as seen, InstanceOf as instance_of, LimitSteps as limit_steps, LimitStrands as limit_strands}
+use Rattle.cp_model.specs.declared.tree.Outcome.{Outcome}
+use Rattle.cp_model.specs.declared.tree.Outcome.TheVariants.{Complete as complete, LimitSteps as at_step_limit, LimitStrands as at_strand_limit}
 use Rattle.cp_sexpr.specs.Syntax.{Form}
 use Rattle.cp_sexpr.specs.Spelling.{top_spelling}
 use Rattle.cp_model.specs.Same.{same_node, has_variable}
 use Rattle.cp_language.specs.Problems.{Problem, reaches_within}
-use Rattle.cp_language.specs.Input.{Entry}
+use Rattle.cp_language.specs.Input.{Entry, form_of, stated}
 use Rattle.cp_language.specs.Names.{problem_names, label_names, has_number, sort_text}
 use Rattle.cp_language.specs.Printed.{word, numeral, headed_list, plain_list, variable, term_form, atom_form, pattern_form}
 
@@ -88,7 +97,7 @@ abbrev pub maplets_from : (Variable → Form) → List Variable → Substitution
 maplets_from named prefix terms n [] = []
 maplets_from named prefix terms n (d ∷ ds) =
     let x = variable d.sort n in
-    if has_variable prefix x then plain_list (word d.identifier ∷ atom_form named (apply_to_atom terms (atom_of_variable x)) ∷ []) ∷ maplets_from named prefix terms (suc n) ds
+    if has_variable prefix x then plain_list (word d.identifier ∷ term_form named (apply_to terms (variable_term x)) ∷ []) ∷ maplets_from named prefix terms (suc n) ds
     else maplets_from named prefix terms (suc n) ds
 
 abbrev pub strand_form : (Variable → Form) → SkeletonStrand → Form
@@ -223,7 +232,7 @@ report_from f (Some p) (t ∷ ts) rest = f ∷ (tree_forms p t ++ rest ts)
 
 abbrev pub report_forms : List Entry → List Tree → List Form
 report_forms [] ts = []
-report_forms (e ∷ es) ts = report_from e.form e.problem ts (report_forms es)
+report_forms (e ∷ es) ts = report_from (form_of e) (stated e) ts (report_forms es)
 
 abbrev pub text_of_forms : List Form → List ℕ
 text_of_forms [] = []

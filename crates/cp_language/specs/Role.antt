@@ -1,8 +1,10 @@
 -- Roles of well-formed input.
 use Rattle.std.specs.Prelude.{◌≡◌, ℕ, Some}
 use Rattle.cp_lists.specs.Lists.{item_at, IsIn}
-use Rattle.cp_model.specs.Term.{Variable, AtomTerm, atom_term}
-use Rattle.cp_model.specs.Strand.{OriginatesInTerms, Declaration, Role, variables_of_trace}
+use Rattle.cp_model.specs.Term.{AtomTerm, atom_term}
+use Rattle.cp_model.specs.declared.variable.Variable.{Variable}
+use Rattle.cp_model.specs.Strand.{OriginatesInTerms, Role, variables_of_trace}
+use Rattle.cp_model.specs.declared.variable.Declaration.{Declaration}
 use Rattle.cp_model.specs.Problem.{variables_of_atoms, IsDeclared}
 use Rattle.cp_language.specs.Terms.{variable_named}
 

@@ -1,9 +1,11 @@
 -- The report with some labels of its trees alone, and so the report of shapes.
 use Rattle.std.specs.Prelude.{ℕ, suc, List, [], ◌∷◌, ◌++◌, Bool, true, false, if◌then◌else◌, Option, Some, None}
-use Rattle.cp_model.specs.Tree.{Mark, shape, Label, Tree}
+use Rattle.cp_model.specs.Tree.{Label, Tree}
+use Rattle.cp_model.specs.declared.tree.Mark.{Mark}
+use Rattle.cp_model.specs.declared.tree.Mark.TheVariants.{Shape as shape}
 use Rattle.cp_sexpr.specs.Syntax.{Form}
 use Rattle.cp_language.specs.Problems.{Problem}
-use Rattle.cp_language.specs.Input.{Entry}
+use Rattle.cp_language.specs.Input.{Entry, form_of, stated}
 use Rattle.cp_language.specs.Names.{problem_names}
 use Rattle.cp_language.specs.Report.{label_form, status_form, text_of_forms}
 
@@ -29,7 +31,7 @@ chosen_report_from chosen f (Some p) (t ∷ ts) rest = f ∷ (chosen_tree_forms 
 
 abbrev pub chosen_report_forms : (Label → Bool) → List Entry → List Tree → List Form
 chosen_report_forms chosen [] ts = []
-chosen_report_forms chosen (e ∷ es) ts = chosen_report_from chosen e.form e.problem ts (chosen_report_forms chosen es)
+chosen_report_forms chosen (e ∷ es) ts = chosen_report_from chosen (form_of e) (stated e) ts (chosen_report_forms chosen es)
 
 -- The text of a report of the chosen labels.
 abbrev pub chosen_text : (Label → Bool) → List Entry → List Tree → List ℕ

@@ -3,11 +3,18 @@ use Rattle.std.specs.Prelude.{◌||◌, ℕ, zero, suc, List, [], ◌∷◌, ◌
 use Rattle.cp_base.specs.declared.place.Place.{Place}
 use Rattle.cp_base.specs.declared.place.Code.TheVariants.{UnknownForm, OutOfProfile, BadShape, UnknownVar, IllSorted, KeySort, NotAtom}
 use Rattle.cp_base.specs.declared.place.Refusal.{Refusal}
-use Rattle.cp_model.specs.Term.{Sort, name_sort, skey_sort, akey_sort, Variable, atom_of_variable, skey_variable, ltk_term, pubk_term, KeyTerm, symmetric_term, asymmetric_term, inverse_term, AtomTerm, text_variable, name_variable, key_term, Term, tag_term, atom_term, pair_term, enc_term}
-use Rattle.cp_model.specs.Strand.{Declaration}
+use Rattle.cp_model.specs.Term.{variable_term, skey_variable, ltk_term, pubk_term, KeyTerm, symmetric_term, asymmetric_term, inverse_term, AtomTerm, text_variable, name_variable, key_term, Term, tag_term, atom_term, pair_term, enc_term}
+use Rattle.cp_model.specs.declared.sort.Sort.{Sort}
+use Rattle.cp_model.specs.declared.sort.Sort.TheVariants.{Name as name_sort, Skey as skey_sort, Akey as akey_sort}
+use Rattle.cp_model.specs.declared.variable.Variable.{Variable}
+use Rattle.cp_model.specs.declared.variable.Declaration.{Declaration}
 use Rattle.cp_sexpr.specs.Syntax.{Form, symbol, string, number, list, Forms, none, more}
 use Rattle.cp_model.specs.Same.{same_text, same_sort}
-use Rattle.cp_language.specs.Words.{TermHead, cat, encrypt, long_term_key, public_key, private_key, inverse_key, operation_out_of_profile, no_operation, term_head}
+use Rattle.cp_language.specs.declared.sorts.TermSort.{TermSort}
+use Rattle.cp_language.specs.declared.sorts.TermSort.TheVariants.{Atoms as of_atoms, All as of_all}
+use Rattle.cp_language.specs.declared.words.TermHead.{TermHead}
+use Rattle.cp_language.specs.declared.words.TermHead.TheVariants.{Cat as cat, Enc as encrypt, Ltk as long_term_key, Pubk as public_key, Privk as private_key, Invk as inverse_key, OutOfProfile as operation_out_of_profile, Unknown as no_operation}
+use Rattle.cp_language.specs.Words.{term_head}
 use Rattle.cp_language.specs.Faults.{fault, fault_unless, place_of, items_of}
 
 -- ---- identifiers
@@ -21,11 +28,6 @@ abbrev pub variable_named : List Declaration → List ℕ → Option Variable
 variable_named ds t = variable_from 0 ds t
 
 -- ---- sorts
-
--- The sort of a term: that of an atom, or that of all messages.
-pub data TermSort : Type 0 where
-  of_atoms : Sort → TermSort
-  of_all : TermSort
 
 abbrev pub sort_of_variable : Option Variable → Option TermSort
 sort_of_variable None = None
@@ -172,7 +174,7 @@ atom_faults ds f = fault_unless (admits_atom (sort_of ds f)) (place_of f) NotAto
 
 abbrev pub term_of_variable : Option Variable → Term
 term_of_variable None = tag_term []
-term_of_variable (Some x) = atom_term (atom_of_variable x)
+term_of_variable (Some x) = variable_term x
 
 -- Pairing associates to the right; one item is that item.
 abbrev pub paired : List Term → Term

@@ -1,7 +1,17 @@
 -- The words of the input language.
 use Rattle.std.specs.Prelude.{ℕ, List, [], ◌∷◌, ◌||◌, Bool, false, codes, if◌then◌else◌}
-use Rattle.cp_model.specs.Term.{Sort, text_sort, datum_sort, name_sort, skey_sort, akey_sort}
+use Rattle.cp_model.specs.declared.sort.Sort.TheVariants.{Text as text_sort, Datum as datum_sort, Name as name_sort, Skey as skey_sort, Akey as akey_sort}
 use Rattle.cp_model.specs.Same.{same_text}
+use Rattle.cp_language.specs.declared.words.SortWord.{SortWord}
+use Rattle.cp_language.specs.declared.words.SortWord.TheVariants.{Atoms as of_sort, Messages as of_messages, OutOfProfile as sort_out_of_profile, Unknown as no_sort}
+use Rattle.cp_language.specs.declared.words.TermHead.{TermHead}
+use Rattle.cp_language.specs.declared.words.TermHead.TheVariants.{Cat as cat, Enc as encrypt, Ltk as long_term_key, Pubk as public_key, Privk as private_key, Invk as inverse_key, OutOfProfile as operation_out_of_profile, Unknown as no_operation}
+use Rattle.cp_language.specs.declared.words.EventHead.{EventHead}
+use Rattle.cp_language.specs.declared.words.EventHead.TheVariants.{Send as sending, Recv as receiving, OutOfProfile as event_out_of_profile, Unknown as no_event}
+use Rattle.cp_language.specs.declared.words.ItemHead.{ItemHead}
+use Rattle.cp_language.specs.declared.words.ItemHead.TheVariants.{Role as role_item, Non as non_item, PenetratorNon as penetrator_non_item, Unique as unique_item, Strand as strand_item, Listener as listener_item, Precedes as precedes_item, Comment as comment_item, OutOfProfile as item_out_of_profile, Unknown as no_item}
+use Rattle.cp_language.specs.declared.words.TopHead.{TopHead}
+use Rattle.cp_language.specs.declared.words.TopHead.TheVariants.{Protocol as protocol_form, Problem as problem_form, Free as free_form, OutOfProfile as top_out_of_profile, Unknown as no_top}
 
 -- The text is one of these.
 abbrev pub is_one_of : List ℕ → List (List ℕ) → Bool
@@ -24,13 +34,6 @@ other_operations = codes "exp" ∷ codes "gen" ∷ codes "mul" ∷ codes "rec" �
 abbrev pub other_sorts : List (List ℕ)
 other_sorts = codes "expt" ∷ codes "rndx" ∷ codes "base" ∷ codes "chan" ∷ codes "locn" ∷ codes "state" ∷ []
 
--- What stands where a sort is named.
-pub data SortWord : Type 0 where
-  of_sort : Sort → SortWord
-  of_messages : SortWord
-  sort_out_of_profile : SortWord
-  no_sort : SortWord
-
 abbrev pub sort_word : List ℕ → SortWord
 sort_word t =
     if same_text t (codes "text") then of_sort text_sort else
@@ -40,17 +43,6 @@ sort_word t =
     if same_text t (codes "akey") then of_sort akey_sort else
     if same_text t (codes "mesg") then of_messages else
     if is_one_of t other_sorts then sort_out_of_profile else no_sort
-
--- What the head of a list in a term names.
-pub data TermHead : Type 0 where
-  cat : TermHead
-  encrypt : TermHead
-  long_term_key : TermHead
-  public_key : TermHead
-  private_key : TermHead
-  inverse_key : TermHead
-  operation_out_of_profile : TermHead
-  no_operation : TermHead
 
 abbrev pub term_head : List ℕ → TermHead
 term_head t =
@@ -62,31 +54,11 @@ term_head t =
     if same_text t (codes "invk") then inverse_key else
     if is_one_of t heads_out_of_profile || is_one_of t other_operations then operation_out_of_profile else no_operation
 
--- What the head of an event names.
-pub data EventHead : Type 0 where
-  sending : EventHead
-  receiving : EventHead
-  event_out_of_profile : EventHead
-  no_event : EventHead
-
 abbrev pub event_head : List ℕ → EventHead
 event_head t =
     if same_text t (codes "send") then sending else
     if same_text t (codes "recv") then receiving else
     if is_one_of t heads_out_of_profile || is_one_of t state_heads then event_out_of_profile else no_event
-
--- What the head of an item of a protocol, a role or a problem names.
-pub data ItemHead : Type 0 where
-  role_item : ItemHead
-  non_item : ItemHead
-  penetrator_non_item : ItemHead
-  unique_item : ItemHead
-  strand_item : ItemHead
-  listener_item : ItemHead
-  precedes_item : ItemHead
-  comment_item : ItemHead
-  item_out_of_profile : ItemHead
-  no_item : ItemHead
 
 abbrev pub item_head : List ℕ → ItemHead
 item_head t =
@@ -99,14 +71,6 @@ item_head t =
     if same_text t (codes "precedes") then precedes_item else
     if same_text t (codes "comment") then comment_item else
     if is_one_of t heads_out_of_profile || is_one_of t state_heads then item_out_of_profile else no_item
-
--- What the head of a top form names.
-pub data TopHead : Type 0 where
-  protocol_form : TopHead
-  problem_form : TopHead
-  free_form : TopHead
-  top_out_of_profile : TopHead
-  no_top : TopHead
 
 abbrev pub top_head : List ℕ → TopHead
 top_head t =

@@ -9,3 +9,4 @@ pub mod UniqueOrigins
 pub mod OwnParts
 pub mod SoundUnchecked
 pub mod NoCycles
+pub mod Entries

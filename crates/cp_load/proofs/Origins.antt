@@ -1,8 +1,10 @@
 -- Tests that are exact, and loops over events.
 use Rattle.std.proofs.Common.{◌≡◌, ℕ, suc, ◌+◌, List, [], ◌∷◌, refl, sym, ap, ◌∙◌, arith, Bool, true, false, Option, Some, None, if◌then◌else◌}
 use Rattle.cp_model.specs.Term.{Term, IsCarriedByTerm}
-use Rattle.cp_model.specs.Strand as strand
-use Rattle.cp_model.specs.Strand.{payload, send, recv, OriginatesInTerms, Declaration}
+use Rattle.cp_model.specs.declared.strand.Event.{Event}
+use Rattle.cp_model.specs.Strand.{payload, OriginatesInTerms}
+use Rattle.cp_model.specs.declared.strand.Event.TheVariants.{Send as send, Receive as recv}
+use Rattle.cp_model.specs.declared.variable.Declaration.{Declaration}
 use Rattle.cp_model.specs.Same.{carries, origin_in, one_later}
 use Rattle.cp_model.proofs.SameTests.{carried, is_carried}
 use Rattle.cp_load.specs.Originations.{place_if_sent}
@@ -19,7 +21,7 @@ exact-carries r whole part f g = exact r (carries whole part) (IsCarriedByTerm p
 -- ---- origins
 
 -- the origin of a value, the first of the events having number n
-abbrev pub origin_from : Term → ℕ → List (strand.Event Term) → Option ℕ
+abbrev pub origin_from : Term → ℕ → List (Event Term) → Option ℕ
 origin_from v n [] = None
 origin_from v n (e ∷ es) = if carries (payload e) v then place_if_sent e n else origin_from v (suc n) es
 
@@ -41,7 +43,7 @@ cond_ap : {A B : Type 0} (f : A → B) (b : Bool) (x y : A) → f (if b then x e
 cond_ap f true x y = refl
 cond_ap f false x y = refl
 
-origin_plus : (v : Term) (n : ℕ) (es : List (strand.Event Term)) → origin_from v n es ≡ plus n (origin_in es v)
+origin_plus : (v : Term) (n : ℕ) (es : List (Event Term)) → origin_from v n es ≡ plus n (origin_in es v)
 unfolding plus
 origin_plus v n [] = refl
 origin_plus v n (send m ∷ es) =
@@ -52,5 +54,5 @@ origin_plus v n (recv m ∷ es) =
     ap (λ o. if carries m v then None else o) (origin_plus v (suc n) es ∙ sym (plus_later n (origin_in es v)))
     ∙ sym (cond_ap (plus n) (carries m v) None (one_later (origin_in es v)))
 
-pub origin-first : (v : Term) (es : List (strand.Event Term)) → origin_in es v ≡ origin_from v 0 es
+pub origin-first : (v : Term) (es : List (Event Term)) → origin_in es v ≡ origin_from v 0 es
 origin-first v es = plus_zero (origin_in es v) ∙ sym (origin_plus v 0 es)

@@ -4,15 +4,14 @@ use Rattle.std.proofs.lemmas.List.{at_drop_all}
 use Rattle.cp_lists.proofs.Members.{drop_read}
 use Rattle.cp_model.specs.Term.{Term, AtomTerm, atom_term, apply_to}
 use Rattle.cp_model.specs.Homomorphism.{substitution_by}
-use Rattle.cp_model.specs.Strand as strand
-use Rattle.cp_model.specs.Strand.{payload, send, recv, event_map, prefix_of}
+use Rattle.cp_model.specs.declared.strand.Event.{Event}
+use Rattle.cp_model.specs.Strand.{payload, event_map, prefix_of, Role}
+use Rattle.cp_model.specs.declared.strand.Event.TheVariants.{Send as send, Receive as recv}
 use Rattle.cp_model.specs.Skeleton.{SkeletonStrand, instance, listener, skeleton_trace, UniqueAt}
 use Rattle.cp_model.specs.Same.{carries, origin_in}
 use Rattle.cp_language.specs.Roles.{is_somewhere}
 use Rattle.cp_model.specs.Given.{uniques_onto}
 use Rattle.cp_language.specs.Problems.{origins_on, origins_from, is_not_empty, own_uniques}
-use Rattle.cp_strand.specs.View.{event_view}
-use Rattle.cp_strand.specs.declared.protocol.Event.{Event}
 use Rattle.cp_load.specs.Originations.{origin_on, originates, unique_at, place_if_sent}
 use Rattle.cp_model.proofs.Gathered.{onto-append, uniques}
 use Rattle.cp_model.proofs.LawEvents.{payload_map}
@@ -20,43 +19,43 @@ use Rattle.cp_load.proofs.Origins.{origin_from, origin-first}
 
 -- ---- along an instance
 
-pub same_prefix : (es : List Event) (r role : strand.Role) (h height : ℕ) → map event_view es ≡ prefix_of r h → r ≡ role → h ≡ height → map event_view es ≡ prefix_of role height
+pub same_prefix : (es : List (Event Term)) (r role : Role) (h height : ℕ) → es ≡ prefix_of r h → r ≡ role → h ≡ height → es ≡ prefix_of role height
 same_prefix es r role h height e f g = e ∙ ap (λ x. prefix_of x h) f ∙ ap (prefix_of role) g
 
-sent_mapped : (f : Term → Term) (e : strand.Event Term) (n : ℕ) → place_if_sent (event_map f e) n ≡ place_if_sent e n
+sent_mapped : (f : Term → Term) (e : Event Term) (n : ℕ) → place_if_sent (event_map f e) n ≡ place_if_sent e n
 sent_mapped f (send m) n = refl
 sent_mapped f (recv m) n = refl
 
-module _ (f : Term → Term) (v : Term) (es : List Event) (i : ℕ) where
-  pub mapped-origin-at : (e : Event) (b : Bool) → i < length es → e ≡ get_or es i e → b ≡ carries (f (payload (event_view e))) v
-      → origin_from v i (map (event_map f) (map event_view (drop i es))) ≡ (if b then place_if_sent (event_view e) i else origin_from v (i + 1) (map (event_map f) (map event_view (drop (i + 1) es))))
+module _ (f : Term → Term) (v : Term) (es : List (Event Term)) (i : ℕ) where
+  pub mapped-origin-at : (e : Event Term) (b : Bool) → i < length es → e ≡ get_or es i e → b ≡ carries (f (payload e)) v
+      → origin_from v i (map (event_map f) (drop i es)) ≡ (if b then place_if_sent e i else origin_from v (i + 1) (map (event_map f) (drop (i + 1) es)))
   mapped-origin-at e b lt is g =
-      let rest = map (event_map f) (map event_view (drop (i + 1) es)) in
-      ap (λ us. origin_from v i (map (event_map f) (map event_view us))) (drop_read es i e lt is)
-      ∙ ap (λ t. if carries t v then place_if_sent (event_map f (event_view e)) i else origin_from v (suc i) rest) (payload_map f (event_view e))
-      ∙ ap (λ c. if c then place_if_sent (event_map f (event_view e)) i else origin_from v (suc i) rest) (sym g)
-      ∙ ap (λ p. if b then p else origin_from v (suc i) rest) (sent_mapped f (event_view e) i)
-      ∙ ap (λ k. if b then place_if_sent (event_view e) i else origin_from v k rest) (sym (add-one i))
+      let rest = map (event_map f) (drop (i + 1) es) in
+      ap (λ us. origin_from v i (map (event_map f) us)) (drop_read es i e lt is)
+      ∙ ap (λ t. if carries t v then place_if_sent (event_map f e) i else origin_from v (suc i) rest) (payload_map f e)
+      ∙ ap (λ c. if c then place_if_sent (event_map f e) i else origin_from v (suc i) rest) (sym g)
+      ∙ ap (λ p. if b then p else origin_from v (suc i) rest) (sent_mapped f e i)
+      ∙ ap (λ k. if b then place_if_sent e i else origin_from v k rest) (sym (add-one i))
 
-  pub mapped-origin-end : length es ≤ i → origin_from v i (map (event_map f) (map event_view (drop i es))) ≡ None
-  mapped-origin-end le = at_drop_all (λ us. origin_from v i (map (event_map f) (map event_view us))) es i le
+  pub mapped-origin-end : length es ≤ i → origin_from v i (map (event_map f) (drop i es)) ≡ None
+  mapped-origin-end le = at_drop_all (λ us. origin_from v i (map (event_map f) us)) es i le
 
-pub origin-found : (f : Term → Term) (v : Term) (es : List Event) (trace : List (strand.Event Term)) → map event_view es ≡ trace → (i : ℕ)
-    → origin_from v 0 (map (event_map f) (map event_view es)) ≡ origin_from v i (map (event_map f) (map event_view (drop i es)))
-    → (o : Option ℕ) → origin_from v i (map (event_map f) (map event_view (drop i es))) ≡ o → o ≡ origin_in (map (event_map f) trace) v
+pub origin-found : (f : Term → Term) (v : Term) (es : List (Event Term)) (trace : List (Event Term)) → es ≡ trace → (i : ℕ)
+    → origin_from v 0 (map (event_map f) es) ≡ origin_from v i (map (event_map f) (drop i es))
+    → (o : Option ℕ) → origin_from v i (map (event_map f) (drop i es)) ≡ o → o ≡ origin_in (map (event_map f) trace) v
 origin-found f v es trace e i h o g =
     sym (origin-first v (map (event_map f) trace) ∙ ap (λ us. origin_from v 0 (map (event_map f) us)) (sym e) ∙ h ∙ g)
 
 -- an event that becomes one that carries the value
-pub carried-here : (values : List Term) (v : Term) (es : List Event) (trace : List (strand.Event Term)) → map event_view es ≡ trace → (i : ℕ)
-    → origin_from v 0 (map (event_map (apply_to (substitution_by values))) (map event_view es)) ≡ origin_from v i (map (event_map (apply_to (substitution_by values))) (map event_view (drop i es)))
-    → (e : Event) → i < length es → e ≡ get_or es i e → (ts : List Term) → ts ≡ values → (m : Term) → m ≡ payload (event_view e)
+pub carried-here : (values : List Term) (v : Term) (es : List (Event Term)) (trace : List (Event Term)) → es ≡ trace → (i : ℕ)
+    → origin_from v 0 (map (event_map (apply_to (substitution_by values))) es) ≡ origin_from v i (map (event_map (apply_to (substitution_by values))) (drop i es))
+    → (e : Event Term) → i < length es → e ≡ get_or es i e → (ts : List Term) → ts ≡ values → (m : Term) → m ≡ payload e
     → (b : Bool) → b ≡ true → b ≡ carries (apply_to (substitution_by ts) m) v
-    → place_if_sent (event_view e) i ≡ origin_in (map (event_map (apply_to (substitution_by values))) trace) v
+    → place_if_sent e i ≡ origin_in (map (event_map (apply_to (substitution_by values))) trace) v
 carried-here values v es trace prefix i h e lt is ts same m message b holds test =
     let f = apply_to (substitution_by values) in
-    let carried : true ≡ carries (f (payload (event_view e))) v = sym holds ∙ test ∙ ap (λ us. carries (apply_to (substitution_by us) m) v) same ∙ ap (λ x. carries (f x) v) message in
-    origin-found f v es trace prefix i h (place_if_sent (event_view e) i) (mapped-origin-at f v es i e true lt is carried)
+    let carried : true ≡ carries (f (payload e)) v = sym holds ∙ test ∙ ap (λ us. carries (apply_to (substitution_by us) m) v) same ∙ ap (λ x. carries (f x) v) message in
+    origin-found f v es trace prefix i h (place_if_sent e i) (mapped-origin-at f v es i e true lt is carried)
 
 -- ---- strand by strand
 

@@ -2,7 +2,8 @@
 use Rattle.std.specs.Prelude.{ℕ, List, [], Option, Some, None}
 use Rattle.cp_base.specs.declared.place.Refusal.{Refusal}
 use Rattle.cp_model.specs.Term.{Term}
-use Rattle.cp_model.specs.Strand.{Event, send, recv}
+use Rattle.cp_model.specs.declared.strand.Event.{Event}
+use Rattle.cp_model.specs.declared.strand.Event.TheVariants.{Send as send, Receive as recv}
 use Rattle.cp_sexpr.specs.Syntax.{Form, symbol, string, number, list}
 use Rattle.cp_language.specs.Problems.{number_faults}
 use Rattle.cp_load.specs.declared.nodes.Direction.{Direction}

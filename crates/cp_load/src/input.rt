@@ -1,4 +1,7 @@
 // Loaded input.
+ghost use Rattle.std.specs.Prelude.{◌≡◌, option_map};
+ghost use Rattle.cp_load.specs.Inputs.{problem_in};
+
 use cp_sexpr::Form;
 use cp_skel::{Protocol, Skeleton};
 use std::rc::Rc;
@@ -12,10 +15,29 @@ pub struct Problem {
     pub skeleton: Skeleton,
 }
 
-/// Well-formed input: its forms, its protocols in order, and for each form the problem that it states, if any.
+/// What a form of well-formed input states: nothing, a protocol, or a problem.
+#[derive(Drop)]
+pub enum Entry {
+    Plain,
+    Protocol(Rc<Protocol>),
+    Problem(Problem),
+}
+
+impl Entry {
+    /// The problem that the form states, if it states one.
+    pub fn problem(&self) -> Option<&Problem>
+        ensures { option_map (λ p. p.now) result ≡ problem_in self.now }
+    {
+        match self {
+            Entry::Plain | Entry::Protocol(_) => None,
+            Entry::Problem(problem) => Some(problem),
+        }
+    }
+}
+
+/// Well-formed input: its forms, and for each form, in order, what it states.
 #[derive(Drop)]
 pub struct Input<'a> {
     pub forms: &'a [Form],
-    pub protocols: Vec<Rc<Protocol>>,
-    pub problems: Vec<Option<Problem>>,
+    pub entries: Vec<Entry>,
 }

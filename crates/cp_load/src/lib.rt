@@ -21,13 +21,13 @@ mod values;
 
 pub use acyclic::have_no_cycle;
 pub use error::LoadError;
-pub use input::{Input, Problem};
+pub use input::{Entry, Input, Problem};
 pub use loader::{load, top_form};
 pub use nodes::{Direction, node_direction, node_of};
 pub use orders::{closes_cycle, pair_of_nodes};
 pub use pairs::{
     add_pair, add_pairs, is_on_one_strand, is_reception, is_transmission, node_if_there, pair_of,
 };
-pub use unchecked_problems::{UncheckedProblem, UncheckedSkeleton, all_finished};
+pub use unchecked_problems::{UncheckedEntry, UncheckedProblem, UncheckedSkeleton, all_finished};
 pub use unique_origins::carries_under;
 pub use values::table_of;

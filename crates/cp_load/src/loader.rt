@@ -1,21 +1,22 @@
 // From forms to protocols and problems.
-ghost use Rattle.std.specs.Prelude.{length, ◌≡◌, ◌++◌, ◌∷◌, [], map, option_map, Ok, Err, IfOk, IfErr, OnOk};
+ghost use Rattle.std.specs.Prelude.{length, ◌≡◌, ◌++◌, ◌∷◌, [], map, Ok, Err, IfOk, IfErr, OnOk};
+ghost use Rattle.std.specs.List.{filter_map};
 ghost use Rattle.cp_base.specs.declared.place.Refusal.{Refusal as Fault};
 ghost use Rattle.cp_sexpr.specs.View.{view, views};
 ghost use Rattle.cp_language.specs.Faults.{place_of};
 ghost use Rattle.cp_language.specs.Roles.{headed, protocol_faults, protocol_of};
-ghost use Rattle.cp_language.specs.Input.{protocol_names, headed_top_faults, stated_problem, protocols_behind, faults_from, entries_from};
-ghost use Rattle.cp_language.specs.StatedInput.{protocols_in, protocols_of, IsInput};
+ghost use Rattle.cp_language.specs.Input.{protocol_names, headed_top_faults, protocols_behind, faults_from, stated_protocol, headed_entry};
+ghost use Rattle.cp_language.specs.StatedInput.{protocols_of, IsInput};
 ghost use Rattle.cp_roles.specs.Above.{protocols_view, names_of_protocols, turned};
 ghost use Rattle.cp_scope.specs.FirstFault.{first_onto};
-ghost use Rattle.cp_load.specs.UncheckedProblems.{unchecked_view};
+ghost use Rattle.cp_load.specs.UncheckedProblems.{unchecked_entry_view, stated_from};
 ghost use Rattle.cp_load.specs.Inputs.{input_entries};
 ghost use Rattle.cp_load.specs.declared.error.LoadError.TheVariants.{Refused};
 
 use crate::error::LoadError;
 use crate::input::Input;
 use crate::problems::problem_of;
-use crate::unchecked_problems::{UncheckedProblem, all_finished};
+use crate::unchecked_problems::{UncheckedEntry, all_finished};
 use cp_base::{Code, Place, Text};
 use cp_roles::protocol_of;
 use cp_scope::{FirstFault, NameSet, TopHead, headed, place_of, top_head};
@@ -24,7 +25,8 @@ use cp_skel::Protocol;
 use std::alloc::{AllocError, Global};
 use std::rc::Rc;
 
-/// Appends the protocol with these items after its head to those above, which have these names. Notes its faults.
+/// The protocol with these items after its head, which is appended to those above, which have these names. Notes its
+/// faults.
 fn add_protocol(
     alloc: Global,
     above: &mut Vec<Rc<Protocol>>,
@@ -32,9 +34,10 @@ fn add_protocol(
     place: Place,
     items: &[Form],
     first: &mut FirstFault,
-) -> Result<(), AllocError>
+) -> Result<Rc<Protocol>, AllocError>
     requires { names.old ≡ names_of_protocols (protocols_view above.old.items) }
     ensures faults { OnOk result (first.new ≡ first_onto first.old (protocol_faults (protocol_names (turned (protocols_view above.old.items) [])) place (map view items.now))) }
+    ensures protocol { IfOk result (λ p. p.value ≡ protocol_of (map view items.now)) }
     ensures protocols { OnOk result (protocols_view above.new.items ≡ protocols_view above.old.items ++ protocol_of (map view items.now) ∷ []) }
     ensures names { OnOk result (names.new ≡ names_of_protocols (protocols_view above.new.items)) }
 {
@@ -42,93 +45,85 @@ fn add_protocol(
     let name = Text::new(alloc, protocol.name().as_str())?;
     names.push(alloc, name)?;
     let protocol = Rc::new(alloc, protocol)?;
+    let shared = protocol.clone()?;
     above.push(protocol)?;
-    Ok(())
+    Ok(shared)
 }
 
-/// The problem that a top form states, if any. A protocol that it states is appended to those above, which have these
-/// names. Notes the form's faults.
+/// What a top form states. A protocol that it states is appended to those above, which have these names. Notes the
+/// form's faults.
 pub fn top_form(
     alloc: Global,
     above: &mut Vec<Rc<Protocol>>,
     names: &mut NameSet,
     form: &Form,
     first: &mut FirstFault,
-) -> Result<Option<UncheckedProblem>, AllocError>
+) -> Result<UncheckedEntry, AllocError>
     requires { names.old ≡ names_of_protocols (protocols_view above.old.items) }
     ensures faults { OnOk result (first.new ≡ first_onto first.old (headed_top_faults (turned (protocols_view above.old.items) []) (place_of (view form.now)) (headed (view form.now)))) }
-    ensures problem { IfOk result (λ d. option_map unchecked_view d ≡ stated_problem (turned (protocols_view above.old.items) []) (headed (view form.now))) }
+    ensures entry { IfOk result (λ u. unchecked_entry_view u (view form.now) ≡ headed_entry (turned (protocols_view above.old.items) []) (headed (view form.now)) (view form.now)) }
     ensures protocols { OnOk result (protocols_view above.new.items ≡ protocols_view above.old.items ++ protocols_behind (headed (view form.now)) []) }
     ensures names { OnOk result (names.new ≡ names_of_protocols (protocols_view above.new.items)) }
 {
     let place = place_of(form);
     let Some(list) = headed(form) else {
         first.note(place, Code::BadShape);
-        return Ok(None);
+        return Ok(UncheckedEntry::Plain);
     };
     match top_head(list.head) {
-        TopHead::Protocol => add_protocol(alloc, above, names, place, list.items, first)?,
+        TopHead::Protocol => {
+            let protocol = add_protocol(alloc, above, names, place, list.items, first)?;
+            return Ok(UncheckedEntry::Protocol(protocol));
+        }
         TopHead::Problem => {
             let unchecked = problem_of(alloc, above, place, list.items, first)?;
-            return Ok(Some(unchecked));
+            return Ok(UncheckedEntry::Problem(unchecked));
         }
         TopHead::Free => {}
         TopHead::OutOfProfile => first.note(place, Code::OutOfProfile),
         TopHead::Unknown => first.note(place, Code::UnknownForm),
     }
-    Ok(None)
+    Ok(UncheckedEntry::Plain)
 }
 
-/// What forms state: their protocols in order, and for each form its unchecked problem.
-#[derive(Drop)]
-struct Stated {
-    protocols: Vec<Rc<Protocol>>,
-    unchecked_problems: Vec<Option<UncheckedProblem>>,
-}
-
-/// What these forms state. Notes their faults; what stands for a form with faults has no meaning.
-fn read_forms(alloc: Global, forms: &[Form], first: &mut FirstFault) -> Result<Stated, AllocError>
+/// What these forms state, one after another. Notes their faults; what stands for a form with faults has no meaning.
+fn read_forms(
+    alloc: Global,
+    forms: &[Form],
+    first: &mut FirstFault,
+) -> Result<Vec<UncheckedEntry>, AllocError>
     ensures faults { OnOk result (first.new ≡ first_onto first.old (faults_from [] (map view forms.now))) }
-    ensures problems { IfOk result (λ s. map (option_map unchecked_view) s.unchecked_problems.items ≡ map (λ e. e.problem) (entries_from [] (map view forms.now))) }
-    ensures counted { IfOk result (λ s. length s.unchecked_problems.items ≡ length forms.now) }
-    ensures protocols { IfOk result (λ s. protocols_view s.protocols.items ≡ protocols_in (map view forms.now)) }
+    ensures entries { IfOk result (λ us. map unchecked_entry_view us.items ≡ stated_from [] (map view forms.now)) }
+    ensures counted { IfOk result (λ us. length us.items ≡ length forms.now) }
 {
     let mut protocols = Vec::new(alloc);
     let mut names = NameSet::new(alloc);
-    let mut unchecked_problems = Vec::new(alloc);
+    let mut unchecked_entries = Vec::new(alloc);
     for form in forms {
         let unchecked = top_form(alloc, &mut protocols, &mut names, form, first)?;
-        unchecked_problems.push(unchecked)?;
+        unchecked_entries.push(unchecked)?;
     }
-    Ok(Stated {
-        protocols,
-        unchecked_problems,
-    })
+    Ok(unchecked_entries)
 }
 
-/// Loads forms: the input, which keeps the forms, with its protocols and, for each form, the problem that it states, if
-/// any.
+/// Loads forms: the input, which keeps the forms, with what each of them states.
 ///
 /// Forms with faults are refused for the first fault by line, then by column, then by kind. The other error is
 /// `Memory`.
 pub fn load<'a>(alloc: Global, forms: &'a [Form]) -> Result<Input<'a>, LoadError>
     ensures input { IfOk result (λ i. IsInput (views forms.now) (Ok (input_entries i))) }
     ensures forms { IfOk result (λ i. i.forms.now ≡ forms.now) }
-    ensures problems { IfOk result (λ i. length i.problems.items ≡ length forms.now) }
-    ensures protocols { IfOk result (λ i. protocols_view i.protocols.items ≡ protocols_of (views forms.now)) }
+    ensures entries { IfOk result (λ i. length i.entries.items ≡ length forms.now) }
+    ensures protocols { IfOk result (λ i. filter_map stated_protocol (input_entries i) ≡ protocols_of (views forms.now)) }
     ensures refused { IfErr result (λ e. (r : Fault) → e ≡ Refused r → IsInput (views forms.now) (Err r)) }
 {
     let mut first = FirstFault::new();
-    let Stated {
-        protocols,
-        unchecked_problems,
-    } = read_forms(alloc, forms, &mut first)?;
+    let unchecked_entries = read_forms(alloc, forms, &mut first)?;
     match first.found() {
         Some(fault) => Err(LoadError::Refused(fault)),
         None => Ok(Input {
             forms,
-            protocols,
-            problems: all_finished(alloc, unchecked_problems)?,
+            entries: all_finished(alloc, unchecked_entries)?,
         }),
     }
 }

@@ -4,7 +4,7 @@ ghost use Rattle.cp_lists.specs.Lists.{item_at};
 ghost use Rattle.cp_model.specs.Skeleton.{skeleton_trace, term_event_at};
 ghost use Rattle.cp_sexpr.specs.View.{view};
 ghost use Rattle.cp_language.specs.Problems.{node_of, range_faults, two_number_faults, node_faults};
-ghost use Rattle.cp_strand.specs.View.{event_view, strand_view};
+ghost use Rattle.cp_strand.specs.View.{strand_view};
 ghost use Rattle.cp_scope.specs.FirstFault.{first_onto};
 ghost use Rattle.cp_load.specs.Directions.{direction_of, number_form, number_faults_if};
 
@@ -22,7 +22,7 @@ pub enum Direction {
 
 /// The direction of the event at an index.
 fn event_direction(events: &[Event], index: usize) -> Option<Direction>
-    ensures { result ≡ direction_of (item_at (map event_view events.now) index) }
+    ensures { result ≡ direction_of (item_at events.now index) }
 {
     match events.get(index) {
         Some(Event::Send(_)) => Some(Direction::Transmission),

@@ -1,10 +1,10 @@
-// Problems while forms are read, and the problems that they become if the forms have no faults.
+// What forms state while they are read, and what that becomes if the forms have no faults.
 ghost use Rattle.std.specs.Prelude.{◌≡◌, map, option_map, IfOk};
 ghost use Rattle.cp_skel.specs.Sound.{IsSound};
-ghost use Rattle.cp_load.specs.UncheckedProblems.{unchecked_view, IsSoundIfThere, HaveSoundSkeletons};
-ghost use Rattle.cp_load.specs.Inputs.{problem_view};
+ghost use Rattle.cp_load.specs.UncheckedProblems.{unchecked_view, unchecked_problem, unchecked_entry_view, IsSoundIfThere, HaveSoundSkeletons};
+ghost use Rattle.cp_load.specs.Inputs.{problem_view, entry_view};
 
-use crate::input::Problem;
+use crate::input::{Entry, Problem};
 use cp_skel::{Assumptions, FromProblem, Order, Protocol, Skeleton, Strand};
 use cp_term::VarTable;
 use std::alloc::{AllocError, Global};
@@ -26,6 +26,26 @@ pub struct UncheckedProblem {
     pub protocol: Rc<Protocol>,
     pub declared: usize,
     pub skeleton: UncheckedSkeleton,
+}
+
+/// What a form states, while forms are read: nothing, a protocol, or a problem.
+#[derive(Drop)]
+pub enum UncheckedEntry {
+    Plain,
+    Protocol(Rc<Protocol>),
+    Problem(UncheckedProblem),
+}
+
+impl UncheckedEntry {
+    /// The problem that the form states, if it states one.
+    pub fn problem(&self) -> Option<&UncheckedProblem>
+        ensures { option_map (λ d. d.now) result ≡ unchecked_problem self.now }
+    {
+        match self {
+            UncheckedEntry::Plain | UncheckedEntry::Protocol(_) => None,
+            UncheckedEntry::Problem(unchecked) => Some(unchecked),
+        }
+    }
 }
 
 /// The problem that an unchecked one becomes, whose skeleton must be sound.
@@ -52,28 +72,29 @@ fn finished(unchecked: UncheckedProblem) -> Problem
     }
 }
 
-/// The problem that an unchecked one becomes, if there is one. Its skeleton must be sound.
-fn finished_if_there(unchecked: Option<UncheckedProblem>) -> Option<Problem>
+/// The entry that an unchecked one becomes. The skeleton of its problem, if it has one, must be sound.
+fn finished_entry(unchecked: UncheckedEntry) -> Entry
     requires { IsSoundIfThere unchecked }
-    ensures { option_map problem_view result ≡ option_map unchecked_view unchecked }
+    ensures { entry_view result ≡ unchecked_entry_view unchecked }
 {
     match unchecked {
-        Some(unchecked) => Some(finished(unchecked)),
-        None => None,
+        UncheckedEntry::Plain => Entry::Plain,
+        UncheckedEntry::Protocol(protocol) => Entry::Protocol(protocol),
+        UncheckedEntry::Problem(unchecked) => Entry::Problem(finished(unchecked)),
     }
 }
 
-/// The problems that unchecked ones become, each at its place. Their skeletons must be sound.
+/// The entries that unchecked ones become, each at its place. The skeletons of their problems must be sound.
 pub fn all_finished(
     alloc: Global,
-    unchecked_problems: Vec<Option<UncheckedProblem>>,
-) -> Result<Vec<Option<Problem>>, AllocError>
-    requires { HaveSoundSkeletons unchecked_problems.items }
-    ensures { IfOk result (λ v. map (option_map problem_view) v.items ≡ map (option_map unchecked_view) unchecked_problems.items) }
+    unchecked_entries: Vec<UncheckedEntry>,
+) -> Result<Vec<Entry>, AllocError>
+    requires { HaveSoundSkeletons unchecked_entries.items }
+    ensures { IfOk result (λ v. map entry_view v.items ≡ map unchecked_entry_view unchecked_entries.items) }
 {
-    let mut problems = Vec::new(alloc);
-    for unchecked in unchecked_problems {
-        problems.push(finished_if_there(unchecked))?;
+    let mut entries = Vec::new(alloc);
+    for unchecked in unchecked_entries {
+        entries.push(finished_entry(unchecked))?;
     }
-    Ok(problems)
+    Ok(entries)
 }

@@ -6,7 +6,7 @@ ghost use Rattle.cp_model.specs.Skeleton.{skeleton_trace};
 ghost use Rattle.cp_model.specs.Given.{uniques_onto};
 ghost use Rattle.cp_language.specs.Problems.{origins_from, own_uniques};
 ghost use Rattle.cp_model.specs.Same.{carries, origin_in};
-ghost use Rattle.cp_strand.specs.View.{event_view, instance_view, strand_view};
+ghost use Rattle.cp_strand.specs.View.{instance_view, strand_view};
 ghost use Rattle.cp_load.specs.Originations.{origin_on, originates, place_if_sent, unique_at};
 
 use cp_skel::{Atom, Event, Instance, Node, Strand, StrandShape, UniqueAt, add_unique, prefix_of};
@@ -22,7 +22,7 @@ pub fn carries_under(values: &[Term], whole: &Term, part: &Term) -> bool
 
 /// The index of an event, if it is a transmission.
 fn place_if_sent(event: &Event, index: usize) -> Option<usize>
-    ensures { result ≡ place_if_sent (event_view event.now) index }
+    ensures { result ≡ place_if_sent event.now index }
 {
     match event {
         Event::Send(_) => Some(index),

@@ -5,9 +5,8 @@ ghost use Rattle.cp_sexpr.specs.View.{view};
 ghost use Rattle.cp_model.specs.Given.{atoms_onto, uniques_onto};
 ghost use Rattle.cp_language.specs.Problems.{unique_faults, own_uniques, own_assumptions, is_precedes_item, pairs_in, own_skeleton};
 ghost use Rattle.cp_language.specs.Roles.{headed, item_or_none, atoms_in, forms_under, is_unique_item};
-ghost use Rattle.cp_strand.specs.View.{declaration_view, strand_view};
+ghost use Rattle.cp_strand.specs.View.{strand_view};
 ghost use Rattle.cp_skel.specs.View.{skeleton_view};
-ghost use Rattle.cp_skel.specs.Trees.{variables_view};
 ghost use Rattle.cp_scope.specs.FirstFault.{first_onto};
 ghost use Rattle.cp_load.specs.UncheckedProblems.{skeleton_unchecked};
 ghost use Rattle.cp_scope.specs.Kinds.{is_of_kind};
@@ -36,7 +35,7 @@ pub(crate) fn unique_faults(
     form: &Form,
     first: &mut FirstFault,
 ) -> Result<(), AllocError>
-    ensures { OnOk result (first.new ≡ first_onto first.old (unique_faults (map strand_view strands.now) (map declaration_view variables.now) (view form.now))) }
+    ensures { OnOk result (first.new ≡ first_onto first.old (unique_faults (map strand_view strands.now) variables.now (view form.now))) }
 {
     let value = atom_of(alloc, variables, form)?;
     let holds = originates(strands, &value);
@@ -54,7 +53,7 @@ fn own_atoms(
     kind: Kind,
     body: &[Form],
 ) -> Result<Vec<Atom>, AllocError>
-    ensures { IfOk result (λ v. v.items ≡ atoms_onto [] (atoms_in (map declaration_view declared.now) (forms_under (is_of_kind kind) (map view body.now)))) }
+    ensures { IfOk result (λ v. v.items ≡ atoms_onto [] (atoms_in declared.now (forms_under (is_of_kind kind) (map view body.now)))) }
 {
     let atoms = atoms_of(alloc, declared, kind, body)?;
     let mut once = Vec::new(alloc);
@@ -70,7 +69,7 @@ fn own_uniques(
     body: &[Form],
 ) -> Result<Vec<UniqueAt>, AllocError>
     ensures { IfOk result (λ v. v.items ≡ uniques_onto [] (own_uniques (map strand_view strands.now)
-        (atoms_in (map declaration_view declared.now) (forms_under is_unique_item (map view body.now))))) }
+        (atoms_in declared.now (forms_under is_unique_item (map view body.now))))) }
 {
     let values = atoms_of(alloc, declared, Kind::Unique, body)?;
     let mut uniques = Vec::new(alloc);
@@ -85,7 +84,7 @@ fn own_assumptions(
     strands: &[Strand],
     body: &[Form],
 ) -> Result<Assumptions, AllocError>
-    ensures { IfOk result (λ a. a ≡ own_assumptions (map declaration_view declared.now) (map strand_view strands.now) (map view body.now)) }
+    ensures { IfOk result (λ a. a ≡ own_assumptions declared.now (map strand_view strands.now) (map view body.now)) }
 {
     Ok(Assumptions::new(
         own_atoms(alloc, declared, Kind::Non, body)?,
@@ -130,7 +129,7 @@ fn numbers_of(alloc: Global, strands: &[Strand]) -> Result<Vec<usize>, AllocErro
 
 /// The variables as terms.
 fn variable_terms(alloc: Global, variables: &[Declaration]) -> Result<Vec<Term>, AllocError>
-    ensures { IfOk result (λ v. v.items ≡ variable_terms 0 (map declaration_view variables.now)) }
+    ensures { IfOk result (λ v. v.items ≡ variable_terms 0 variables.now) }
 {
     let mut terms = Vec::new(alloc);
     for (number, declaration) in variables.iter().enumerate() {
@@ -143,7 +142,7 @@ fn variable_terms(alloc: Global, variables: &[Declaration]) -> Result<Vec<Term>,
 
 /// A table of these variables.
 pub fn table_of(alloc: Global, variables: &[Declaration]) -> Result<VarTable, AllocError>
-    ensures { IfOk result (λ t. variables_view t ≡ map declaration_view variables.now) }
+    ensures { IfOk result (λ t. t ≡ variables.now) }
 {
     let mut table = VarTable::new(alloc);
     for declaration in variables {
@@ -161,8 +160,8 @@ pub(crate) fn own_skeleton(
     body: &[Form],
     all: &[Declaration],
 ) -> Result<UncheckedSkeleton, AllocError>
-    ensures skeleton { IfOk result (λ k. skeleton_view (skeleton_unchecked k) ≡ own_skeleton (map declaration_view declared.now) (map strand_view strands.items) (map view body.now) (map declaration_view all.now)) }
-    ensures variables { IfOk result (λ k. variables_view k.variables ≡ map declaration_view all.now) }
+    ensures skeleton { IfOk result (λ k. skeleton_view (skeleton_unchecked k) ≡ own_skeleton declared.now (map strand_view strands.items) (map view body.now) all.now) }
+    ensures variables { IfOk result (λ k. k.variables ≡ all.now) }
 {
     let own = own_assumptions(alloc, declared, &strands, body)?;
     let mut assumptions = own.copy(alloc)?;

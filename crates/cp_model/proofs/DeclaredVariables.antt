@@ -1,25 +1,25 @@
 -- The terms of declared variables, and their numbers.
 use Rattle.std.proofs.Common.{◌≡◌, ℕ, zero, suc, ◌+◌, List, [], ◌∷◌, Some, ap₂, subst, arith, ◌++◌, ◌<◌, length}
 use Rattle.cp_lists.specs.Lists.{item_at}
-use Rattle.cp_model.specs.Term.{Sort, Variable, atom_of_variable, atom_term}
+use Rattle.cp_model.specs.Term.{Sort, Variable, variable_term}
 use Rattle.cp_model.specs.Strand.{Declaration}
 use Rattle.cp_model.specs.Problem.{variable_terms, declared_sort, IsDeclared}
 
 -- What stands at the numbers of declared variables.
-pub variable_at : (n : ℕ) (ds : List Declaration) (i : ℕ) (sort : Sort) → declared_sort (item_at ds i) ≡ Some sort → item_at (variable_terms n ds) i ≡ Some (atom_term (atom_of_variable (record { sort = sort; number = n + i })))
+pub variable_at : (n : ℕ) (ds : List Declaration) (i : ℕ) (sort : Sort) → declared_sort (item_at ds i) ≡ Some sort → item_at (variable_terms n ds) i ≡ Some (variable_term (record { sort = sort; number = n + i }))
 variable_at n [] i sort e = absurd (cc)
 variable_at n (d ∷ ds) zero sort e =
     let p : d.sort ≡ sort = cc in
     let q : n ≡ n + zero = omega arith in
-    ap₂ (λ (s : Sort) (m : ℕ). Some (atom_term (atom_of_variable (record { sort = s; number = m })))) p q
+    ap₂ (λ (s : Sort) (m : ℕ). Some (variable_term (record { sort = s; number = m }))) p q
 variable_at n (d ∷ ds) (suc i) sort e =
     let q : suc n + i ≡ n + suc i = omega arith in
-    subst (λ (m : ℕ). item_at (variable_terms (suc n) ds) i ≡ Some (atom_term (atom_of_variable (record { sort = sort; number = m })))) q (variable_at (suc n) ds i sort e)
+    subst (λ (m : ℕ). item_at (variable_terms (suc n) ds) i ≡ Some (variable_term (record { sort = sort; number = m }))) q (variable_at (suc n) ds i sort e)
 
-pub declared_at : (ds : List Declaration) (x : Variable) → IsDeclared ds x → item_at (variable_terms 0 ds) x.number ≡ Some (atom_term (atom_of_variable x))
+pub declared_at : (ds : List Declaration) (x : Variable) → IsDeclared ds x → item_at (variable_terms 0 ds) x.number ≡ Some (variable_term x)
 declared_at ds x is =
     let q : 0 + x.number ≡ x.number = omega arith in
-    subst (λ (m : ℕ). item_at (variable_terms 0 ds) x.number ≡ Some (atom_term (atom_of_variable (record { sort = x.sort; number = m })))) q (variable_at 0 ds x.number x.sort is)
+    subst (λ (m : ℕ). item_at (variable_terms 0 ds) x.number ≡ Some (variable_term (record { sort = x.sort; number = m }))) q (variable_at 0 ds x.number x.sort is)
 
 -- ---- the numbers of declared variables
 

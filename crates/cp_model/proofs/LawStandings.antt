@@ -3,7 +3,7 @@ use Rattle.std.proofs.Common.{◌≡◌, ◌≢◌, ℕ, zero, suc, ◌<◌, ◌
 use native.Mathlib.Decide.{ℕ_discrete, dec_lt}
 use Rattle.cp_lists.specs.Lists.{item_at, IsIn, one_step, more_steps}
 use Rattle.cp_model.specs.Message.{Atom, Message, atom}
-use Rattle.cp_model.specs.Term.{atom_of_variable, Term, Assignment, value_of, value_of_atom, Substitution, apply_to, apply_to_atom, after}
+use Rattle.cp_model.specs.Term.{variable_term, Term, Assignment, value_of, value_of_atom, Substitution, apply_to, apply_to_atom, after}
 use Rattle.cp_model.specs.Strand.{Event, send, recv, event_map, Role, Protocol, prefix_of, Strand, regular}
 use Rattle.cp_model.specs.Bundle.{node_at, event_at, trace_or_none, Bundle, along_strand, Precedes, KeepsNon, KeepsPenetratorNon, KeepsUnique}
 use Rattle.cp_model.specs.declared.node.Node.{Node}
@@ -219,7 +219,7 @@ instances_stand a b f bundle h hom stands s role height terms at =
       to_values = st.to_values;
       on_regular = st.on_regular;
       at_least = le_trans g.at_least st.at_least;
-      equal_values = λ x inx. after_further f.terms terms g.to_terms h.values (atom_of_variable x) (g.equal_terms x inx) ∙ st.equal_values x (variables_of_higher role height g.to_height g.at_least x inx);
+      equal_values = λ x inx. after_further f.terms terms g.to_terms h.values (variable_term x) (g.equal_terms x inx) ∙ st.equal_values x (variables_of_higher role height g.to_height g.at_least x inx);
     }
 
 uniques_stand : (protocol : Protocol) (a b : Skeleton) (f : SkeletonMap) (bundle : Bundle) (h : Standing) → IsSkeleton protocol a → IsHomomorphism a b f → StandsIn b bundle h →

@@ -104,13 +104,13 @@ term_unchanged (atom_term a) = ap atom_term (atom_unchanged a)
 term_unchanged (pair_term a b) = ap₂ pair_term (term_unchanged a) (term_unchanged b)
 term_unchanged (enc_term a k) = ap₂ enc_term (term_unchanged a) (key_unchanged k)
 
--- What two substitutions make of a variable alike stays alike under a further one, and under an assignment.
-pub composed_further : (f t to g : Substitution) (v : AtomTerm) → apply_to_atom (composed t f) v ≡ apply_to_atom to v → apply_to_atom (composed t (composed f g)) v ≡ apply_to_atom (composed to g) v
-composed_further f t to g v e =
-    atom_composed t (composed f g) v ∙ atom_composed f g (apply_to_atom t v) ∙ ap (apply_to_atom g) (sym (atom_composed t f v) ∙ e) ∙ sym (atom_composed to g v)
+-- What two substitutions make of a term alike stays alike under a further one, and under an assignment.
+pub composed_further : (f t to g : Substitution) (u : Term) → apply_to (composed t f) u ≡ apply_to to u → apply_to (composed t (composed f g)) u ≡ apply_to (composed to g) u
+composed_further f t to g u e =
+    term_composed t (composed f g) u ∙ term_composed f g (apply_to t u) ∙ ap (apply_to g) (sym (term_composed t f u) ∙ e) ∙ sym (term_composed to g u)
 
-pub after_further : (f t to : Substitution) (g : Assignment) (v : AtomTerm) → apply_to_atom (composed t f) v ≡ apply_to_atom to v → value_of_atom (after (after g f) t) v ≡ value_of_atom (after g to) v
-after_further f t to g v e = atom_after (after g f) t v ∙ atom_after g f (apply_to_atom t v) ∙ ap (value_of_atom g) (sym (atom_composed t f v) ∙ e) ∙ sym (atom_after g to v)
+pub after_further : (f t to : Substitution) (g : Assignment) (u : Term) → apply_to (composed t f) u ≡ apply_to to u → value_of (after (after g f) t) u ≡ value_of (after g to) u
+after_further f t to g u e = value_after (after g f) t u ∙ value_after g f (apply_to t u) ∙ ap (value_of g) (sym (term_composed t f u) ∙ e) ∙ sym (value_after g to u)
 
 -- What a term carries is carried under a substitution.
 pub carried_under : (s : Substitution) {v : AtomTerm} {t : Term} → IsCarriedByTerm (atom_term v) t → IsCarriedByTerm (atom_term (apply_to_atom s v)) (apply_to s t)

@@ -23,14 +23,17 @@ pub mod RunLinks
 pub mod FirstCarriers
 pub mod OriginTrail
 pub mod SameTests
+mod ListedVariables
 pub mod Images
+pub mod OwnOrder
 pub mod StatedItself
 pub mod StatedStays
 pub mod Gathered
 pub mod NodeTests
 pub mod BoundedSearch
 pub mod DeclaredVariables
-pub mod Numbers
+pub mod NumbersFrom
 pub mod OccurringVariables
 pub mod PrefixVariables
 pub mod UnderVariables
+pub mod VariableTerms

@@ -3,30 +3,30 @@
 use Rattle.std.proofs.Common.{◌≡◌, ℕ, zero, suc, Bool, List, [], ◌∷◌, Some, map, refl, subst, ⊎_elim}
 use Rattle.cp_lists.specs.Lists.{item_at, IsIn, here, there}
 use Rattle.cp_lists.proofs.Members.{in_append, in_append_left, in_append_right}
-use Rattle.cp_model.specs.Term.{Variable, SymmetricTerm, skey_variable, ltk_term, PairTerm, akey_variable, pubk_term, KeyTerm, symmetric_term, asymmetric_term, AtomTerm, text_variable, datum_variable, name_variable, key_term, atom_of_variable, Term, tag_term, atom_term, pair_term, enc_term, name_sort, variables_of_symmetric, variables_of_pair, variables_of_key, variables_of_atom, variables_of, Substitution, apply_to_key, apply_to_atom, apply_to}
+use Rattle.cp_model.specs.Term.{Variable, SymmetricTerm, skey_variable, ltk_term, PairTerm, akey_variable, pubk_term, KeyTerm, symmetric_term, asymmetric_term, AtomTerm, text_variable, datum_variable, name_variable, key_term, variable_term, Term, tag_term, atom_term, pair_term, enc_term, name_sort, variables_of_symmetric, variables_of_pair, variables_of_key, variables_of_atom, variables_of, Substitution, apply_to_key, apply_to_atom, apply_to}
 use Rattle.cp_model.specs.Strand.{Event, send, recv, payload, event_map, variables_of_trace}
 use Rattle.cp_model.specs.Skeleton.{SkeletonStrand, skeleton_trace, UniqueAt}
 use Rattle.cp_model.specs.Problem.{variables_of_strands, variables_of_atoms, variables_of_terms, variables_of_uniques}
 
 -- The variables of the terms of a term's variables occur in the term under the substitution.
-in_symmetric : (s : Substitution) (k : SymmetricTerm) (x y : Variable) → IsIn x (variables_of_symmetric k) → IsIn y (variables_of_atom (apply_to_atom s (atom_of_variable x))) → IsIn y (variables_of_key (apply_to_key s (symmetric_term k)))
+in_symmetric : (s : Substitution) (k : SymmetricTerm) (x y : Variable) → IsIn x (variables_of_symmetric k) → IsIn y (variables_of (apply_to s (variable_term x))) → IsIn y (variables_of_key (apply_to_key s (symmetric_term k)))
 in_symmetric s (skey_variable n) x y here q = q
 in_symmetric s (skey_variable n) x y (there p) q = elim p [ ]
 in_symmetric s (ltk_term a b) x y here q = in_append_left (record { sort = name_sort; number = s.names b } ∷ []) q
 in_symmetric s (ltk_term a b) x y (there here) q = there q
 in_symmetric s (ltk_term a b) x y (there (there p)) q = elim p [ ]
 
-in_pair : (s : Substitution) (flag : Bool) (k : PairTerm) (x y : Variable) → IsIn x (variables_of_pair k) → IsIn y (variables_of_atom (apply_to_atom s (atom_of_variable x))) → IsIn y (variables_of_key (apply_to_key s (asymmetric_term flag k)))
+in_pair : (s : Substitution) (flag : Bool) (k : PairTerm) (x y : Variable) → IsIn x (variables_of_pair k) → IsIn y (variables_of (apply_to s (variable_term x))) → IsIn y (variables_of_key (apply_to_key s (asymmetric_term flag k)))
 in_pair s flag (akey_variable n) x y here q = q
 in_pair s flag (akey_variable n) x y (there p) q = elim p [ ]
 in_pair s flag (pubk_term purpose a) x y here q = q
 in_pair s flag (pubk_term purpose a) x y (there p) q = elim p [ ]
 
-in_key : (s : Substitution) (k : KeyTerm) (x y : Variable) → IsIn x (variables_of_key k) → IsIn y (variables_of_atom (apply_to_atom s (atom_of_variable x))) → IsIn y (variables_of_key (apply_to_key s k))
+in_key : (s : Substitution) (k : KeyTerm) (x y : Variable) → IsIn x (variables_of_key k) → IsIn y (variables_of (apply_to s (variable_term x))) → IsIn y (variables_of_key (apply_to_key s k))
 in_key s (symmetric_term k) x y p q = in_symmetric s k x y p q
 in_key s (asymmetric_term flag k) x y p q = in_pair s flag k x y p q
 
-in_atom : (s : Substitution) (v : AtomTerm) (x y : Variable) → IsIn x (variables_of_atom v) → IsIn y (variables_of_atom (apply_to_atom s (atom_of_variable x))) → IsIn y (variables_of_atom (apply_to_atom s v))
+in_atom : (s : Substitution) (v : AtomTerm) (x y : Variable) → IsIn x (variables_of_atom v) → IsIn y (variables_of (apply_to s (variable_term x))) → IsIn y (variables_of_atom (apply_to_atom s v))
 in_atom s (text_variable n) x y here q = q
 in_atom s (text_variable n) x y (there p) q = elim p [ ]
 in_atom s (datum_variable n) x y here q = q
@@ -35,7 +35,7 @@ in_atom s (name_variable n) x y here q = q
 in_atom s (name_variable n) x y (there p) q = elim p [ ]
 in_atom s (key_term k) x y p q = in_key s k x y p q
 
-in_term : (s : Substitution) (t : Term) (x y : Variable) → IsIn x (variables_of t) → IsIn y (variables_of_atom (apply_to_atom s (atom_of_variable x))) → IsIn y (variables_of (apply_to s t))
+in_term : (s : Substitution) (t : Term) (x y : Variable) → IsIn x (variables_of t) → IsIn y (variables_of (apply_to s (variable_term x))) → IsIn y (variables_of (apply_to s t))
 in_term s (tag_term bytes) x y p q = elim p [ ]
 in_term s (atom_term v) x y p q = in_atom s v x y p q
 in_term s (pair_term t u) x y p q =
@@ -43,11 +43,11 @@ in_term s (pair_term t u) x y p q =
 in_term s (enc_term t k) x y p q =
     ⊎_elim (λ l. in_append_left (variables_of_key (apply_to_key s k)) (in_term s t x y l q)) (λ r. in_append_right (variables_of (apply_to s t)) (in_key s k x y r q)) (in_append (variables_of t) (variables_of_key k) p)
 
-in_event : (s : Substitution) (e : Event Term) (x y : Variable) → IsIn x (variables_of (payload e)) → IsIn y (variables_of_atom (apply_to_atom s (atom_of_variable x))) → IsIn y (variables_of (payload (event_map (apply_to s) e)))
+in_event : (s : Substitution) (e : Event Term) (x y : Variable) → IsIn x (variables_of (payload e)) → IsIn y (variables_of (apply_to s (variable_term x))) → IsIn y (variables_of (payload (event_map (apply_to s) e)))
 in_event s (send t) x y p q = in_term s t x y p q
 in_event s (recv t) x y p q = in_term s t x y p q
 
-pub in_trace_under : (s : Substitution) (es : List (Event Term)) (x y : Variable) → IsIn x (variables_of_trace es) → IsIn y (variables_of_atom (apply_to_atom s (atom_of_variable x))) → IsIn y (variables_of_trace (map (event_map (apply_to s)) es))
+pub in_trace_under : (s : Substitution) (es : List (Event Term)) (x y : Variable) → IsIn x (variables_of_trace es) → IsIn y (variables_of (apply_to s (variable_term x))) → IsIn y (variables_of_trace (map (event_map (apply_to s)) es))
 in_trace_under s [] x y p q = elim p [ ]
 in_trace_under s (e ∷ es) x y p q =
     ⊎_elim (λ l. in_append_left (variables_of_trace (map (event_map (apply_to s)) es)) (in_event s e x y l q)) (λ r. in_append_right (variables_of (payload (event_map (apply_to s) e))) (in_trace_under s es x y r q))

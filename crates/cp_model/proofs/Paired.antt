@@ -10,6 +10,12 @@ pub paired_whole : {A B C : Type 0} (R : B → C → Type 0) (f : A → B) (xs :
 paired_whole R f xs ys n all h =
     subst (ArePaired R (map f xs)) (append-nil ys) (h [] (subst (λ zs. ArePaired R (map f zs) []) (sym (drop_all n xs all)) tt))
 
+-- Where nothing is left of the items themselves, all are paired.
+pub paired_to_the_end : {A C : Type 0} (R : A → C → Type 0) (xs : List A) (ys : List C) (n : ℕ) → length xs ≤ n →
+    ((rest : List C) → ArePaired R (drop n xs) rest → ArePaired R xs (ys ++ rest)) → ArePaired R xs ys
+paired_to_the_end R xs ys n all h =
+    subst (ArePaired R xs) (append-nil ys) (h [] (subst (λ zs. ArePaired R zs []) (sym (drop_all n xs all)) tt))
+
 -- The partner of an item.
 pub paired_item : {A B : Type 0} (R : A → B → Type 0) (xs : List A) (ys : List B) → ArePaired R xs ys → (i : ℕ) (x : A) → item_at xs i ≡ Some x → (y : B) × (item_at ys i ≡ Some y) × R x y
 paired_item R [] ys p i x e = absurd (cc)

@@ -13,6 +13,7 @@ use Rattle.cp_model.specs.Single.{IsOneSendingStrand}
 use Rattle.cp_model.specs.Example.{example_key, example_inverse, example_role, example_protocol, example_assumptions, example_skeleton}
 use Rattle.cp_lists.proofs.Members.{only_item, not_in_none}
 use Rattle.cp_lists.proofs.Items.{only_place}
+use Rattle.cp_model.proofs.OwnOrder.{own_if_same}
 use Rattle.cp_model.proofs.StrandParts.{same_instance}
 
 -- without pairs each step goes to a later place of a strand
@@ -108,4 +109,4 @@ closed x (there (there (there (there here)))) = refl
 closed x (there (there (there (there (there h))))) = elim h [ ]
 
 pub example_problem : IsPointOfView example_role.variables example_skeleton
-example_problem = record { strands = refl; values = refl; closed = closed; assumed = record { non = λ v h. h; penetrator_non = λ v h. h; unique = λ u h. h }; no_more = record { non = λ v h. inl h; penetrator_non = λ v h. inl h; unique = λ u h. inl h }; pairs = refl }
+example_problem = record { strands = refl; values = refl; closed = closed; assumed = record { non = λ v h. h; penetrator_non = λ v h. h; unique = λ u h. h }; no_more = record { non = λ v h. inl h; penetrator_non = λ v h. inl h; unique = λ u h. inl h }; ordered = own_if_same example_skeleton is_skeleton.order_pairs refl }

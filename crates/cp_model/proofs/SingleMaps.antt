@@ -1,7 +1,7 @@
 -- The map of a problem's own skeleton changes nothing.
 use Rattle.std.proofs.Common.{◌≡◌, ℕ, zero, suc, ◌+◌, ◌⊎◌, inl, inr, false, List, [], ◌∷◌, Option, Some, None, refl, sym, ap, ◌∙◌, subst, arith, map}
 use Rattle.cp_lists.specs.Lists.{item_at}
-use Rattle.cp_model.specs.Term.{Sort, text_sort, datum_sort, name_sort, skey_sort, akey_sort, skey_variable, akey_variable, Term, atom_term, atom_of_variable, apply_to}
+use Rattle.cp_model.specs.Term.{Sort, text_sort, datum_sort, name_sort, skey_sort, akey_sort, skey_variable, akey_variable, Term, variable_term, apply_to}
 use Rattle.cp_model.specs.Identity.{unchanged}
 use Rattle.cp_model.specs.Strand.{Declaration}
 use Rattle.cp_model.specs.Skeleton.{Skeleton}
@@ -25,20 +25,20 @@ own_strands xs i = let e : 0 + i ≡ i = omega arith in subst (λ m. number_or m
 
 -- A place of the declared variables' terms holds the variable of that number, or nothing.
 variable_at : (n : ℕ) (ds : List Declaration) (i : ℕ) →
-    (item_at (variable_terms n ds) i ≡ None) ⊎ ((s : Sort) × (item_at (variable_terms n ds) i ≡ Some (atom_term (atom_of_variable (record { sort = s; number = n + i })))))
+    (item_at (variable_terms n ds) i ≡ None) ⊎ ((s : Sort) × (item_at (variable_terms n ds) i ≡ Some (variable_term (record { sort = s; number = n + i }))))
 variable_at n [] i = inl refl
 variable_at n (d ∷ ds) zero =
     let e : n ≡ n + zero = omega arith in
-    inr (d.sort, ap (λ m. Some (atom_term (atom_of_variable (record { sort = d.sort; number = m })))) e)
+    inr (d.sort, ap (λ m. Some (variable_term (record { sort = d.sort; number = m }))) e)
 variable_at n (d ∷ ds) (suc i) =
     let e : suc n + i ≡ n + suc i = omega arith in
-    subst (λ m. (item_at (variable_terms (suc n) ds) i ≡ None) ⊎ ((s : Sort) × (item_at (variable_terms (suc n) ds) i ≡ Some (atom_term (atom_of_variable (record { sort = s; number = m }))))))
+    subst (λ m. (item_at (variable_terms (suc n) ds) i ≡ None) ⊎ ((s : Sort) × (item_at (variable_terms (suc n) ds) i ≡ Some (variable_term (record { sort = s; number = m })))))
     e (variable_at (suc n) ds i)
 
 abbrev IsOwn : ℕ → Option Term → Type 0
 IsOwn n t = (text_in n t ≡ n) × (datum_in n t ≡ n) × (name_in n t ≡ n) × (skey_in n t ≡ skey_variable n) × (akey_in n t ≡ (false, akey_variable n))
 
-own_variable : (s : Sort) (n : ℕ) → IsOwn n (Some (atom_term (atom_of_variable (record { sort = s; number = n }))))
+own_variable : (s : Sort) (n : ℕ) → IsOwn n (Some (variable_term (record { sort = s; number = n })))
 own_variable text_sort n = (refl, refl, refl, refl, refl)
 own_variable datum_sort n = (refl, refl, refl, refl, refl)
 own_variable name_sort n = (refl, refl, refl, refl, refl)
@@ -48,12 +48,12 @@ own_variable akey_sort n = (refl, refl, refl, refl, refl)
 own_at : (ds : List Declaration) (n : ℕ) → IsOwn n (item_at (variable_terms 0 ds) n)
 own_at ds n = of (variable_at 0 ds n)
   where
-    of : (item_at (variable_terms 0 ds) n ≡ None) ⊎ ((s : Sort) × (item_at (variable_terms 0 ds) n ≡ Some (atom_term (atom_of_variable (record { sort = s; number = 0 + n }))))) →
+    of : (item_at (variable_terms 0 ds) n ≡ None) ⊎ ((s : Sort) × (item_at (variable_terms 0 ds) n ≡ Some (variable_term (record { sort = s; number = 0 + n })))) →
         IsOwn n (item_at (variable_terms 0 ds) n)
     of (inl e) = subst (IsOwn n) (sym e) (refl, refl, refl, refl, refl)
     of (inr p) =
         let z : 0 + n ≡ n = omega arith in
-        let e = p.1 ∙ ap (λ m. Some (atom_term (atom_of_variable (record { sort = p.0; number = m })))) z in
+        let e = p.1 ∙ ap (λ m. Some (variable_term (record { sort = p.0; number = m }))) z in
         subst (IsOwn n) (sym e) (own_variable p.0 n)
 
 -- The substitution by the declared variables themselves changes nothing.
@@ -72,7 +72,7 @@ itself own = record { strands = own.strands; values = own.values; closed = own.c
 
 -- It states itself.
 pub states_itself : {variables : List Declaration} {k : Skeleton} → IsPointOfView variables k → StatesItself variables k
-states_itself own = record { maps = itself own; assumed = own.assumed; pairs = own.pairs }
+states_itself own = record { maps = itself own; assumed = own.assumed; ordered = own.ordered }
 
 pub own_map : (variables : List Declaration) (k : Skeleton) → MapsToItself variables k → map_from_problem k ≡ same_map
 own_map variables k own =

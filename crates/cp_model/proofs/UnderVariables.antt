@@ -1,7 +1,7 @@
 -- The variables of terms under substitutions, and of what terms carry.
 use Rattle.std.proofs.Common.{ℕ, List, [], ◌∷◌, map, ⊎_elim}
 use Rattle.cp_lists.specs.Lists.{IsIn, here, there}
-use Rattle.cp_model.specs.Term.{name_sort, skey_sort, akey_sort, text_sort, datum_sort, Variable, SymmetricTerm, skey_variable, ltk_term, akey_variable, pubk_term, KeyTerm, symmetric_term, asymmetric_term, AtomTerm, text_variable, datum_variable, name_variable, key_term, atom_of_variable, Term, tag_term, atom_term, pair_term, enc_term, variables_of_symmetric, variables_of_key, variables_of_atom, variables_of, IsCarriedByTerm, itself_term, in_left_term, in_right_term, in_plaintext_term, Substitution, apply_to_symmetric, apply_to_key, apply_to_atom, apply_to}
+use Rattle.cp_model.specs.Term.{name_sort, skey_sort, akey_sort, text_sort, datum_sort, Variable, SymmetricTerm, skey_variable, ltk_term, akey_variable, pubk_term, KeyTerm, symmetric_term, asymmetric_term, AtomTerm, text_variable, datum_variable, name_variable, key_term, variable_term, Term, tag_term, atom_term, pair_term, enc_term, variables_of_symmetric, variables_of_key, variables_of_atom, variables_of, IsCarriedByTerm, itself_term, in_left_term, in_right_term, in_plaintext_term, Substitution, apply_to_symmetric, apply_to_key, apply_to_atom, apply_to}
 use Rattle.cp_model.specs.Strand.{Event, send, recv, payload, event_map, Role, prefix_of, variables_of_trace, Applies, AppliesAt}
 use Rattle.cp_lists.proofs.Members.{in_append, in_append_left, in_append_right}
 use Rattle.cp_lists.proofs.Items.{take_of_item}
@@ -10,7 +10,7 @@ use Rattle.cp_model.proofs.LawPrefixes.{in_trace as in_events}
 -- What holds of the variables of what a substitution gives the variables of a term holds of those of the term under it.
 module _ (P : Variable → Type 0) (s : Substitution) where
   abbrev Gives : Variable → Type 0
-  Gives x = (y : Variable) → IsIn y (variables_of_atom (apply_to_atom s (atom_of_variable x))) → P y
+  Gives x = (y : Variable) → IsIn y (variables_of (apply_to s (variable_term x))) → P y
 
   abbrev AllGive : List Variable → Type 0
   AllGive xs = (x : Variable) → IsIn x xs → Gives x

@@ -2,23 +2,17 @@
 -- of substitutions.
 use Rattle.std.specs.Prelude.{ℕ, List, map}
 use Rattle.cp_model.specs.Term.{Term}
-use Rattle.cp_model.specs.Strand.{Role}
+use Rattle.cp_model.specs.Strand.{Declaration, Role}
 use Rattle.cp_model.specs.declared.node.OrderPair.{OrderPair}
 use Rattle.cp_model.specs.declared.sort.Sort.{Sort}
 use Rattle.cp_model.specs.Skeleton.{Assumptions, FromProblem}
 
--- A variable that was made: the identifier that it is named after, and its sort. Its number is its place in the
--- table.
-pub record Declared : Type 0 where
-  pub root : List ℕ
-  pub sort : Sort
-
 -- The identifiers that the variables are named after.
-abbrev pub roots : List Declared → List (List ℕ)
-roots = map (λ d. d.root)
+abbrev pub roots : List Declaration → List (List ℕ)
+roots = map (λ d. d.identifier)
 
 -- The sorts of the variables.
-abbrev pub sorts : List Declared → List Sort
+abbrev pub sorts : List Declaration → List Sort
 sorts = map (λ d. d.sort)
 
 -- An instance of a role, of some height, with a term for each of the role's variables.
@@ -36,13 +30,13 @@ pub data StrandData : Type 0 where
 -- A skeleton with its table of variables, its strands, the pairs of its order, its assumptions, and the way from its
 -- problem.
 pub record SkeletonData : Type 0 where
-  pub variables : List Declared
+  pub variables : List Declaration
   pub strands : List StrandData
   pub order : List OrderPair
   pub assumptions : Assumptions
   pub from_problem : FromProblem
 
 -- The skeleton of these parts.
-abbrev pub skeleton_of : List Declared → List StrandData → List OrderPair → Assumptions → FromProblem → SkeletonData
+abbrev pub skeleton_of : List Declaration → List StrandData → List OrderPair → Assumptions → FromProblem → SkeletonData
 skeleton_of variables strands order assumptions from_problem =
     record { variables = variables; strands = strands; order = order; assumptions = assumptions; from_problem = from_problem }

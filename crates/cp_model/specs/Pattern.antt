@@ -10,8 +10,7 @@ pub record IsEncryption (t : Term) : Type 0 where
   pub key : KeyTerm
   pub encrypted : t ≡ enc_term body key
 
--- The term is an encryption, each local is a variable of it, and its variables with the same number have the same sort.
+-- The term is an encryption, and each local is a variable of it.
 pub record IsPattern (p : Pattern) : Type 0 where
   pub encryption : IsEncryption p.term
   pub locals_occur : (x : Variable) → IsIn x p.locals → IsIn x (variables_of p.term)
-  pub one_sort : (x y : Variable) → IsIn x (variables_of p.term) → IsIn y (variables_of p.term) → x.number ≡ y.number → x.sort ≡ y.sort

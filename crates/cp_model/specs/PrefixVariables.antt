@@ -1,7 +1,7 @@
 -- The variables of a role that occur in its prefixes, and terms for them.
 use Rattle.std.specs.Prelude.{◌≡◌, ◌&&◌, ℕ, suc, List, [], ◌∷◌, map, Bool, true, false, not}
 use Rattle.std.specs.List.{filter}
-use Rattle.cp_model.specs.Term.{Sort, text_sort, datum_sort, name_sort, skey_sort, akey_sort, Variable, symmetric_term, asymmetric_term, text_variable, datum_variable, name_variable, key_term, Term, atom_term, atom_of_variable, Substitution, apply_to_atom}
+use Rattle.cp_model.specs.Term.{Sort, text_sort, datum_sort, name_sort, skey_sort, akey_sort, Variable, symmetric_term, asymmetric_term, text_variable, datum_variable, name_variable, key_term, Term, atom_term, variable_term, Substitution, apply_to}
 use Rattle.cp_model.specs.Strand.{Declaration, Role, variables_of_prefix}
 use Rattle.cp_model.specs.Same.{has_variable}
 
@@ -40,4 +40,4 @@ AreTermsFor (x ∷ xs) [] = ⊥
 
 -- The terms that a substitution gives these variables.
 abbrev pub terms_of : Substitution → List Variable → List Term
-terms_of s = map (λ x. atom_term (apply_to_atom s (atom_of_variable x)))
+terms_of s = map (λ x. apply_to s (variable_term x))

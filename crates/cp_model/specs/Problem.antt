@@ -1,7 +1,7 @@
 -- The variables that occur in skeletons, and those that are declared.
 use Rattle.std.specs.Prelude.{◌≡◌, ℕ, suc, List, [], ◌∷◌, ◌++◌, Option, Some, None}
 use Rattle.cp_lists.specs.Lists.{item_at}
-use Rattle.cp_model.specs.Term.{Sort, Variable, AtomTerm, atom_of_variable, Term, atom_term, variables_of_atom, variables_of}
+use Rattle.cp_model.specs.Term.{Sort, Variable, AtomTerm, variable_term, Term, variables_of_atom, variables_of}
 use Rattle.cp_model.specs.Strand.{Declaration, variables_of_trace}
 use Rattle.cp_model.specs.Skeleton.{SkeletonStrand, skeleton_trace, UniqueAt, Assumptions, Skeleton}
 
@@ -37,7 +37,7 @@ numbers_from n (x ∷ xs) = n ∷ numbers_from (suc n) xs
 -- The declared variables as terms, the first of them having number n.
 abbrev pub variable_terms : ℕ → List Declaration → List Term
 variable_terms n [] = []
-variable_terms n (d ∷ ds) = atom_term (atom_of_variable (record { sort = d.sort; number = n })) ∷ variable_terms (suc n) ds
+variable_terms n (d ∷ ds) = variable_term (record { sort = d.sort; number = n }) ∷ variable_terms (suc n) ds
 
 abbrev pub declared_sort : Option Declaration → Option Sort
 declared_sort None = None

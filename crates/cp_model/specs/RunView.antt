@@ -7,20 +7,13 @@ use Rattle.cp_model.specs.Strand as strand
 use Rattle.cp_model.specs.Bundle as bundle
 use Rattle.cp_model.specs.Run as run
 use Rattle.cp_model.specs.declared.node.Node.{Node}
-use Rattle.cp_model.specs.declared.strand.Event.{Event}
-use Rattle.cp_model.specs.declared.strand.Event.TheVariants as events
 use Rattle.cp_model.specs.declared.strand.Strand.{Strand}
 use Rattle.cp_model.specs.declared.bundle.Run.{Run}
 use Rattle.cp_model.specs.declared.bundle.Bundle.{Bundle}
 
--- The event with its message as plain data.
-abbrev pub event_view : Event → strand.Event Message
-event_view (events.Send m) = strand.send m
-event_view (events.Receive m) = strand.recv m
-
 -- The trace of a strand.
 abbrev pub trace_view : Strand → List (strand.Event Message)
-trace_view s = map event_view s.events.items
+trace_view s = s.events.items
 
 -- The senders of a strand's events, one for each.
 abbrev pub row_view : {A : Type 0} → Vec (Option Node) A → List (Option Node)

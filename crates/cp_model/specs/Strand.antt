@@ -3,11 +3,11 @@ use Rattle.std.specs.Prelude.{◌≡◌, ℕ, ◌<◌, ◌≤◌, List, [], ◌�
 use Rattle.cp_lists.specs.Lists.{item_at, IsIn}
 use Rattle.cp_model.specs.Message.{Key, key, inverse, Atom, Message, tag, atom, pair, enc, IsCarriedBy}
 use Rattle.cp_model.specs.Term.{Sort, Variable, AtomTerm, Term, atom_term, IsCarriedByTerm, variables_of, variables_of_atom, Assignment, value_of}
-
+-- A declared variable; its number is its place in the list of declarations.
+pub use Rattle.cp_model.specs.declared.variable.Declaration.{Declaration}
 -- One event of a strand: a transmission or a reception.
-pub data Event (A : Type 0) : Type 0 where
-  send : A → Event A
-  recv : A → Event A
+pub use Rattle.cp_model.specs.declared.strand.Event.{Event}
+pub use Rattle.cp_model.specs.declared.strand.Event.TheVariants.{Send as send, Receive as recv}
 
 abbrev pub payload : {A : Type 0} → Event A → A
 payload (send m) = m
@@ -31,11 +31,6 @@ pub record OriginatesInTerms (trace : List (Event Term)) (v : Term) (i : ℕ) : 
   pub transmission : item_at trace i ≡ Some (send sent)
   pub carried : IsCarriedByTerm v sent
   pub first : (j : ℕ) (e : Event Term) → j < i → item_at trace j ≡ Some e → IsCarriedByTerm v (payload e) → ⊥
-
--- A declared variable; its number is its place in the list of declarations.
-pub record Declaration : Type 0 where
-  pub identifier : List ℕ
-  pub sort : Sort
 
 -- A role: its name, its variables, its events, and its assumptions, whose values are of atom sorts.
 pub record Role : Type 0 where

@@ -5,18 +5,10 @@
 use Rattle.std.specs.Prelude.{◌≡◌, ℕ, List, [], ◌∷◌, ◌++◌, Option, Bool, true, false, not}
 use Rattle.cp_lists.specs.Lists.{IsIn}
 use Rattle.cp_model.specs.Message.{SymmetricKey, skey, ltk, KeyPair, akey, pubk, Key, symmetric, asymmetric, Atom, text, datum, name, key, Message, tag, atom, pair, enc}
-
--- The sorts of atoms.
-pub data Sort : Type 0 where
-  text_sort : Sort
-  datum_sort : Sort
-  name_sort : Sort
-  skey_sort : Sort
-  akey_sort : Sort
-
-pub record Variable : Type 0 where
-  pub sort : Sort
-  pub number : ℕ
+-- The sorts of atoms, and variables: a sort and a number.
+pub use Rattle.cp_model.specs.declared.sort.Sort.{Sort}
+pub use Rattle.cp_model.specs.declared.sort.Sort.TheVariants.{Text as text_sort, Datum as datum_sort, Name as name_sort, Skey as skey_sort, Akey as akey_sort}
+pub use Rattle.cp_model.specs.declared.variable.Variable.{Variable}
 
 -- A term for a symmetric key: a variable of sort skey, or the long-term key of two variables of sort name.
 pub data SymmetricTerm : Type 0 where
@@ -50,7 +42,7 @@ abbrev pub inverse_term : KeyTerm → KeyTerm
 inverse_term (symmetric_term k) = symmetric_term k
 inverse_term (asymmetric_term flag k) = asymmetric_term (not flag) k
 
--- A variable as a term.
+-- A variable as a term of its sort.
 abbrev pub atom_of_variable : Variable → AtomTerm
 atom_of_variable x = elim x.sort [
   | text_sort ↦ text_variable x.number
@@ -59,6 +51,10 @@ atom_of_variable x = elim x.sort [
   | skey_sort ↦ key_term (symmetric_term (skey_variable x.number))
   | akey_sort ↦ key_term (asymmetric_term false (akey_variable x.number))
 ]
+
+-- A variable as a term.
+abbrev pub variable_term : Variable → Term
+variable_term x = atom_term (atom_of_variable x)
 
 -- The variables of a term, from left to right.
 abbrev pub variables_of_symmetric : SymmetricTerm → List Variable
@@ -186,11 +182,11 @@ composed s t = record {
 
 -- Two assignments give each of these variables the same value.
 abbrev pub AgreeOn : List Variable → Assignment → Assignment → Type 0
-AgreeOn xs g h = (x : Variable) → IsIn x xs → value_of_atom g (atom_of_variable x) ≡ value_of_atom h (atom_of_variable x)
+AgreeOn xs g h = (x : Variable) → IsIn x xs → value_of g (variable_term x) ≡ value_of h (variable_term x)
 
 -- Two substitutions give each of these variables the same term.
 abbrev pub AgreeOnTerms : List Variable → Substitution → Substitution → Type 0
-AgreeOnTerms xs s t = (x : Variable) → IsIn x xs → apply_to_atom s (atom_of_variable x) ≡ apply_to_atom t (atom_of_variable x)
+AgreeOnTerms xs s t = (x : Variable) → IsIn x xs → apply_to s (variable_term x) ≡ apply_to t (variable_term x)
 
 -- The assignment that gives each variable an atom with a number: a text, a datum, a name, an skey, or an akey
 -- that is no inverse.

@@ -9,31 +9,17 @@ use Rattle.cp_model.specs.Derivable.{IsUnrealised}
 use Rattle.cp_model.specs.Standing.{IsRealised}
 use Rattle.cp_model.specs.Homomorphism.{CarriesHomomorphism, Embeds, IsCompleteList}
 use Rattle.cp_model.specs.Stated.{KeepsStated}
-
+use Rattle.cp_model.specs.declared.tree.Test as tests
 -- How a label was made: from the problem itself, by a collapse (each strand's lowest equal), by one of the steps
 -- that an authentication test allows, or by generalising.
-pub data Operation : Type 0 where
-  by_problem : Operation
-  by_collapse : List ℕ → Operation
-  by_contraction : Node → Operation
-  by_displacement : Node → Operation
-  by_added_strand : ℕ → Operation
-  by_added_listener : ℕ → Operation
-  by_generalising : Operation
-
--- What a leaf is.
-pub data Mark : Type 0 where
-  shape : Mark
-  dead : Mark
-  seen : ℕ → Mark
-  instance_of : ℕ → Mark
-  limit_steps : Mark
-  limit_strands : Mark
-
-pub data Outcome : Type 0 where
-  complete : Outcome
-  at_step_limit : Outcome
-  at_strand_limit : Outcome
+pub use Rattle.cp_model.specs.declared.tree.Operation.{Operation}
+pub use Rattle.cp_model.specs.declared.tree.Operation.TheVariants.{Problem as by_problem, Collapsed as by_collapse, Contracted as by_contraction, Displaced as by_displacement, AddedStrand as by_added_strand, AddedListener as by_added_listener, Generalised as by_generalising}
+-- What a leaf is, how a search ended, and its limits: the step limit, and the bound on the number of strands.
+pub use Rattle.cp_model.specs.declared.tree.Mark.{Mark}
+pub use Rattle.cp_model.specs.declared.tree.Mark.TheVariants.{Shape as shape, Dead as dead, Seen as seen, InstanceOf as instance_of, LimitSteps as limit_steps, LimitStrands as limit_strands}
+pub use Rattle.cp_model.specs.declared.tree.Outcome.{Outcome}
+pub use Rattle.cp_model.specs.declared.tree.Outcome.TheVariants.{Complete as complete, LimitSteps as at_step_limit, LimitStrands as at_strand_limit}
+pub use Rattle.cp_model.specs.declared.tree.Limits.{Limits}
 
 -- An encryption whose local variables stand for any atom of their sort.
 pub record Pattern : Type 0 where
@@ -41,9 +27,8 @@ pub record Pattern : Type 0 where
   pub locals : List Variable
 
 -- An authentication test: a reception, and the component of its message that cannot be derived.
-pub record Test : Type 0 where
-  pub node : Node
-  pub critical : Term
+abbrev pub Test : Type 0
+Test = tests.Test Term
 
 -- One label of a tree. Its variables are numbered in the order in which they were made; the list has for each
 -- the identifier that it is named after, and its sort.
@@ -61,11 +46,6 @@ pub record Label : Type 0 where
 pub record Tree : Type 0 where
   pub labels : List Label
   pub outcome : Outcome
-
--- The step limit, and the bound on the number of strands.
-pub record Limits : Type 0 where
-  pub steps : ℕ
-  pub strands : ℕ
 
 abbrev pub is_expanded : Option Test → ℕ
 is_expanded None = 0

@@ -1,6 +1,7 @@
-//! The definitions of messages, strands, bundles and skeletons, and their laws; messages, runs and bundles as values. The
-//! definitions take up those of S. Doghmi, J. Guttman, F. Thayer, Searching for Shapes in Cryptographic Protocols, TACAS 2007,
-//! and of the CPSA Primer and Specification; `docs/DECISIONS.md` tells which choice is made where these leave one.
+//! The definitions of messages, strands, bundles and skeletons, and their laws; as values, messages, events, runs and bundles,
+//! variables, lists of nodes and of numbers, and the operations, tests, marks, outcomes and limits of trees. The definitions
+//! take up those of S. Doghmi, J. Guttman, F. Thayer, Searching for Shapes in Cryptographic Protocols, TACAS 2007, and of the
+//! CPSA Primer and Specification; `docs/DECISIONS.md` tells which choice is made where these leave one.
 //!
 //! Every call that returns `AllocError` fails only when memory runs out.
 #![tactic(auto)]
@@ -8,6 +9,7 @@
 mod bundle;
 mod key;
 mod laws;
+mod lists;
 mod message;
 mod message_parts;
 mod node;
@@ -17,6 +19,8 @@ mod single;
 mod sort;
 mod step;
 mod strand;
+mod tree;
+mod variable;
 
 pub use bundle::{Bundle, Run};
 pub use key::Key;
@@ -24,6 +28,7 @@ pub use laws::{
     before_is_leading_to_another, embeddings_compose, embeds_in_itself, homomorphism_then_standing,
     origin_at_or_before, run_makes_a_bundle, value_after_substitution,
 };
+pub use lists::{Nodes, Numbers};
 pub use message::Msg;
 pub use node::{Node, OrderPair};
 pub use origin::origin_before;
@@ -35,3 +40,5 @@ pub use single::{
 pub use sort::Sort;
 pub use step::Step;
 pub use strand::{Event, Strand};
+pub use tree::{Limits, Mark, Operation, Outcome, Test};
+pub use variable::{Declaration, Variable, has_variable};

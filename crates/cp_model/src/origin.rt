@@ -3,7 +3,7 @@ ghost use Rattle.std.specs.Prelude.{◌≡◌, ◌⊎◌, map, Some};
 ghost use Rattle.cp_model.specs.Message.{Message, IsCarriedBy};
 ghost use Rattle.cp_model.specs.Strand.{Event as PlainEvent, payload, Protocol};
 ghost use Rattle.cp_model.specs.Bundle.{Bundle as PlainBundle, event_at, OriginatesAt, Precedes, IsBundle};
-ghost use Rattle.cp_model.specs.RunView.{event_view, trace_view, StandsForBundle};
+ghost use Rattle.cp_model.specs.RunView.{trace_view, StandsForBundle};
 ghost use Rattle.cp_model.specs.FirstCarriers.{IsFirstCarrying, CarriesAt, IsFirstOnStrand};
 
 use crate::bundle::Bundle;
@@ -12,11 +12,11 @@ use crate::node::Node;
 use crate::strand::{Event, Strand};
 
 /// The index of the first event that carries the message.
-fn first_carrying(events: &[Event], message: &Msg) -> Option<usize>
-    ensures { IsFirstCarrying message.now (map event_view events.now) result }
+fn first_carrying(events: &[Event<Msg>], message: &Msg) -> Option<usize>
+    ensures { IsFirstCarrying message.now events.now result }
 {
     for (place, event) in events.iter().enumerate() {
-        if event.message().carries(message) {
+        if event.payload().carries(message) {
             return Some(place);
         }
     }

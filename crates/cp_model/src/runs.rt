@@ -3,7 +3,7 @@ ghost use Rattle.std.specs.Prelude.{◌≡◌, ◌↔◌, map, Some, IsTrue, IfO
 ghost use Rattle.cp_model.specs.Strand.{Protocol};
 ghost use Rattle.cp_model.specs.Bundle.{Bundle as PlainBundle, AreOfProtocol, IsBundle};
 ghost use Rattle.cp_model.specs.Run.{Run as PlainRun, IsRun, IsBundleOf};
-ghost use Rattle.cp_model.specs.RunView.{event_view, trace_view, StandsForRun, StandsForBundle, run_along, row_view};
+ghost use Rattle.cp_model.specs.RunView.{trace_view, StandsForRun, StandsForBundle, run_along, row_view};
 ghost use Rattle.cp_model.specs.Senders.{IsFirst, ArePaired, Sends, IsSenderOf, AreSendersOf};
 
 use crate::bundle::{Bundle, Run, event_at};
@@ -35,8 +35,8 @@ fn first_sender(strands: &[Strand], nodes: &[Node], message: &Msg) -> Option<Nod
 }
 
 /// The sender to which an event is linked.
-fn sender_of(strands: &[Strand], nodes: &[Node], event: &Event) -> Option<Node>
-    ensures { IsSenderOf (map trace_view strands.now) nodes.now (event_view event.now) result }
+fn sender_of(strands: &[Strand], nodes: &[Node], event: &Event<Msg>) -> Option<Node>
+    ensures { IsSenderOf (map trace_view strands.now) nodes.now event.now result }
 {
     match event {
         Event::Send(_) => None,
@@ -49,9 +49,9 @@ fn senders_on(
     alloc: Global,
     strands: &[Strand],
     nodes: &[Node],
-    events: &[Event],
+    events: &[Event<Msg>],
 ) -> Result<Vec<Option<Node>>, AllocError>
-    ensures { IfOk result (λ row. AreSendersOf (map trace_view strands.now) nodes.now (map event_view events.now) row.items) }
+    ensures { IfOk result (λ row. AreSendersOf (map trace_view strands.now) nodes.now events.now row.items) }
 {
     let mut row = Vec::new(alloc);
     for event in events {

@@ -5,7 +5,7 @@ ghost use Rattle.cp_model.specs.Example.{example_protocol, example_role, example
 ghost use Rattle.cp_model.specs.Homomorphism.{CarriesHomomorphism, IsCompleteList};
 ghost use Rattle.cp_model.specs.PointOfView.{IsPointOfView, MapsToItself, StatesItself};
 ghost use Rattle.cp_model.specs.Single.{IsOneSendingStrand};
-ghost use Rattle.cp_model.specs.Skeleton.{IsSkeleton, Skeleton, instance};
+ghost use Rattle.cp_model.specs.Skeleton.{Skeleton, instance};
 ghost use Rattle.cp_model.specs.Standing.{IsRealised};
 ghost use Rattle.cp_model.specs.Stated.{KeepsStated};
 ghost use Rattle.cp_model.specs.Strand.{Declaration, Protocol, Role};
@@ -30,7 +30,7 @@ pub fn skeleton_maps_from_itself()
 
 /// A skeleton that is its own problem keeps what it states.
 pub fn skeleton_keeps_what_it_states()
-    ensures { (protocol : Protocol) (variables : List Declaration) (k : Skeleton) → IsSkeleton protocol k → StatesItself variables k → KeepsStated k k }
+    ensures { (variables : List Declaration) (k : Skeleton) → StatesItself variables k → KeepsStated k k }
 {}
 
 /// An example that meets the premises of the laws above: an instance of a role that sends a text under a public key.

@@ -1,38 +1,40 @@
 // Events and strands.
 ghost use Rattle.std.specs.Prelude.{◌≡◌, map, IfOk};
 ghost use Rattle.cp_model.specs.Strand.{payload};
-ghost use Rattle.cp_model.specs.RunView.{event_view, trace_view};
+ghost use Rattle.cp_model.specs.RunView.{trace_view};
 
 use crate::message::Msg;
 use std::alloc::{AllocError, Global};
 
 /// One event of a strand: a transmission or a reception of a message.
 #[derive(Drop)]
-pub enum Event {
-    Send(Msg),
-    Receive(Msg),
+pub enum Event<M: Drop> {
+    Send(M),
+    Receive(M),
 }
 
 /// A strand of a run or a bundle: its events, in order. It does not record its role, nor its kind if it is a penetrator strand.
 #[derive(Drop)]
 pub struct Strand {
-    pub events: Vec<Event>,
+    pub events: Vec<Event<Msg>>,
 }
 
-impl Event {
+impl<M: Drop> Event<M> {
     /// The message that is sent or received.
-    pub fn message(&self) -> &Msg
-        ensures { result.now ≡ payload (event_view self.now) }
+    pub fn payload(&self) -> &M
+        ensures { result.now ≡ payload self.now }
     {
         match self {
             Event::Send(message) => message,
             Event::Receive(message) => message,
         }
     }
+}
 
+impl Event<Msg> {
     /// A copy of the event.
-    pub fn copy(&self) -> Result<Event, AllocError>
-        ensures { IfOk result (λ e. event_view e ≡ event_view self.now) }
+    pub fn copy(&self) -> Result<Event<Msg>, AllocError>
+        ensures { IfOk result (λ e. e ≡ self.now) }
     {
         match self {
             Event::Send(message) => Ok(Event::Send(message.copy()?)),
@@ -41,8 +43,8 @@ impl Event {
     }
 }
 
-fn copy_events(alloc: Global, events: &[Event]) -> Result<Vec<Event>, AllocError>
-    ensures { IfOk result (λ v. map event_view v.items ≡ map event_view events.now) }
+fn copy_events(alloc: Global, events: &[Event<Msg>]) -> Result<Vec<Event<Msg>>, AllocError>
+    ensures { IfOk result (λ v. v.items ≡ events.now) }
 {
     let mut copies = Vec::new(alloc);
     for event in events {

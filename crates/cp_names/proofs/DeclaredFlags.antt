@@ -4,8 +4,8 @@ use Rattle.std.proofs.lemmas.Grind.{get_or-set_at}
 use Rattle.std.proofs.lemmas.Bool.Decides.{eqb_tells}
 use Rattle.cp_lists.specs.Lists.{item_at}
 use Rattle.cp_lists.proofs.Items.{item_below, item_past}
-use Rattle.cp_model.specs.Term.{Variable}
-use Rattle.cp_model.specs.Strand.{Declaration}
+use Rattle.cp_model.specs.declared.variable.Variable.{Variable}
+use Rattle.cp_model.specs.declared.variable.Declaration.{Declaration}
 use Rattle.cp_model.specs.Same.{same_sort, has_variable}
 use Rattle.cp_language.specs.Printed.{variable}
 use Rattle.cp_names.specs.Flags.{is_declared_of_sort, met_variable, met_variables, AreFlagsAmong}

@@ -3,7 +3,7 @@ use Rattle.std.proofs.Common.{◌≡◌, ℕ, ◌<◌, ◌||◌, List, [], ◌�
 use Rattle.std.specs.Prelude.{set}
 use Rattle.std.proofs.lemmas.Bool.Decides.{eqb_tells}
 use Rattle.std.proofs.lemmas.List.{length-set, get_or-set_same, get_or-set_other, length-replicate, get_or-replicate}
-use Rattle.cp_model.specs.Term.{Variable}
+use Rattle.cp_model.specs.declared.variable.Variable.{Variable}
 use Rattle.cp_language.specs.Names.{has_number}
 use Rattle.cp_names.specs.Flags.{flagged_variables, AreFlagsOf}
 

@@ -1,7 +1,7 @@
 -- The names of flagged variables are those of the variables that occur.
 use Rattle.std.proofs.Common.{◌≡◌, ℕ, zero, suc, ◌+◌, ◌<◌, ◌≤◌, List, [], ◌∷◌, ◌++◌, length, get_or, Bool, true, false, refl, ap, ◌∙◌, arith, add-one, if◌then◌else◌, drop}
-use Rattle.cp_model.specs.Term.{Variable}
-use Rattle.cp_model.specs.Strand.{Declaration}
+use Rattle.cp_model.specs.declared.variable.Variable.{Variable}
+use Rattle.cp_model.specs.declared.variable.Declaration.{Declaration}
 use Rattle.cp_language.specs.Names.{free_name, behind, has_number, later_names, label_names}
 use Rattle.cp_names.specs.Flags.{AreFlagsOf, later_names_by, label_names_by}
 

@@ -1,8 +1,8 @@
 -- The flags of the variables of a prefix.
 use Rattle.std.proofs.Common.{◌≡◌, ℕ, List, length, Bool, false, replicate, ap, ap₂, ◌∙◌, Vec}
 use Rattle.std.specs.Prelude.{Result, Ok, Err, IfOk}
-use Rattle.cp_model.specs.Term.{Variable}
-use Rattle.cp_model.specs.Strand.{Declaration}
+use Rattle.cp_model.specs.declared.variable.Variable.{Variable}
+use Rattle.cp_model.specs.declared.variable.Declaration.{Declaration}
 use Rattle.cp_names.specs.Flags.{met_variables, AreFlagsAmong}
 use Rattle.cp_names.proofs.DeclaredFlags.{among_mean}
 

@@ -1,7 +1,9 @@
 -- Variables that the printer meets.
 use Rattle.std.specs.Prelude.{List, [], map}
-use Rattle.cp_model.specs.Term.{Variable, Term, tag_term, atom_term, pair_term, enc_term, variables_of_atom, apply_to}
-use Rattle.cp_model.specs.Strand.{Event, event_map, variables_of_trace}
+use Rattle.cp_model.specs.Term.{Term, tag_term, atom_term, pair_term, enc_term, variables_of_atom, apply_to}
+use Rattle.cp_model.specs.declared.variable.Variable.{Variable}
+use Rattle.cp_model.specs.Strand.{event_map, variables_of_trace}
+use Rattle.cp_model.specs.declared.strand.Event.{Event}
 use Rattle.cp_model.specs.Homomorphism.{substitution_by}
 
 -- The variables of an atom; of a tag there are none, and of any other term it says nothing.

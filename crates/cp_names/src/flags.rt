@@ -1,10 +1,8 @@
 // Flags for the variables that occur.
-ghost use Rattle.std.specs.Prelude.{◌≡◌, map, length, get_or, replicate, false, IfOk};
+ghost use Rattle.std.specs.Prelude.{◌≡◌, length, get_or, replicate, false, IfOk};
 ghost use Rattle.cp_model.specs.Same.{same_sort};
 ghost use Rattle.cp_model.specs.Strand.{variables_of_prefix};
-ghost use Rattle.cp_strand.specs.View.{sort_view, declaration_view};
 ghost use Rattle.cp_lists.specs.Lists.{item_at};
-ghost use Rattle.cp_scope.specs.Terms.{variable_view};
 ghost use Rattle.cp_names.specs.Flags.{flagged_variables, is_declared_of_sort, met_variables, AreFlagsAmong};
 
 use crate::occurrences::add_events;
@@ -15,7 +13,7 @@ use std::alloc::{AllocError, Global};
 
 /// Whether the sorts are the same.
 pub fn is_same_sort(first: Sort, second: Sort) -> bool
-    ensures { result ≡ same_sort (sort_view first) (sort_view second) }
+    ensures { result ≡ same_sort first second }
 {
     first == second
 }
@@ -26,7 +24,7 @@ pub(crate) fn flags_of(
     count: usize,
     variables: &[Variable],
 ) -> Result<Vec<bool>, AllocError>
-    ensures { IfOk result (λ flags. flags.items ≡ flagged_variables (map variable_view variables.now) (replicate count false)) }
+    ensures { IfOk result (λ flags. flags.items ≡ flagged_variables variables.now (replicate count false)) }
 {
     let mut flags = vec![in alloc; false; count]?;
     for variable in variables {
@@ -40,7 +38,7 @@ pub(crate) fn flags_of(
 
 /// Whether the declared variable with this number is of this sort.
 fn is_declared(declared: &[Declaration], variable: Variable) -> bool
-    ensures { result ≡ is_declared_of_sort (item_at (map declaration_view declared.now) variable.number) (sort_view variable.sort) }
+    ensures { result ≡ is_declared_of_sort (item_at declared.now variable.number) variable.sort }
 {
     variable.number < declared.len() && is_same_sort(variable.sort, declared[variable.number].sort)
 }
@@ -52,7 +50,7 @@ fn flags_among(
     declared: &[Declaration],
     variables: &[Variable],
 ) -> Result<Vec<bool>, AllocError>
-    ensures { IfOk result (λ flags. flags.items ≡ met_variables (map declaration_view declared.now) (map variable_view variables.now) (replicate (length declared.now) false)) }
+    ensures { IfOk result (λ flags. flags.items ≡ met_variables declared.now variables.now (replicate (length declared.now) false)) }
 {
     let mut flags = vec![in alloc; false; declared.len()]?;
     for variable in variables {

@@ -1,10 +1,8 @@
 // The variables of a label: which of them occur, and what each is called.
-ghost use Rattle.std.specs.Prelude.{◌≡◌, ◌++◌, length, map, option_map, IfOk, OnOk};
+ghost use Rattle.std.specs.Prelude.{◌≡◌, ◌++◌, length, IfOk, OnOk};
 ghost use Rattle.cp_language.specs.Names.{label_names};
 ghost use Rattle.cp_language.specs.Report.{variables_of_test, occurring};
-ghost use Rattle.cp_scope.specs.Terms.{variable_view};
-ghost use Rattle.cp_strand.specs.View.{declaration_view};
-ghost use Rattle.cp_skel.specs.Trees.{test_view, label_view};
+ghost use Rattle.cp_skel.specs.Trees.{label_view};
 ghost use Rattle.cp_names.specs.Flags.{AreFlagsOf};
 
 use crate::flags::flags_of;
@@ -18,10 +16,10 @@ use std::alloc::{AllocError, Global};
 
 /// Appends the variables of a test.
 fn add_test_variables(test: &Option<Test>, out: &mut Vec<Variable>) -> Result<(), AllocError>
-    ensures { OnOk result (map variable_view out.new.items ≡ map variable_view out.old.items ++ variables_of_test (option_map test_view test.now)) }
+    ensures { OnOk result (out.new.items ≡ out.old.items ++ variables_of_test test.now) }
 {
     match test {
-        Some(test) => add_term(&test.term, out),
+        Some(test) => add_term(&test.critical, out),
         None => Ok(()),
     }
 }
@@ -31,7 +29,7 @@ const ROOM: usize = 60;
 
 /// The variables that occur in a label form.
 fn occurring(alloc: Global, label: &TreeNode) -> Result<Vec<Variable>, AllocError>
-    ensures { IfOk result (λ xs. map variable_view xs.items ≡ occurring (label_view label.now)) }
+    ensures { IfOk result (λ xs. xs.items ≡ occurring (label_view label.now)) }
 {
     let skeleton = &label.skeleton;
     let mut variables = Vec::with_capacity(alloc, ROOM)?;
@@ -39,7 +37,7 @@ fn occurring(alloc: Global, label: &TreeNode) -> Result<Vec<Variable>, AllocErro
     add_assumptions(skeleton.assumptions(), &mut variables)?;
     add_terms(skeleton.from_problem().values(), &mut variables)?;
     add_test_variables(&label.test, &mut variables)?;
-    add_patterns(alloc, &label.patterns, &mut variables)?;
+    add_patterns(alloc, label.patterns.as_slice(), &mut variables)?;
     Ok(variables)
 }
 
@@ -57,7 +55,7 @@ pub fn variables_of_label(
     of_problem: &[Text],
     label: &TreeNode,
 ) -> Result<LabelVariables, AllocError>
-    ensures declared { IfOk result (λ xs. map declaration_view xs.declared.items ≡ (label_view label.now).variables) }
+    ensures declared { IfOk result (λ xs. xs.declared.items ≡ (label_view label.now).variables) }
     ensures flags { IfOk result (λ xs. AreFlagsOf (occurring (label_view label.now)) (length (label_view label.now).variables) xs.flags.items) }
     ensures names { IfOk result (λ xs. xs.names.items ≡ label_names of_problem.now (occurring (label_view label.now)) (label_view label.now).variables) }
 {

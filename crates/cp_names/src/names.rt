@@ -1,8 +1,6 @@
 // The names of variables in a report.
-ghost use Rattle.std.specs.Prelude.{◌≡◌, ◌++◌, [], ◌∷◌, map, IfOk, OnOk, if◌then◌else◌};
+ghost use Rattle.std.specs.Prelude.{◌≡◌, ◌++◌, [], ◌∷◌, IfOk, OnOk, if◌then◌else◌};
 ghost use Rattle.cp_language.specs.Names.{numbered_name, free_name, identifiers_in, names_onto, problem_names};
-ghost use Rattle.cp_strand.specs.View.{declaration_view};
-ghost use Rattle.cp_skel.specs.Trees.{variables_view};
 ghost use Rattle.cp_names.specs.Flags.{label_names_by};
 
 use crate::flags::is_flagged;
@@ -14,7 +12,7 @@ use std::alloc::{AllocError, Global};
 
 /// The variables of a table with their identifiers and sorts.
 pub(crate) fn declarations(alloc: Global, table: &VarTable) -> Result<Vec<Declaration>, AllocError>
-    ensures { IfOk result (λ ds. map declaration_view ds.items ≡ variables_view table.now) }
+    ensures { IfOk result (λ ds. ds.items ≡ table.now) }
 {
     let mut declarations = Vec::with_capacity(alloc, table.len())?;
     for number in 0..table.len() {
@@ -73,8 +71,8 @@ fn give(alloc: Global, name: Text, names: &mut Names) -> Result<(), AllocError>
 
 /// The identifiers of these variables, all of which are taken.
 fn identifiers(alloc: Global, variables: &[Declaration]) -> Result<Names, AllocError>
-    ensures taken { IfOk result (λ names. names.taken ≡ identifiers_in (map declaration_view variables.now)) }
-    ensures names { IfOk result (λ names. names.names.items ≡ identifiers_in (map declaration_view variables.now)) }
+    ensures taken { IfOk result (λ names. names.taken ≡ identifiers_in variables.now) }
+    ensures names { IfOk result (λ names. names.names.items ≡ identifiers_in variables.now) }
 {
     let mut names = Names {
         taken: NameSet::new(alloc),
@@ -93,7 +91,7 @@ fn names_in_order(
     declared: usize,
     variables: &[Declaration],
 ) -> Result<Vec<Text>, AllocError>
-    ensures { IfOk result (λ names. names.items ≡ problem_names declared (map declaration_view variables.now)) }
+    ensures { IfOk result (λ names. names.items ≡ problem_names declared variables.now) }
 {
     let (kept, others) = variables.split_at(declared.min(variables.len()));
     let mut names = identifiers(alloc, kept)?;
@@ -110,7 +108,7 @@ pub fn problem_names(
     declared: usize,
     table: &VarTable,
 ) -> Result<Vec<Text>, AllocError>
-    ensures { IfOk result (λ names. names.items ≡ problem_names declared (variables_view table.now)) }
+    ensures { IfOk result (λ names. names.items ≡ problem_names declared table.now) }
 {
     let variables = declarations(alloc, table)?;
     names_in_order(alloc, declared, &variables)
@@ -161,7 +159,7 @@ pub(crate) fn label_names(
     flags: &[bool],
     variables: &[Declaration],
 ) -> Result<Vec<Text>, AllocError>
-    ensures { IfOk result (λ names. names.items ≡ label_names_by of_problem.now flags.now (map declaration_view variables.now)) }
+    ensures { IfOk result (λ names. names.items ≡ label_names_by of_problem.now flags.now variables.now) }
 {
     let mut names = copied(alloc, of_problem)?;
     for number in of_problem.len()..variables.len() {

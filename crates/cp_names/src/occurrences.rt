@@ -5,9 +5,9 @@ ghost use Rattle.cp_language.specs.Report.{variables_of_terms};
 ghost use Rattle.cp_model.specs.Problem.{variables_of_atoms, variables_of_uniques, variables_of_assumptions, variables_of_strands};
 ghost use Rattle.cp_model.specs.Skeleton.{skeleton_trace};
 ghost use Rattle.cp_model.specs.Strand.{variables_of_trace};
-ghost use Rattle.cp_model.specs.Term.{name_sort, variables_of, variables_of_atom};
-ghost use Rattle.cp_strand.specs.View.{sort_view, event_view, strand_view};
-ghost use Rattle.cp_scope.specs.Terms.{variable_view};
+ghost use Rattle.cp_model.specs.Term.{variables_of, variables_of_atom};
+ghost use Rattle.cp_model.specs.declared.sort.Sort.TheVariants.{Name as name_sort};
+ghost use Rattle.cp_strand.specs.View.{strand_view};
 ghost use Rattle.cp_names.specs.Variables.{variables_of_leaf, variables_of_instance};
 
 use cp_scope::Variable;
@@ -17,7 +17,7 @@ use cp_term::{Shape, Sort, Term, VarId};
 use std::alloc::{AllocError, Global};
 
 fn add(sort: Sort, id: VarId, out: &mut Vec<Variable>) -> Result<(), AllocError>
-    ensures { OnOk result (map variable_view out.new.items ≡ map variable_view out.old.items ++ variable (sort_view sort) id ∷ []) }
+    ensures { OnOk result (out.new.items ≡ out.old.items ++ variable sort id ∷ []) }
 {
     let number = id.number();
     out.push(Variable { sort, number })?;
@@ -25,7 +25,7 @@ fn add(sort: Sort, id: VarId, out: &mut Vec<Variable>) -> Result<(), AllocError>
 }
 
 fn add_names(a: VarId, b: VarId, out: &mut Vec<Variable>) -> Result<(), AllocError>
-    ensures { OnOk result (map variable_view out.new.items ≡ map variable_view out.old.items ++ variable name_sort a ∷ variable name_sort b ∷ []) }
+    ensures { OnOk result (out.new.items ≡ out.old.items ++ variable name_sort a ∷ variable name_sort b ∷ []) }
 {
     add(Sort::Name, a, out)?;
     add(Sort::Name, b, out)
@@ -33,7 +33,7 @@ fn add_names(a: VarId, b: VarId, out: &mut Vec<Variable>) -> Result<(), AllocErr
 
 /// Appends the variables of an atom; a tag has none.
 fn add_leaf(term: &Term, out: &mut Vec<Variable>) -> Result<(), AllocError>
-    ensures { OnOk result (map variable_view out.new.items ≡ map variable_view out.old.items ++ variables_of_leaf term.now) }
+    ensures { OnOk result (out.new.items ≡ out.old.items ++ variables_of_leaf term.now) }
 {
     match term.shape() {
         Shape::Variable(id, sort) => add(sort, id, out),
@@ -46,7 +46,7 @@ fn add_leaf(term: &Term, out: &mut Vec<Variable>) -> Result<(), AllocError>
 
 /// Appends the variables of a term, from left to right.
 pub(crate) fn add_term(term: &Term, out: &mut Vec<Variable>) -> Result<(), AllocError>
-    ensures { OnOk result (map variable_view out.new.items ≡ map variable_view out.old.items ++ variables_of term.now) }
+    ensures { OnOk result (out.new.items ≡ out.old.items ++ variables_of term.now) }
 {
     let mut rest = term;
     loop {
@@ -70,7 +70,7 @@ pub(crate) fn add_term(term: &Term, out: &mut Vec<Variable>) -> Result<(), Alloc
 
 /// Appends the variables of these terms.
 pub(crate) fn add_terms(terms: &[Term], out: &mut Vec<Variable>) -> Result<(), AllocError>
-    ensures { OnOk result (map variable_view out.new.items ≡ map variable_view out.old.items ++ variables_of_terms terms.now) }
+    ensures { OnOk result (out.new.items ≡ out.old.items ++ variables_of_terms terms.now) }
 {
     for term in terms {
         add_term(term, out)?;
@@ -80,7 +80,7 @@ pub(crate) fn add_terms(terms: &[Term], out: &mut Vec<Variable>) -> Result<(), A
 
 /// Appends the variables of these events.
 pub(crate) fn add_events(events: &[Event], out: &mut Vec<Variable>) -> Result<(), AllocError>
-    ensures { OnOk result (map variable_view out.new.items ≡ map variable_view out.old.items ++ variables_of_trace (map event_view events.now)) }
+    ensures { OnOk result (out.new.items ≡ out.old.items ++ variables_of_trace events.now) }
 {
     for event in events {
         add_term(event.payload(), out)?;
@@ -95,7 +95,7 @@ fn add_instance(
     events: &[Event],
     out: &mut Vec<Variable>,
 ) -> Result<(), AllocError>
-    ensures { OnOk result (map variable_view out.new.items ≡ map variable_view out.old.items ++ variables_of_instance values.now (map event_view events.now)) }
+    ensures { OnOk result (out.new.items ≡ out.old.items ++ variables_of_instance values.now events.now) }
 {
     for event in events {
         let message = applied(alloc, values, event.payload())?;
@@ -105,7 +105,7 @@ fn add_instance(
 }
 
 fn add_strand(alloc: Global, strand: &Strand, out: &mut Vec<Variable>) -> Result<(), AllocError>
-    ensures { OnOk result (map variable_view out.new.items ≡ map variable_view out.old.items ++ variables_of_trace (skeleton_trace (strand_view strand.now))) }
+    ensures { OnOk result (out.new.items ≡ out.old.items ++ variables_of_trace (skeleton_trace (strand_view strand.now))) }
 {
     match strand.shape() {
         StrandShape::Instance(instance) => {
@@ -125,7 +125,7 @@ pub(crate) fn add_strands(
     strands: &[Strand],
     out: &mut Vec<Variable>,
 ) -> Result<(), AllocError>
-    ensures { OnOk result (map variable_view out.new.items ≡ map variable_view out.old.items ++ variables_of_strands (map strand_view strands.now)) }
+    ensures { OnOk result (out.new.items ≡ out.old.items ++ variables_of_strands (map strand_view strands.now)) }
 {
     for strand in strands {
         add_strand(alloc, strand, out)?;
@@ -134,13 +134,13 @@ pub(crate) fn add_strands(
 }
 
 fn add_atom(atom: &Atom, out: &mut Vec<Variable>) -> Result<(), AllocError>
-    ensures { OnOk result (map variable_view out.new.items ≡ map variable_view out.old.items ++ variables_of_atom atom.now) }
+    ensures { OnOk result (out.new.items ≡ out.old.items ++ variables_of_atom atom.now) }
 {
     add_leaf(atom.as_term(), out)
 }
 
 fn add_atoms(atoms: &[Atom], out: &mut Vec<Variable>) -> Result<(), AllocError>
-    ensures { OnOk result (map variable_view out.new.items ≡ map variable_view out.old.items ++ variables_of_atoms atoms.now) }
+    ensures { OnOk result (out.new.items ≡ out.old.items ++ variables_of_atoms atoms.now) }
 {
     for atom in atoms {
         add_atom(atom, out)?;
@@ -149,7 +149,7 @@ fn add_atoms(atoms: &[Atom], out: &mut Vec<Variable>) -> Result<(), AllocError>
 }
 
 fn add_uniques(uniques: &[UniqueAt], out: &mut Vec<Variable>) -> Result<(), AllocError>
-    ensures { OnOk result (map variable_view out.new.items ≡ map variable_view out.old.items ++ variables_of_uniques uniques.now) }
+    ensures { OnOk result (out.new.items ≡ out.old.items ++ variables_of_uniques uniques.now) }
 {
     for unique in uniques {
         add_atom(unique.value(), out)?;
@@ -162,7 +162,7 @@ pub(crate) fn add_assumptions(
     assumptions: &Assumptions,
     out: &mut Vec<Variable>,
 ) -> Result<(), AllocError>
-    ensures { OnOk result (map variable_view out.new.items ≡ map variable_view out.old.items ++ variables_of_assumptions assumptions.now) }
+    ensures { OnOk result (out.new.items ≡ out.old.items ++ variables_of_assumptions assumptions.now) }
 {
     add_atoms(assumptions.non_originating(), out)?;
     add_atoms(assumptions.penetrator_non_originating(), out)?;

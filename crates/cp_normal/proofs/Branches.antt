@@ -1,7 +1,6 @@
 -- The branches of a skeleton in which a unique value is misplaced lose no standing.
 use Rattle.std.proofs.Common.{◌≡◌, ◌⊎◌, inl, inr, List, sym}
-use Rattle.cp_model.specs.Message.{atom}
-use Rattle.cp_model.specs.Term.{Variable, AtomTerm, atom_of_variable, atom_term, value_of_atom, after, Assignment, Substitution}
+use Rattle.cp_model.specs.Term.{AtomTerm, value_of_atom, Assignment, Substitution, variable_term}
 use Rattle.cp_model.specs.Strand.{Protocol}
 use Rattle.cp_model.specs.Bundle.{Bundle}
 use Rattle.cp_model.specs.declared.node.Node.{Node}
@@ -17,10 +16,7 @@ use Rattle.cp_collapse.proofs.SameStandings.{same_stands, same_apart, same_facto
 
 -- An assignment that gives two atoms one value solves every skeleton by their most general unifier.
 solution_of : (k : Skeleton) (a b : AtomTerm) (s : Substitution) (g : Assignment) → IsMostGeneralFor a b s → value_of_atom g a ≡ value_of_atom g b → IsSolution g s k
-solution_of k a b s g m e =
-    let same : (x : Variable) → value_of_atom (after g s) (atom_of_variable x) ≡ value_of_atom g (atom_of_variable x) =
-    λ x. let p : atom (value_of_atom (after g s) (atom_of_variable x)) ≡ atom (value_of_atom g (atom_of_variable x)) = m.general g e (atom_term (atom_of_variable x)) in cc in
-    record { inside = λ x i. same x; of_problem = λ x i. same x }
+solution_of k a b s g m e = record { inside = λ x i. m.general g e (variable_term x); of_problem = λ x i. m.general g e (variable_term x) }
 
 heard_at : (k : Skeleton) (g : Assignment) (v : AtomTerm) (x : Node) (h : IsHeardBefore k g v x) → IsReceivedBefore k h.heard x
 heard_at k g v x h = record { index = h.index; earlier = h.earlier; received = h.received; reception = h.reception; carried = h.carried }

@@ -3,7 +3,8 @@ use Rattle.std.proofs.Common.{◌≡◌, inl, List, [], ◌∷◌, map, refl, sy
 use Rattle.cp_lists.specs.Lists.{IsIn, one_step}
 use Rattle.cp_model.specs.Term.{Term, Assignment, value_of, after, Substitution, apply_to, composed}
 use Rattle.cp_model.specs.Identity.{unchanged}
-use Rattle.cp_model.specs.Strand.{send, recv, Protocol}
+use Rattle.cp_model.specs.Strand.{Protocol}
+use Rattle.cp_model.specs.declared.strand.Event.TheVariants.{Send as send, Receive as recv}
 use Rattle.cp_model.specs.Bundle.{node_at, Bundle, IsBundle}
 use Rattle.cp_model.specs.Skeleton.{FromProblem, Skeleton, along_pair, IsSkeleton}
 use Rattle.cp_model.specs.declared.node.OrderPair.{OrderPair}

@@ -1,7 +1,7 @@
 -- With the pairs that are added, a cycle of the order is one that such a pair closes.
 use Rattle.std.proofs.Common.{◌≡◌, ◌⊎◌, inl, inr, List, Some, refl, sym, subst, ap, arith}
 use Rattle.cp_lists.specs.Lists.{IsIn, one_step, more_steps}
-use Rattle.cp_model.specs.Strand.{send}
+use Rattle.cp_model.specs.declared.strand.Event.TheVariants.{Send as send}
 use Rattle.cp_model.specs.declared.node.Node.{Node}
 use Rattle.cp_model.specs.Skeleton.{UniqueAt, Skeleton, OrderStep, along_strand_of, along_pair, Before, IsOrderPair, IsOrigin, IsNodeOf, term_event_at}
 use Rattle.cp_model.specs.declared.node.OrderPair.{OrderPair}

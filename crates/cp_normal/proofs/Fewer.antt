@@ -2,7 +2,7 @@
 use Rattle.std.proofs.Common.{◌≡◌, ◌<◌, List, [], ◌++◌, sym, subst}
 use Rattle.cp_lists.specs.Lists.{IsIn}
 use Rattle.cp_model.specs.Term.{AtomTerm, atom_term, IsCarriedByTerm, variables_of_atom}
-use Rattle.cp_model.specs.Strand.{recv}
+use Rattle.cp_model.specs.declared.strand.Event.TheVariants.{Receive as recv}
 use Rattle.cp_model.specs.Bundle.{node_at}
 use Rattle.cp_model.specs.declared.node.Node.{Node}
 use Rattle.cp_model.specs.Skeleton.{skeleton_trace, UniqueAt, Skeleton}

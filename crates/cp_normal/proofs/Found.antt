@@ -1,48 +1,47 @@
 -- What is found among the events of a skeleton is there.
-use Rattle.std.proofs.Common.{ℕ, List, [], map, ◌≡◌, ◌↔◌, ◌⊎◌, inl, inr, Option, Some, None, true, refl, sym, ap, subst, ◌∙◌}
+use Rattle.std.proofs.Common.{ℕ, List, [], ◌≡◌, ◌↔◌, ◌⊎◌, inl, inr, Option, Some, None, true, refl, sym, ap, subst, ◌∙◌}
 use Rattle.cp_lists.specs.Lists.{item_at, IsIn}
 use Rattle.cp_model.specs.Term.{AtomTerm}
-use Rattle.cp_model.specs.Strand.{send, recv}
+use Rattle.cp_model.specs.declared.strand.Event.TheVariants.{Send as send, Receive as recv}
 use Rattle.cp_model.specs.Bundle.{node_at}
 use Rattle.cp_model.specs.declared.node.Node.{Node}
 use Rattle.cp_model.specs.Skeleton.{SkeletonStrand, instance, listener, skeleton_trace_or_none, term_event_at, UniqueAt, Skeleton}
 use Rattle.cp_model.specs.declared.node.OrderPair.{OrderPair}
 use Rattle.cp_model.specs.Derivable.{IsOnInstance}
 use Rattle.cp_model.specs.Realisation.{OriginatesAtTerm}
-use Rattle.cp_skel.specs.Events.{LocatedEvent, located_event_view, events_of}
+use Rattle.cp_skel.specs.Events.{events_of}
+use Rattle.cp_skel.specs.declared.events.LocatedEvent.{LocatedEvent}
 use Rattle.cp_collapse.specs.Property.{Has}
 use Rattle.cp_normal.specs.Events.{Gathers, CarriesOne, HasOtherOrigin, IsSentAtOrigin, IsCarriedBefore, IsPairBetween}
 use Rattle.cp_collapse.specs.Partitions.{is_some_instance}
 use Rattle.cp_normal.specs.Findings.{CarriesNonOriginating, HasTwoOrigins, LosesOrigin, IsAddedPair}
-use Rattle.cp_skel.specs.declared.events.LocatedEvent as program
 use Rattle.cp_skel.proofs.EventLists.{listed_event, located_event_at, listed_at}
-use Rattle.cp_collapse.proofs.ItemsWithProperty.{of_views, to_views}
 
-module _ (k : Skeleton) (all read : List program.LocatedEvent) (listed : map located_event_view all ≡ events_of k) (is_read : read ≡ all) where
-  the_events : map located_event_view read ≡ events_of k
-  the_events = ap (map located_event_view) is_read ∙ listed
+module _ (k : Skeleton) (all read : List LocatedEvent) (listed : all ≡ events_of k) (is_read : read ≡ all) where
+  the_events : read ≡ events_of k
+  the_events = is_read ∙ listed
 
   -- An event with a property is among those that are listed.
-  pub listed_has : (has : LocatedEvent → Type 0) → Has (λ o. has (located_event_view o)) read → Has has (events_of k)
-  listed_has has h = subst (Has has) the_events (of_views located_event_view has read h)
+  pub listed_has : (has : LocatedEvent → Type 0) → Has has read → Has has (events_of k)
+  listed_has has h = subst (Has has) the_events h
 
-  pub has_listed : (has : LocatedEvent → Type 0) → Has has (events_of k) → Has (λ o. has (located_event_view o)) read
-  has_listed has h = to_views located_event_view has read (subst (Has has) (sym the_events) h)
+  pub has_listed : (has : LocatedEvent → Type 0) → Has has (events_of k) → Has has read
+  has_listed has h = subst (Has has) (sym the_events) h
 
   module _ (values : List AtomTerm) (are_non : values ≡ k.assumptions.non_originating) where
-    pub carries_if_found : Has (λ o. CarriesOne values (located_event_view o)) read → CarriesNonOriginating k
+    pub carries_if_found : Has (CarriesOne values) read → CarriesNonOriginating k
     carries_if_found h =
         let r : Has (CarriesOne values) (events_of k) = listed_has (CarriesOne values) h in
         record { value = r.2.0; listed = subst (IsIn r.2.0) are_non r.2.1; node = r.0.node; carried = record { event = r.0.event; there = listed_event k r.0 r.1; carried = r.2.2 } }
 
-    pub found_if_carries : CarriesNonOriginating k → Has (λ o. CarriesOne values (located_event_view o)) read
+    pub found_if_carries : CarriesNonOriginating k → Has (CarriesOne values) read
     found_if_carries c =
         has_listed (CarriesOne values)
         (located_event_at k c.node c.carried.event, listed_at k c.node c.carried.event c.carried.there, (c.value, subst (IsIn c.value) (sym are_non) c.listed, c.carried.carried))
 
   -- ---- origins
 
-  pub originates_if_found : (u : UniqueAt) → IsOnInstance k u.origin → Has (λ o. IsSentAtOrigin u (located_event_view o)) read → (Has (λ o. IsCarriedBefore u (located_event_view o)) read → ⊥) → OriginatesAtTerm k u.value u.origin
+  pub originates_if_found : (u : UniqueAt) → IsOnInstance k u.origin → Has (IsSentAtOrigin u) read → (Has (IsCarriedBefore u) read → ⊥) → OriginatesAtTerm k u.value u.origin
   originates_if_found u on sent not =
       let r : Has (IsSentAtOrigin u) (events_of k) = listed_has (IsSentAtOrigin u) sent in
       let at : term_event_at k.strands r.0.node ≡ Some r.0.event = listed_event k r.0 r.1 in (
@@ -56,11 +55,11 @@ module _ (k : Skeleton) (all read : List program.LocatedEvent) (listed : map loc
         },
       )
 
-  pub sent_if_originates : (u : UniqueAt) → OriginatesAtTerm k u.value u.origin → Has (λ o. IsSentAtOrigin u (located_event_view o)) read
+  pub sent_if_originates : (u : UniqueAt) → OriginatesAtTerm k u.value u.origin → Has (IsSentAtOrigin u) read
   sent_if_originates u or =
       has_listed (IsSentAtOrigin u) (located_event_at k u.origin (send or.1.sent), listed_at k u.origin (send or.1.sent) or.1.transmission, (or.1.sent, refl, or.1.carried, refl))
 
-  pub not_before_if_originates : (u : UniqueAt) → OriginatesAtTerm k u.value u.origin → Has (λ o. IsCarriedBefore u (located_event_view o)) read → ⊥
+  pub not_before_if_originates : (u : UniqueAt) → OriginatesAtTerm k u.value u.origin → Has (IsCarriedBefore u) read → ⊥
   not_before_if_originates u or before =
       let r : Has (IsCarriedBefore u) (events_of k) = listed_has (IsCarriedBefore u) before in
       let at : term_event_at k.strands r.0.node ≡ Some r.0.event = listed_event k r.0 r.1 in
@@ -108,10 +107,10 @@ module _ (k : Skeleton) (all read : List UniqueAt) (are_uniques : all ≡ k.assu
 
 -- ---- pairs
 
-module _ (k : Skeleton) (all read : List program.LocatedEvent) (listed : map located_event_view all ≡ events_of k) (is_read : read ≡ all) (entries read_entries : List UniqueAt)
+module _ (k : Skeleton) (all read : List LocatedEvent) (listed : all ≡ events_of k) (is_read : read ≡ all) (entries read_entries : List UniqueAt)
     (are_uniques : entries ≡ k.assumptions.uniquely_originating) (entries_read : read_entries ≡ entries) where
   abbrev AreGiven : OrderPair → Type 0
-  AreGiven p = Has (λ o. Has (λ u. IsPairBetween (located_event_view o) u p) read_entries) read
+  AreGiven p = Has (λ o. Has (λ u. IsPairBetween o u p) read_entries) read
 
   pub added_if_given : (p : OrderPair) → AreGiven p → IsAddedPair k p
   added_if_given p h =
@@ -145,5 +144,5 @@ module _ (k : Skeleton) (all read : List program.LocatedEvent) (listed : map loc
   none_first p old e (inl h) = elim (subst (IsIn p) e h) [ ]
   none_first p old e (inr h) = h
 
-  pub added_exactly : (old new : List OrderPair) → old ≡ [] → Gathers (λ o p. Has (λ u. IsPairBetween (located_event_view o) u p) read_entries) read old new → (p : OrderPair) → IsIn p new ↔ IsAddedPair k p
+  pub added_exactly : (old new : List OrderPair) → old ≡ [] → Gathers (λ o p. Has (λ u. IsPairBetween o u p) read_entries) read old new → (p : OrderPair) → IsIn p new ↔ IsAddedPair k p
   added_exactly old new e gathers p = (λ h. added_if_given p (none_first p old e ((gathers p).0 h)), λ a. (gathers p).1 (inr (given_if_added p a)))

@@ -1,19 +1,20 @@
 -- The atoms that receptions carry, each once.
-use Rattle.std.proofs.Common.{◌≡◌, ◌⊎◌, inl, inr, ℕ, zero, suc, ◌+◌, ◌<◌, ◌≤◌, ◌==◌, ◌&&◌, nat_lt, if◌then◌else◌, Bool, true, false, List, [], ◌∷◌, ◌++◌, map, length, get_or, take, drop, Some, refl, sym, ap, ◌∙◌, subst, arith, append_assoc, add-one}
+use Rattle.std.proofs.Common.{◌≡◌, ◌⊎◌, inl, inr, ℕ, zero, suc, ◌+◌, ◌<◌, ◌≤◌, ◌==◌, ◌&&◌, nat_lt, if◌then◌else◌, Bool, true, false, List, [], ◌∷◌, ◌++◌, length, get_or, take, drop, Some, refl, sym, ap, ◌∙◌, subst, arith, append_assoc, add-one}
 use Rattle.std.proofs.Math.Seq.{drop-cons}
 use Rattle.std.proofs.lemmas.List.{append-nil, drop_all}
 use Rattle.cp_lists.specs.Lists.{item_at, IsIn, here}
 use Rattle.cp_lists.proofs.Members.{only_item, in_append, in_append_left, in_append_right}
 use Rattle.cp_lists.proofs.Fronts.{none_taken}
 use Rattle.cp_model.specs.Term.{AtomTerm, Term, tag_term, atom_term, pair_term, enc_term, IsCarriedByTerm, itself_term, in_left_term, in_right_term, in_plaintext_term}
-use Rattle.cp_model.specs.Strand.{Event, send, recv}
+use Rattle.cp_model.specs.declared.strand.Event.{Event}
+use Rattle.cp_model.specs.declared.strand.Event.TheVariants.{Send as send, Receive as recv}
 use Rattle.cp_model.specs.Bundle.{node_at}
 use Rattle.cp_model.specs.declared.node.Node.{Node}
 use Rattle.cp_model.specs.Skeleton.{SkeletonStrand, skeleton_trace, skeleton_trace_or_none, Skeleton}
 use Rattle.cp_model.specs.Given.{atoms_onto}
 use Rattle.cp_model.proofs.Gathered.{onto-append, onto-takes, onto-only, atoms as gathering}
-use Rattle.cp_skel.specs.Events.{LocatedEvent, located_event_view, is_role_strand, located_events_on, located_events_from, events_of}
-use Rattle.cp_skel.specs.declared.events.LocatedEvent as program
+use Rattle.cp_skel.specs.Events.{is_role_strand, located_events_on, located_events_from, events_of}
+use Rattle.cp_skel.specs.declared.events.LocatedEvent.{LocatedEvent}
 use Rattle.cp_normal.specs.ReceivedAtomLists.{carried_atoms, received_atoms, heard_in, heard_before, heard_of, heard_among}
 use Rattle.cp_normal.specs.NormalForms.{IsReceivedBefore}
 
@@ -24,17 +25,17 @@ pair_step old new whole rest l r e n inv =
     ap (λ xs. atoms_onto xs (carried_atoms r)) n ∙ sym (onto-append gathering old (carried_atoms l) (carried_atoms r)) ∙ sym (ap (λ t. atoms_onto old (carried_atoms t)) e) ∙ inv
 
 -- the next event, and what is left behind it
-pub heard_next : (x : Node) (os : List program.LocatedEvent) (i : ℕ) (o : program.LocatedEvent) (old new whole : List AtomTerm) → i < length os → o ≡ get_or os i o →
-    new ≡ atoms_onto old (heard_of x (located_event_view o)) → atoms_onto old (heard_among x (map located_event_view (drop i os))) ≡ whole → atoms_onto new (heard_among x (map located_event_view (drop (i + 1) os))) ≡ whole
+pub heard_next : (x : Node) (os : List LocatedEvent) (i : ℕ) (o : LocatedEvent) (old new whole : List AtomTerm) → i < length os → o ≡ get_or os i o →
+    new ≡ atoms_onto old (heard_of x o) → atoms_onto old (heard_among x (drop i os)) ≡ whole → atoms_onto new (heard_among x (drop (i + 1) os)) ≡ whole
 heard_next x os i o old new whole l is made inv =
-    let rest : List AtomTerm = heard_among x (map located_event_view (drop (suc i) os)) in
-    let step : heard_among x (map located_event_view (drop i os)) ≡ heard_of x (located_event_view o) ++ rest =
-    ap (λ xs. heard_among x (map located_event_view xs)) (drop-cons os i o l) ∙ ap (λ (y : program.LocatedEvent). heard_of x (located_event_view y) ++ rest) (sym is) in
+    let rest : List AtomTerm = heard_among x (drop (suc i) os) in
+    let step : heard_among x (drop i os) ≡ heard_of x o ++ rest =
+    ap (heard_among x) (drop-cons os i o l) ∙ ap (λ (y : LocatedEvent). heard_of x y ++ rest) (sym is) in
     rw add-one
-    (ap (λ xs. atoms_onto xs rest) made ∙ sym (onto-append gathering old (heard_of x (located_event_view o)) rest) ∙ ap (atoms_onto old) (sym step) ∙ inv)
+    (ap (λ xs. atoms_onto xs rest) made ∙ sym (onto-append gathering old (heard_of x o) rest) ∙ ap (atoms_onto old) (sym step) ∙ inv)
 
-pub heard_end : (x : Node) (os : List program.LocatedEvent) (i : ℕ) (atoms whole : List AtomTerm) → length os ≤ i → atoms_onto atoms (heard_among x (map located_event_view (drop i os))) ≡ whole → atoms ≡ whole
-heard_end x os i atoms whole l inv = sym (ap (λ xs. atoms_onto atoms (heard_among x (map located_event_view xs))) (drop_all i os l)) ∙ inv
+pub heard_end : (x : Node) (os : List LocatedEvent) (i : ℕ) (atoms whole : List AtomTerm) → length os ≤ i → atoms_onto atoms (heard_among x (drop i os)) ≡ whole → atoms ≡ whole
+heard_end x os i atoms whole l inv = sym (ap (λ (xs : List LocatedEvent). atoms_onto atoms (heard_among x xs)) (drop_all i os l)) ∙ inv
 
 -- ---- among the events of a skeleton
 

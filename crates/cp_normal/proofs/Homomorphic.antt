@@ -2,7 +2,8 @@
 use Rattle.std.proofs.Common.{◌≡◌, ℕ, List, map, sym, ◌∙◌, subst, inl}
 use Rattle.cp_lists.specs.Lists.{IsIn}
 use Rattle.cp_model.specs.Term.{Substitution, apply_to, apply_to_atom}
-use Rattle.cp_model.specs.Strand.{Role, Declaration}
+use Rattle.cp_model.specs.Strand.{Role}
+use Rattle.cp_model.specs.declared.variable.Declaration.{Declaration}
 use Rattle.cp_model.specs.Skeleton.{Assumptions, FromProblem, Skeleton}
 use Rattle.cp_model.specs.Homomorphism.{SkeletonMap, mapped, GoesToInstance, IsHomomorphism, substitution_by, strand_in, map_from_problem, CarriesHomomorphism}
 use Rattle.cp_model.specs.PointOfView.{MapsToItself}

@@ -1,65 +1,57 @@
 -- The first of the unique values that are misplaced.
-use Rattle.std.proofs.Common.{Bool, ◌≡◌, ◌⊎◌, inl, inr, ℕ, zero, suc, ◌+◌, ◌<◌, ◌≤◌, List, [], ◌∷◌, length, get_or, map, Some, sym, ap, ◌∙◌, subst, arith}
-use Rattle.std.proofs.lemmas.List.{get_or_default, map-id}
+use Rattle.std.proofs.Common.{Bool, ◌≡◌, ◌⊎◌, inl, inr, ℕ, zero, suc, ◌+◌, ◌<◌, ◌≤◌, List, [], ◌∷◌, length, get_or, Some, None, sym, ap, ◌∙◌, subst, arith}
+use Rattle.std.proofs.lemmas.List.{get_or_default}
 use Rattle.cp_lists.specs.Lists.{item_at, IsIn}
-use Rattle.cp_lists.proofs.Items.{place_of, map_of_read, past_end, at_append}
-use Rattle.cp_lists.proofs.Members.{item_is_in, into_map}
+use Rattle.cp_lists.proofs.Items.{place_of, item_of_read, item_past, at_append}
+use Rattle.cp_lists.proofs.Members.{item_is_in}
 use Rattle.cp_model.specs.Term.{AtomTerm, Term, atom_term, IsCarriedByTerm}
-use Rattle.cp_model.specs.Strand.{Event, send, payload}
+use Rattle.cp_model.specs.Strand.{payload}
+use Rattle.cp_model.specs.declared.strand.Event.{Event}
+use Rattle.cp_model.specs.declared.strand.Event.TheVariants.{Send as send}
 use Rattle.cp_model.specs.Bundle.{node_at}
 use Rattle.cp_model.specs.declared.node.Node.{Node}
 use Rattle.cp_model.specs.Given.{listed}
 use Rattle.cp_model.specs.Skeleton.{SkeletonStrand, skeleton_trace, term_event_at, UniqueAt, Skeleton}
-use Rattle.cp_skel.specs.Deletion.{as_it_is}
 use Rattle.cp_skel.proofs.EachOnce.{listed-unique}
 use Rattle.cp_skel.proofs.EventLists.{listed_event, located_event_at, listed_at}
-use Rattle.cp_skel.specs.Events.{LocatedEvent, is_role_strand, located_events_on, located_events_from, events_of}
+use Rattle.cp_skel.specs.Events.{is_role_strand, located_events_on, located_events_from, events_of}
+use Rattle.cp_skel.specs.declared.events.LocatedEvent.{LocatedEvent}
 use Rattle.cp_normal.specs.NormalForms.{IsMisplaced}
 use Rattle.cp_normal.specs.Branches.{IsSettled}
 use Rattle.cp_normal.specs.MisplacedValues.{OriginatesElsewhere, OriginatesMisplaced, NoneBefore, IsFirstMisplacedAt, IsEarlier, IsFirstMisplaced}
 
 -- ---- loops that find the first
 
-pub viewed_at : {A B : Type 0} (f : A → B) (xs : List A) (i : ℕ) (x d : A) → i < length xs → x ≡ get_or xs i d → item_at (map f xs) i ≡ Some (f x)
-viewed_at f xs i x d l e = map_of_read f xs i x l (e ∙ get_or_default xs i d x l)
+read_at : {A : Type 0} (xs : List A) (i : ℕ) (x d : A) → i < length xs → x ≡ get_or xs i d → item_at xs i ≡ Some x
+read_at xs i x d l e = item_of_read xs i x l (e ∙ get_or_default xs i d x l)
 
-module _ {A B : Type 0} (has : B → Type 0) (f : A → B) (xs : List A) (i : ℕ) where
-  pub none_at_first : NoneBefore has (map f xs) 0
+module _ {A : Type 0} (has : A → Type 0) (xs : List A) (i : ℕ) where
+  pub none_at_first : NoneBefore has xs 0
   none_at_first j x l e h = omega arith
 
   split : (j : ℕ) → j < i + 1 → (j < i) ⊎ (j ≡ i)
   split j l = grind arith
 
-  none_next_at : (x d : A) (j : ℕ) (y : B) → i < length xs → x ≡ get_or xs i d → (has (f x) → ⊥) → NoneBefore has (map f xs) i → (j < i) ⊎ (j ≡ i) → item_at (map f xs) j ≡ Some y → has y → ⊥
+  none_next_at : (x d : A) (j : ℕ) (y : A) → i < length xs → x ≡ get_or xs i d → (has x → ⊥) → NoneBefore has xs i → (j < i) ⊎ (j ≡ i) → item_at xs j ≡ Some y → has y → ⊥
   none_next_at x d j y l e not inv (inl m) at h = inv j y m at h
   none_next_at x d j y l e not inv (inr q) at h =
-      let s : item_at (map f xs) i ≡ Some y = subst (λ n. item_at (map f xs) n ≡ Some y) q at in
-      let t : item_at (map f xs) i ≡ Some (f x) = viewed_at f xs i x d l e in
-      let r : y ≡ f x = cc in
+      let s : item_at xs i ≡ Some y = subst (λ n. item_at xs n ≡ Some y) q at in
+      let t : item_at xs i ≡ Some x = read_at xs i x d l e in
+      let r : y ≡ x = cc in
       not (subst has r h)
 
-  pub none_next : (x d : A) → i < length xs → x ≡ get_or xs i d → (has (f x) → ⊥) → NoneBefore has (map f xs) i → NoneBefore has (map f xs) (i + 1)
+  pub none_next : (x d : A) → i < length xs → x ≡ get_or xs i d → (has x → ⊥) → NoneBefore has xs i → NoneBefore has xs (i + 1)
   none_next x d l e not inv j y m at h = none_next_at x d j y l e not inv (split j m) at h
 
   before_or_past : (j : ℕ) → length xs ≤ i → (j < i) ⊎ (length xs ≤ j)
   before_or_past j l = grind arith
 
-  none_of : (y : B) (j : ℕ) → NoneBefore has (map f xs) i → (j < i) ⊎ (length xs ≤ j) → item_at (map f xs) j ≡ Some y → has y → ⊥
+  none_of : (y : A) (j : ℕ) → NoneBefore has xs i → (j < i) ⊎ (length xs ≤ j) → item_at xs j ≡ Some y → has y → ⊥
   none_of y j inv (inl m) at h = inv j y m at h
-  none_of y j inv (inr m) at h = past_end f xs j y m at
+  none_of y j inv (inr m) at h = let past : item_at xs j ≡ None = item_past xs j m in cc
 
-  pub none_at_all : length xs ≤ i → NoneBefore has (map f xs) i → (y : B) → IsIn y (map f xs) → has y → ⊥
+  pub none_at_all : length xs ≤ i → NoneBefore has xs i → (y : A) → IsIn y xs → has y → ⊥
   none_at_all l inv y m h = let r = place_of m in none_of y r.0 inv (before_or_past r.0 l) r.1 h
-
-module _ {B : Type 0} (has : B → Type 0) (xs : List B) (i : ℕ) where
-  shown : NoneBefore has xs i → NoneBefore has (map as_it_is xs) i
-  shown = subst (λ (ys : List B). NoneBefore has ys i) (sym (map-id xs))
-
-  pub none_next_of : (x d : B) → i < length xs → x ≡ get_or xs i d → (has x → ⊥) → NoneBefore has xs i → NoneBefore has xs (i + 1)
-  none_next_of x d l e not inv = subst (λ (ys : List B). NoneBefore has ys (i + 1)) (map-id xs) (none_next has as_it_is xs i x d l e not (shown inv))
-
-  pub none_of_all : length xs ≤ i → NoneBefore has xs i → (y : B) → IsIn y xs → has y → ⊥
-  none_of_all l inv = subst (λ (ys : List B). (y : B) → IsIn y ys → has y → ⊥) (map-id xs) (none_at_all has as_it_is xs i l (shown inv))
 
 -- ---- one event
 
@@ -71,7 +63,7 @@ not_carried k o u inside not s =
     not (subst (λ (e : Event Term). IsCarriedByTerm (atom_term u.value) (payload e)) same s.1.1.carried)
 
 pub first_found : (k : Skeleton) (x : Node) (us : List UniqueAt) (i : ℕ) (u d : UniqueAt) (v : AtomTerm) → i < length us → u ≡ get_or us i d → OriginatesElsewhere k x u → u.value ≡ v → NoneBefore (OriginatesElsewhere k x) us i → IsFirstMisplacedAt k x us v
-first_found k x us i u d v l e s q inv = record { place = i; entry = u; at_place = subst (λ (ws : List UniqueAt). item_at ws i ≡ Some u) (map-id us) (viewed_at as_it_is us i u d l e); originates_elsewhere = s; is_value = q; first = inv }
+first_found k x us i u d v l e s q inv = record { place = i; entry = u; at_place = read_at us i u d l e; originates_elsewhere = s; is_value = q; first = inv }
 
 pub none_of_entries : (k : Skeleton) (o : LocatedEvent) (us : List UniqueAt) → us ≡ (listed k).uniquely_originating → ((u : UniqueAt) → IsIn u us → OriginatesElsewhere k o.node u → ⊥) → OriginatesMisplaced k o → ⊥
 none_of_entries k o us same none h = none h.0 (subst (IsIn h.0) (sym same) (((listed-unique k).same h.0).1 h.1)) h.2
@@ -131,28 +123,28 @@ in_order s (x ∷ xs) i j o p earlier a b =
 
 -- ---- all events
 
-module _ {A : Type 0} (f : A → LocatedEvent) (k : Skeleton) (xs : List A) (events : map f xs ≡ events_of k) where
-  misplaced_listed : (u : UniqueAt) (y : Node) (misplaced : IsMisplaced k u y) → IsIn (located_event_at k y (send misplaced.originates.1.sent)) (map f xs)
+module _ (k : Skeleton) (xs : List LocatedEvent) (events : xs ≡ events_of k) where
+  misplaced_listed : (u : UniqueAt) (y : Node) (misplaced : IsMisplaced k u y) → IsIn (located_event_at k y (send misplaced.originates.1.sent)) xs
   misplaced_listed u y misplaced = subst (IsIn (located_event_at k y (send misplaced.originates.1.sent))) (sym events) (listed_at k y (send misplaced.originates.1.sent) misplaced.originates.1.transmission)
 
-  pub none_is_misplaced : (i : ℕ) → length xs ≤ i → NoneBefore (OriginatesMisplaced k) (map f xs) i → IsSettled k
+  pub none_is_misplaced : (i : ℕ) → length xs ≤ i → NoneBefore (OriginatesMisplaced k) xs i → IsSettled k
   none_is_misplaced i l inv u y misplaced =
-      none_at_all (OriginatesMisplaced k) f xs i l inv (located_event_at k y (send misplaced.originates.1.sent)) (misplaced_listed u y misplaced) (u, misplaced.listed, (misplaced.elsewhere, misplaced.originates))
+      none_at_all (OriginatesMisplaced k) xs i l inv (located_event_at k y (send misplaced.originates.1.sent)) (misplaced_listed u y misplaced) (u, misplaced.listed, (misplaced.elsewhere, misplaced.originates))
 
-  pub event_listed : (i : ℕ) (x : A) → i < length xs → x ≡ get_or xs i x → IsIn (f x) (events_of k)
-  event_listed i x l e = subst (IsIn (f x)) events (into_map f (item_is_in xs i x l e))
+  pub event_listed : (i : ℕ) (x : LocatedEvent) → i < length xs → x ≡ get_or xs i x → IsIn x (events_of k)
+  event_listed i x l e = subst (IsIn x) events (item_is_in xs i x l e)
 
-  pub earliest_found : (i : ℕ) (x d : A) → i < length xs → x ≡ get_or xs i d → NoneBefore (OriginatesMisplaced k) (map f xs) i → (u : UniqueAt) (y : Node) → IsMisplaced k u y → IsEarlier y (f x).node → ⊥
+  pub earliest_found : (i : ℕ) (x d : LocatedEvent) → i < length xs → x ≡ get_or xs i d → NoneBefore (OriginatesMisplaced k) xs i → (u : UniqueAt) (y : Node) → IsMisplaced k u y → IsEarlier y x.node → ⊥
   earliest_found i x d l e inv u y misplaced earlier =
       let o : LocatedEvent = located_event_at k y (send misplaced.originates.1.sent) in
       let r = place_of (misplaced_listed u y misplaced) in
       let at_o : item_at (events_of k) r.0 ≡ Some o = subst (λ (os : List LocatedEvent). item_at os r.0 ≡ Some o) events r.1 in
-      let at_x : item_at (events_of k) i ≡ Some (f x) = subst (λ (os : List LocatedEvent). item_at os i ≡ Some (f x)) events (viewed_at f xs i x d l e) in
-      inv r.0 o (in_order 0 k.strands i r.0 (f x) o earlier at_x at_o) r.1 (u, misplaced.listed, (misplaced.elsewhere, misplaced.originates))
+      let at_x : item_at (events_of k) i ≡ Some x = subst (λ (os : List LocatedEvent). item_at os i ≡ Some x) events (read_at xs i x d l e) in
+      inv r.0 o (in_order 0 k.strands i r.0 x o earlier at_x at_o) r.1 (u, misplaced.listed, (misplaced.elsewhere, misplaced.originates))
 
-  pub first_misplaced_found : (i : ℕ) (x d : A) (v : AtomTerm) (us : List UniqueAt) → us ≡ (listed k).uniquely_originating → i < length xs → x ≡ get_or xs i d → NoneBefore (OriginatesMisplaced k) (map f xs) i →
-      IsFirstMisplacedAt k (f x).node us v → IsFirstMisplaced k v (f x).node
+  pub first_misplaced_found : (i : ℕ) (x d : LocatedEvent) (v : AtomTerm) (us : List UniqueAt) → us ≡ (listed k).uniquely_originating → i < length xs → x ≡ get_or xs i d → NoneBefore (OriginatesMisplaced k) xs i →
+      IsFirstMisplacedAt k x.node us v → IsFirstMisplaced k v x.node
   first_misplaced_found i x d v us same l e inv found = record {
-    here = subst (λ (ws : List UniqueAt). IsFirstMisplacedAt k (f x).node ws v) same found;
+    here = subst (λ (ws : List UniqueAt). IsFirstMisplacedAt k x.node ws v) same found;
     earliest = earliest_found i x d l e inv;
   }

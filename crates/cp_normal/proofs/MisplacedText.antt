@@ -1,9 +1,10 @@
 -- The normal form of a skeleton in which a unique text is misplaced.
 use Rattle.std.proofs.Common.{◌≡◌, ◌≢◌, ◌⊎◌, inl, inr, ◌<◌, ◌+◌, ◌*◌, ℕ, zero, suc, List, [], ◌∷◌, Some, refl, sym, ap, ◌∙◌, subst, arith}
 use Rattle.cp_lists.specs.Lists.{IsIn, here, there, one_step, more_steps}
+use Rattle.cp_model.specs.Message.{atom}
 use Rattle.cp_model.specs.Term.{text_variable, Term, atom_term, itself_term, Assignment, value_of, composed}
 use Rattle.cp_model.specs.Identity.{unchanged}
-use Rattle.cp_model.specs.Strand.{send, recv}
+use Rattle.cp_model.specs.declared.strand.Event.TheVariants.{Send as send, Receive as recv}
 use Rattle.cp_model.specs.Bundle.{node_at}
 use Rattle.cp_model.specs.declared.node.Node.{Node}
 use Rattle.cp_model.specs.Skeleton.{term_event_at, UniqueAt, Skeleton, OrderStep, along_strand_of, along_pair, Before}
@@ -35,7 +36,7 @@ binding = record { number = 1; term = text_variable 0 }
 pub most_general : IsMostGeneralFor unique_text.value (text_variable 1) heard_is_said
 most_general = record {
   unifies = refl;
-  general = λ g e t. ap (λ (h : Assignment). value_of h t) (after_met g (binding ∷ []) (sym e, tt));
+  general = λ g e t. ap (λ (h : Assignment). value_of h t) (after_met g (binding ∷ []) (ap atom (sym e), tt));
   directed = directed (binding ∷ []) (λ g. (refl, tt)) (omega arith, tt);
 }
 

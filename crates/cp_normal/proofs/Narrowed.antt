@@ -1,8 +1,11 @@
 -- A skeleton under a most general unifier of two different atoms of it has fewer different variables.
 use Rattle.std.proofs.Common.{◌≡◌, ◌<◌, List, [], ◌∷◌, ◌++◌, map, refl, ap, ap₂, subst, ⊎_elim}
 use Rattle.cp_lists.specs.Lists.{IsIn}
-use Rattle.cp_model.specs.Term.{Variable, AtomTerm, Term, atom_term, variables_of_atom, variables_of, Substitution, apply_to_atom, apply_to}
-use Rattle.cp_model.specs.Strand.{Event, send, recv, payload, event_map, variables_of_trace}
+use Rattle.cp_model.specs.Term.{AtomTerm, Term, atom_term, variables_of_atom, variables_of, Substitution, apply_to_atom, apply_to}
+use Rattle.cp_model.specs.declared.variable.Variable.{Variable}
+use Rattle.cp_model.specs.Strand.{payload, event_map, variables_of_trace}
+use Rattle.cp_model.specs.declared.strand.Event.{Event}
+use Rattle.cp_model.specs.declared.strand.Event.TheVariants.{Send as send, Receive as recv}
 use Rattle.cp_model.specs.Skeleton.{SkeletonStrand, skeleton_trace, UniqueAt, Assumptions, Skeleton}
 use Rattle.cp_model.specs.Problem.{variables_of_strands, variables_of_atoms, variables_of_uniques, variables_of_assumptions, variables_of_skeleton}
 use Rattle.cp_lists.proofs.Members.{in_append, in_append_left, in_append_right}

@@ -1,6 +1,6 @@
 -- Narrowing by steps says the same as one substitution.
 use Rattle.std.proofs.Common.{◌≡◌, List, [], ◌∷◌, map, refl, sym, ap, ◌∙◌, subst}
-use Rattle.cp_model.specs.Term.{Term, atom_of_variable, Substitution, apply_to, apply_to_atom, composed}
+use Rattle.cp_model.specs.Term.{Term, Substitution, apply_to, apply_to_atom, composed, variable_term}
 use Rattle.cp_model.specs.Identity.{unchanged}
 use Rattle.cp_lists.proofs.Mapped.{map_same, map_then}
 use Rattle.cp_model.specs.Skeleton.{SkeletonStrand, instance, listener, UniqueAt, Assumptions, FromProblem, Skeleton}
@@ -12,7 +12,7 @@ use Rattle.cp_collapse.proofs.SameFacts.{says_then, says_under}
 
 -- What the unchanged substitution does to a skeleton.
 strand_unchanged : (s : SkeletonStrand) → IsSameStrand (strand_under unchanged s) s
-strand_unchanged (instance role height terms) = same_instance (λ x i. atom_composed terms unchanged (atom_of_variable x) ∙ atom_unchanged (apply_to_atom terms (atom_of_variable x)))
+strand_unchanged (instance role height terms) = same_instance (λ x i. term_composed terms unchanged (variable_term x) ∙ term_unchanged (apply_to terms (variable_term x)))
 strand_unchanged (listener t) = subst (λ (u : Term). IsSameStrand (listener (apply_to unchanged t)) (listener u)) (term_unchanged t) same_listener
 
 strands_unchanged : (ss : List SkeletonStrand) → AreSameStrands (map (strand_under unchanged) ss) ss
@@ -44,11 +44,11 @@ says_unchanged k = record { strands = strands_unchanged k.strands; pairs = refl;
 module _ (s t : Substitution) where
   strand_composed : (d : SkeletonStrand) → IsSameStrand (strand_under (composed s t) d) (strand_under t (strand_under s d))
   strand_composed (instance role height terms) = same_instance (λ x i.
-      let v = atom_of_variable x in
-      atom_composed terms (composed s t) v
-      ∙ atom_composed s t (apply_to_atom terms v)
-      ∙ ap (apply_to_atom t) (sym (atom_composed terms s v))
-      ∙ sym (atom_composed (composed terms s) t v))
+      let v = variable_term x in
+      term_composed terms (composed s t) v
+      ∙ term_composed s t (apply_to terms v)
+      ∙ ap (apply_to t) (sym (term_composed terms s v))
+      ∙ sym (term_composed (composed terms s) t v))
   strand_composed (listener u) = subst (λ (w : Term). IsSameStrand (listener (apply_to (composed s t) u)) (listener w)) (term_composed s t u) same_listener
 
   strands_composed : (ss : List SkeletonStrand) → AreSameStrands (map (strand_under (composed s t)) ss) (map (strand_under t) (map (strand_under s) ss))

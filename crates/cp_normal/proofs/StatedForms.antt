@@ -1,6 +1,6 @@
 -- A normal form of a skeleton that keeps what its problem states keeps it too.
 use Rattle.std.proofs.Common.{List, sym, subst, inl}
-use Rattle.cp_model.specs.Strand.{Declaration}
+use Rattle.cp_model.specs.declared.variable.Declaration.{Declaration}
 use Rattle.cp_model.specs.Skeleton.{Skeleton}
 use Rattle.cp_model.specs.PointOfView.{StatesItself}
 use Rattle.cp_model.specs.Homomorphism.{CarriesHomomorphism}

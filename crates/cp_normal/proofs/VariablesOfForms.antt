@@ -1,7 +1,7 @@
 -- The variables of what comes from a skeleton by a substitution, and so of normal forms, are declared.
 use Rattle.std.proofs.Common.{List}
 use Rattle.cp_lists.specs.Lists.{IsIn}
-use Rattle.cp_model.specs.Strand.{Declaration}
+use Rattle.cp_model.specs.declared.variable.Declaration.{Declaration}
 use Rattle.cp_model.specs.Skeleton.{Skeleton}
 use Rattle.cp_model.specs.declared.node.OrderPair.{OrderPair}
 use Rattle.cp_model.specs.PointOfView.{HasDeclaredVariables}

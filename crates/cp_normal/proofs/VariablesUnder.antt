@@ -1,8 +1,11 @@
 -- The variables of a skeleton, and of what it is under a substitution.
 use Rattle.std.proofs.Common.{◌≡◌, List, Some, sym, subst, ⊎_elim}
 use Rattle.cp_lists.specs.Lists.{IsIn}
-use Rattle.cp_model.specs.Term.{Variable, AtomTerm, atom_of_variable, atom_term, Term, IsCarriedByTerm, variables_of_atom, variables_of, Substitution, apply_to_atom, apply_to}
-use Rattle.cp_model.specs.Strand.{Declaration, Event, payload}
+use Rattle.cp_model.specs.Term.{AtomTerm, atom_term, Term, IsCarriedByTerm, variables_of_atom, variables_of, Substitution, apply_to, variable_term}
+use Rattle.cp_model.specs.declared.variable.Variable.{Variable}
+use Rattle.cp_model.specs.Strand.{payload}
+use Rattle.cp_model.specs.declared.variable.Declaration.{Declaration}
+use Rattle.cp_model.specs.declared.strand.Event.{Event}
 use Rattle.cp_model.specs.declared.node.Node.{Node}
 use Rattle.cp_model.specs.Skeleton.{skeleton_trace, FromProblem, Skeleton, term_event_at}
 use Rattle.cp_model.specs.Problem.{IsDeclared, variables_of_assumptions, variables_of_skeleton}
@@ -32,7 +35,7 @@ module _ (ds : List Declaration) where
       ⊎_elim (λ j. h.occurring x j) (λ j. let t = term_with k.from_problem.values x j in h.mapped t.0 x t.1 t.2) (in_append (variables_of_skeleton k) (variables_of_terms k.from_problem.values) i)
 
   -- Where each variable of a skeleton becomes a term of declared variables, it has declared variables then.
-  module _ (s : Substitution) (k : Skeleton) (gives : (x y : Variable) → IsIn x (all_variables k) → IsIn y (variables_of_atom (apply_to_atom s (atom_of_variable x))) → IsDeclared ds y) where
+  module _ (s : Substitution) (k : Skeleton) (gives : (x y : Variable) → IsIn x (all_variables k) → IsIn y (variables_of (apply_to s (variable_term x))) → IsDeclared ds y) where
     of_own : (t : Term) → ((x : Variable) → IsIn x (variables_of t) → IsIn x (all_variables k)) → (y : Variable) → IsIn y (variables_of (apply_to s t)) → IsDeclared ds y
     of_own t among = given_term (IsDeclared ds) s t (λ x i y j. gives x y (among x i) j)
 
@@ -44,7 +47,7 @@ module _ (ds : List Declaration) where
           of_own m.0 (λ z n. in_append_right (variables_of_skeleton k) (in_terms k.from_problem.values m.0 z m.1 n)) x (subst (λ (u : Term). IsIn x (variables_of u)) (sym m.2) j);
     }
 
-  pub under_declared : (s : Substitution) (k : Skeleton) → ((x y : Variable) → IsDeclared ds x → IsIn y (variables_of_atom (apply_to_atom s (atom_of_variable x))) → IsDeclared ds y) → HasDeclaredVariables ds k → HasDeclaredVariables ds (skeleton_under s k)
+  pub under_declared : (s : Substitution) (k : Skeleton) → ((x y : Variable) → IsDeclared ds x → IsIn y (variables_of (apply_to s (variable_term x))) → IsDeclared ds y) → HasDeclaredVariables ds k → HasDeclaredVariables ds (skeleton_under s k)
   under_declared s k keeps h = given_under s k (λ x y i j. keeps x y (all_declared k h x i) j)
 
   -- What says the same has declared variables too.

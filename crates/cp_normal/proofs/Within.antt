@@ -1,15 +1,19 @@
 -- Substitutions that change a skeleton within its own variables, and one after the other.
 use Rattle.std.proofs.Common.{◌≡◌, ◌⊎◌, inl, inr, ℕ, List, [], ◌∷◌, map, refl, sym, ap, ap₂, ◌∙◌, subst, ⊎_elim}
 use Rattle.cp_lists.specs.Lists.{IsIn}
-use Rattle.cp_model.specs.Term.{Sort, text_sort, datum_sort, name_sort, skey_sort, akey_sort, Variable, AtomTerm, atom_of_variable, KeyTerm, key_term, Term, tag_term, atom_term, pair_term, enc_term, variables_of_key, variables_of_atom, variables_of, Substitution, apply_to_key, apply_to_atom, apply_to, composed}
+use Rattle.cp_model.specs.Term.{AtomTerm, KeyTerm, key_term, Term, tag_term, atom_term, pair_term, enc_term, variables_of_key, variables_of_atom, variables_of, Substitution, apply_to_key, apply_to, composed, variable_term}
+use Rattle.cp_model.specs.declared.sort.Sort.{Sort}
+use Rattle.cp_model.specs.declared.sort.Sort.TheVariants.{Text as text_sort, Datum as datum_sort, Name as name_sort, Skey as skey_sort, Akey as akey_sort}
+use Rattle.cp_model.specs.declared.variable.Variable.{Variable}
 use Rattle.cp_model.specs.Identity.{unchanged}
 use Rattle.cp_model.specs.Skeleton.{FromProblem, Skeleton}
 use Rattle.cp_model.specs.Problem.{variables_of_skeleton}
 use Rattle.cp_lists.proofs.Members.{in_append, in_append_left, in_append_right, only_item, in_or_not}
-use Rattle.cp_model.proofs.LawTerms.{atom_composed, term_composed, atom_unchanged, term_unchanged}
+use Rattle.cp_model.proofs.LawTerms.{term_composed, term_unchanged}
+use Rattle.cp_model.proofs.VariableTerms.{unchanged_term}
 use Rattle.cp_theory.specs.Normal.{variables_of_terms, skeleton_under}
 use Rattle.cp_unify.specs.Unifiers.{AreVariablesAmong}
-use Rattle.cp_unify.proofs.VariablesUnder.{Leaves, leaves_variables_of, leaves_atom, given_atom, given_term}
+use Rattle.cp_unify.proofs.VariablesUnder.{Leaves, leaves_variables_of, leaves_atom, given_term}
 use Rattle.cp_unify.proofs.VariableTests.{is_variable_tells}
 use Rattle.cp_collapse.specs.SameSkeletons.{SaysTheSame}
 use Rattle.cp_normal.specs.BySubstitution.{all_variables, StaysWithin}
@@ -22,7 +26,7 @@ use Rattle.cp_collapse.proofs.NoNewVariables.{unifier_none_new, unifier_leaves}
 variable_or_other : (x y : Variable) → (x ≡ y) ⊎ (x ≡ y → ⊥)
 variable_or_other x y = elim (is_variable_tells x y) [ inl p ↦ inl p.1 | inr p ↦ inr p.1 ]
 
-of_variable : (s : Sort) (n : ℕ) (y : Variable) → IsIn y (variables_of_atom (atom_of_variable (record { sort = s; number = n }))) → y ≡ record { sort = s; number = n }
+of_variable : (s : Sort) (n : ℕ) (y : Variable) → IsIn y (variables_of (variable_term (record { sort = s; number = n }))) → y ≡ record { sort = s; number = n }
 of_variable text_sort n y i = only_item i
 of_variable datum_sort n y i = only_item i
 of_variable name_sort n y i = only_item i
@@ -30,8 +34,8 @@ of_variable skey_sort n y i = only_item i
 of_variable akey_sort n y i = only_item i
 
 -- What a substitution gives a variable that it leaves has that variable alone.
-left_alone : (s : Substitution) (x y : Variable) → Leaves s x → IsIn y (variables_of_atom (apply_to_atom s (atom_of_variable x))) → y ≡ x
-left_alone s x y left i = of_variable x.sort x.number y (subst (λ (u : AtomTerm). IsIn y (variables_of_atom u)) left i)
+left_alone : (s : Substitution) (x y : Variable) → apply_to s (variable_term x) ≡ variable_term x → IsIn y (variables_of (apply_to s (variable_term x))) → y ≡ x
+left_alone s x y left i = of_variable x.sort x.number y (subst (λ (u : Term). IsIn y (variables_of u)) left i)
 
 leaves_key : (s : Substitution) (k : KeyTerm) → ((x : Variable) → IsIn x (variables_of_key k) → Leaves s x) → apply_to_key s k ≡ k
 leaves_key s k h = let e : key_term (apply_to_key s k) ≡ key_term k = leaves_atom s (key_term k) h in cc
@@ -73,14 +77,14 @@ module _ (s : Substitution) (k l : Skeleton) (w : StaysWithin k s) (same : SaysT
 
   module _ (t : Substitution) (v : StaysWithin l t) where
     -- What the second gives a variable that the first leaves is left by the first, and of k.
-    then_kept : (x y : Variable) → IsKept x → IsIn y (variables_of_atom (apply_to_atom t (atom_of_variable x))) → IsKept y
+    then_kept : (x y : Variable) → IsKept x → IsIn y (variables_of (apply_to t (variable_term x))) → IsKept y
     then_kept x y own i =
         elim (in_or_not variable_or_other (all_variables l) x) [
           | inl p ↦ kept y (v.within x y p i)
           | inr never ↦ subst IsKept (sym (left_alone t x y (v.leaves x never) i)) own
         ]
 
-    then_left : (x y : Variable) → Leaves s x → IsIn y (variables_of_atom (apply_to_atom t (atom_of_variable x))) → Leaves s y
+    then_left : (x y : Variable) → Leaves s x → IsIn y (variables_of (apply_to t (variable_term x))) → Leaves s y
     then_left x y own i =
         elim (in_or_not variable_or_other (all_variables l) x) [
           | inl p ↦ (kept y (v.within x y p i)).0
@@ -100,18 +104,18 @@ module _ (s : Substitution) (k l : Skeleton) (w : StaysWithin k s) (same : SaysT
         ∙ v.idempotent (apply_to s u)
         ∙ sym e
 
-    kept_by_first : (x z : Variable) → IsIn x zs → IsIn z (variables_of_atom (apply_to_atom s (atom_of_variable x))) → IsKept z
-    kept_by_first x z i j = kept_of_term (atom_term (atom_of_variable x)) (λ y m. subst (λ a. IsIn a zs) (sym (of_variable x.sort x.number y m)) i) z j
+    kept_by_first : (x z : Variable) → IsIn x zs → IsIn z (variables_of (apply_to s (variable_term x))) → IsKept z
+    kept_by_first x z i j = kept_of_term (variable_term x) (λ y m. subst (λ a. IsIn a zs) (sym (of_variable x.sort x.number y m)) i) z j
 
-    both_within : (x y : Variable) → IsIn x zs → IsIn y (variables_of_atom (apply_to_atom (composed s t) (atom_of_variable x))) → IsIn y zs
+    both_within : (x y : Variable) → IsIn x zs → IsIn y (variables_of (apply_to (composed s t) (variable_term x))) → IsIn y zs
     both_within x y i j =
-        (given_atom IsKept t (apply_to_atom s (atom_of_variable x)) (λ z m a n. then_kept z a (kept_by_first x z i m) n) y
-        (subst (λ (u : AtomTerm). IsIn y (variables_of_atom u)) (atom_composed s t (atom_of_variable x)) j)).1
+        (given_term IsKept t (apply_to s (variable_term x)) (λ z m a n. then_kept z a (kept_by_first x z i m) n) y
+        (subst (λ (u : Term). IsIn y (variables_of u)) (term_composed s t (variable_term x)) j)).1
 
-    both_leave : (x : Variable) → (IsIn x zs → ⊥) → Leaves (composed s t) x
+    both_leave : (x : Variable) → (IsIn x zs → ⊥) → apply_to (composed s t) (variable_term x) ≡ variable_term x
     both_leave x never =
-        atom_composed s t (atom_of_variable x)
-        ∙ ap (apply_to_atom t) (w.leaves x never)
+        term_composed s t (variable_term x)
+        ∙ ap (apply_to t) (w.leaves x never)
         ∙ v.leaves x (λ i. never (kept x i).1)
 
     pub both_stay_within : StaysWithin k (composed s t)
@@ -122,8 +126,8 @@ module _ (s : Substitution) (k l : Skeleton) (w : StaysWithin k s) (same : SaysT
 pub unchanged_stays_within : (k : Skeleton) → StaysWithin k unchanged
 unchanged_stays_within k = record {
   idempotent = λ t. term_unchanged (apply_to unchanged t);
-  within = λ x y i j. subst (λ z. IsIn z (all_variables k)) (sym (left_alone unchanged x y (atom_unchanged (atom_of_variable x)) j)) i;
-  leaves = λ x never. atom_unchanged (atom_of_variable x);
+  within = λ x y i j. subst (λ z. IsIn z (all_variables k)) (sym (left_alone unchanged x y (term_unchanged (variable_term x)) j)) i;
+  leaves = λ x never. term_unchanged (variable_term x);
 }
 
 -- A most general unifier of two atoms whose variables occur in the skeleton.
@@ -132,5 +136,5 @@ module _ (k : Skeleton) (a b : AtomTerm) (s : Substitution) (of_a : (x : Variabl
   unifier_stays_within = record {
     idempotent = m.directed.idempotent;
     within = unifier_none_new (λ x. IsIn x (all_variables k)) (in_or_not variable_or_other (all_variables k)) a b s of_a of_b m;
-    leaves = unifier_leaves (λ x. IsIn x (all_variables k)) (in_or_not variable_or_other (all_variables k)) a b s of_a of_b m;
+    leaves = λ x never. unchanged_term s x (unifier_leaves (λ z. IsIn z (all_variables k)) (in_or_not variable_or_other (all_variables k)) a b s of_a of_b m x never);
   }

@@ -1,7 +1,8 @@
 -- The branches of a skeleton in which a unique value is misplaced.
 use Rattle.std.specs.Prelude.{◌≡◌, ◌⊎◌, List}
 use Rattle.cp_lists.specs.Lists.{IsIn}
-use Rattle.cp_model.specs.Term.{Variable, AtomTerm, Assignment, value_of_atom, Substitution}
+use Rattle.cp_model.specs.Term.{AtomTerm, Assignment, value_of_atom, Substitution}
+use Rattle.cp_model.specs.declared.variable.Variable.{Variable}
 use Rattle.cp_model.specs.declared.node.Node.{Node}
 use Rattle.cp_model.specs.Skeleton.{UniqueAt, Skeleton}
 use Rattle.cp_model.specs.Problem.{variables_of_skeleton}

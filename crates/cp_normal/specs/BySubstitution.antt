@@ -1,7 +1,8 @@
 -- Skeletons that come from another by one substitution each, which is chosen before any bundle.
 use Rattle.std.specs.Prelude.{◌≡◌, List, ◌++◌}
 use Rattle.cp_lists.specs.Lists.{IsIn}
-use Rattle.cp_model.specs.Term.{Variable, atom_of_variable, Term, variables_of_atom, value_of, after, Substitution, apply_to, apply_to_atom}
+use Rattle.cp_model.specs.Term.{Term, value_of, after, Substitution, apply_to, variable_term, variables_of}
+use Rattle.cp_model.specs.declared.variable.Variable.{Variable}
 use Rattle.cp_model.specs.Strand.{Protocol}
 use Rattle.cp_model.specs.Bundle.{Bundle, IsBundle}
 use Rattle.cp_model.specs.Skeleton.{Skeleton}
@@ -19,8 +20,8 @@ all_variables k = variables_of_skeleton k ++ variables_of_terms k.from_problem.v
 -- variable of the skeleton a term of variables of the skeleton, and it leaves all other variables.
 pub record StaysWithin (k : Skeleton) (s : Substitution) : Type 0 where
   pub idempotent : (t : Term) → apply_to s (apply_to s t) ≡ apply_to s t
-  pub within : (x y : Variable) → IsIn x (all_variables k) → IsIn y (variables_of_atom (apply_to_atom s (atom_of_variable x))) → IsIn y (all_variables k)
-  pub leaves : (x : Variable) → (IsIn x (all_variables k) → ⊥) → apply_to_atom s (atom_of_variable x) ≡ atom_of_variable x
+  pub within : (x y : Variable) → IsIn x (all_variables k) → IsIn y (variables_of (apply_to s (variable_term x))) → IsIn y (all_variables k)
+  pub leaves : (x : Variable) → (IsIn x (all_variables k) → ⊥) → apply_to s (variable_term x) ≡ variable_term x
 
 -- r is k under one substitution, with pairs added: it says what k says under the substitution, but for its pairs, which are
 -- exactly those of k and those that are added there.

@@ -2,11 +2,12 @@
 use Rattle.std.specs.Prelude.{◌==◌, ◌&&◌, nat_lt, if◌then◌else◌, List, [], ◌∷◌, ◌++◌, take}
 use Rattle.cp_lists.specs.Lists.{item_at}
 use Rattle.cp_model.specs.Term.{AtomTerm, Term, tag_term, atom_term, pair_term, enc_term}
-use Rattle.cp_model.specs.Strand.{Event, send, recv}
+use Rattle.cp_model.specs.declared.strand.Event.{Event}
+use Rattle.cp_model.specs.declared.strand.Event.TheVariants.{Send as send, Receive as recv}
 use Rattle.cp_model.specs.declared.node.Node.{Node}
 use Rattle.cp_model.specs.Skeleton.{Skeleton, skeleton_trace_or_none}
 use Rattle.cp_model.specs.Given.{atoms_onto}
-use Rattle.cp_skel.specs.Events.{LocatedEvent}
+use Rattle.cp_skel.specs.declared.events.LocatedEvent.{LocatedEvent}
 
 -- The atoms that a term carries, in preorder, left before right.
 abbrev pub carried_atoms : Term → List AtomTerm

@@ -1,6 +1,6 @@
 // Candidates for normal forms, and rounds of narrowing.
 ghost use Rattle.std.specs.Prelude.{◌≡◌, ◌↔◌, ◌++◌, map, false, IsTrue, IfOk, OnOk};
-ghost use Rattle.cp_skel.specs.Events.{located_event_view, events_of};
+ghost use Rattle.cp_skel.specs.Events.{events_of};
 ghost use Rattle.cp_normal.specs.Branches.{IsSettled};
 ghost use Rattle.cp_normal.specs.Candidates.{IsUnnarrowed, PutsNarrowed, IsNarrowingRound};
 ghost use Rattle.cp_collapse.specs.Property.{Has};
@@ -46,7 +46,7 @@ fn put_branches(
     misplaced: &Misplaced,
     next: &mut Vec<Candidate>,
 ) -> Result<(), AllocError>
-    requires listed { map located_event_view occurrences.now ≡ events_of (form_view form.now) }
+    requires listed { occurrences.now ≡ events_of (form_view form.now) }
     requires consistent { IsRefuted (form_view form.now) → ⊥ }
     requires misplaced { IsFirstMisplaced (form_view form.now) misplaced.now.value misplaced.now.node }
     ensures { OnOk result (PutsNarrowed (variants.Open form.now) next.old.items next.new.items) }
@@ -64,7 +64,7 @@ fn put_settled(
     occurrences: &[LocatedEvent],
     next: &mut Vec<Candidate>,
 ) -> Result<(), AllocError>
-    requires listed { map located_event_view occurrences.now ≡ events_of (form_view form) }
+    requires listed { occurrences.now ≡ events_of (form_view form) }
     requires consistent { IsRefuted (form_view form) → ⊥ }
     requires settled { IsSettled (form_view form) }
     ensures { OnOk result (PutsNarrowed (variants.Open form) next.old.items next.new.items) }
@@ -86,7 +86,7 @@ fn stays(
     occurrences: &[LocatedEvent],
     next: &mut Vec<Candidate>,
 ) -> Result<bool, AllocError>
-    requires listed { map located_event_view occurrences.now ≡ events_of (form_view form.now) }
+    requires listed { occurrences.now ≡ events_of (form_view form.now) }
     ensures consistent { IfOk result (λ stays. IsTrue stays → IsRefuted (form_view form.now) → ⊥) }
     ensures settled { IfOk result (λ stays. IsTrue stays → IsSettled (form_view form.now)) }
     ensures same { IfOk result (λ stays. IsTrue stays → next.new.items ≡ next.old.items) }
@@ -112,7 +112,7 @@ fn put_staying(
     occurrences: &[LocatedEvent],
     next: &mut Vec<Candidate>,
 ) -> Result<(), AllocError>
-    requires listed { map located_event_view occurrences.now ≡ events_of (form_view form) }
+    requires listed { occurrences.now ≡ events_of (form_view form) }
     requires consistent { IsTrue stays → IsRefuted (form_view form) → ⊥ }
     requires settled { IsTrue stays → IsSettled (form_view form) }
     ensures staying { OnOk result (IsTrue stays → PutsNarrowed (variants.Open form) next.old.items next.new.items) }
@@ -132,7 +132,7 @@ fn narrow_among(
     occurrences: &[LocatedEvent],
     next: &mut Vec<Candidate>,
 ) -> Result<(), AllocError>
-    requires listed { map located_event_view occurrences.now ≡ events_of (form_view form) }
+    requires listed { occurrences.now ≡ events_of (form_view form) }
     ensures { OnOk result (PutsNarrowed (variants.Open form) next.old.items next.new.items) }
 {
     let stays = stays(alloc, &form, occurrences, next)?;

@@ -1,10 +1,9 @@
 // Tests whether nodes carry non-originating values.
-ghost use Rattle.std.specs.Prelude.{◌≡◌, ◌↔◌, map, IsTrue, IfOk};
+ghost use Rattle.std.specs.Prelude.{◌≡◌, ◌↔◌, IsTrue, IfOk};
 ghost use Rattle.cp_model.specs.Term.{atom_term, IsCarriedByTerm};
 ghost use Rattle.cp_model.specs.Strand.{payload};
-ghost use Rattle.cp_strand.specs.View.{event_view};
 ghost use Rattle.cp_skel.specs.View.{skeleton_view};
-ghost use Rattle.cp_skel.specs.Events.{located_event_view, events_of};
+ghost use Rattle.cp_skel.specs.Events.{events_of};
 ghost use Rattle.cp_collapse.specs.Property.{Has};
 ghost use Rattle.cp_normal.specs.Events.{CarriesOne};
 ghost use Rattle.cp_normal.specs.Findings.{CarriesNonOriginating};
@@ -15,14 +14,14 @@ use std::alloc::{AllocError, Global};
 
 /// Whether the event carries the value.
 pub(crate) fn carries_value(occurrence: &LocatedEvent, value: &Atom) -> bool
-    ensures { IsTrue result ↔ IsCarriedByTerm (atom_term value.now) (payload (event_view occurrence.now.event)) }
+    ensures { IsTrue result ↔ IsCarriedByTerm (atom_term value.now) (payload occurrence.now.event) }
 {
     carries(occurrence.event.payload(), value.as_term())
 }
 
 /// Whether the event carries one of the values.
 fn carries_one(occurrence: &LocatedEvent, values: &[Atom]) -> bool
-    ensures { IsTrue result ↔ CarriesOne values.now (located_event_view occurrence.now) }
+    ensures { IsTrue result ↔ CarriesOne values.now occurrence.now }
 {
     for value in values {
         if carries_value(occurrence, value) {
@@ -34,7 +33,7 @@ fn carries_one(occurrence: &LocatedEvent, values: &[Atom]) -> bool
 
 /// Whether some event carries one of the values.
 fn some_carries_one(occurrences: &[LocatedEvent], values: &[Atom]) -> bool
-    ensures { IsTrue result ↔ Has (λ o. CarriesOne values.now (located_event_view o)) occurrences.now }
+    ensures { IsTrue result ↔ Has (λ o. CarriesOne values.now o) occurrences.now }
 {
     occurrences
         .iter()
@@ -43,7 +42,7 @@ fn some_carries_one(occurrences: &[LocatedEvent], values: &[Atom]) -> bool
 
 /// Whether some node carries a non-originating value. `occurrences` are the events of the skeleton.
 pub(crate) fn some_carries_non_originating(k: &Skeleton, occurrences: &[LocatedEvent]) -> bool
-    requires listed { map located_event_view occurrences.now ≡ events_of (skeleton_view k.now) }
+    requires listed { occurrences.now ≡ events_of (skeleton_view k.now) }
     ensures { IsTrue result ↔ CarriesNonOriginating (skeleton_view k.now) }
 {
     some_carries_one(occurrences, k.assumptions().non_originating())

@@ -1,11 +1,11 @@
 // Misplaced values: unique values that originate elsewhere than at their recorded origins.
-ghost use Rattle.std.specs.Prelude.{◌≡◌, ◌↔◌, false, map, IsTrue, IfOk, MatchOption};
+ghost use Rattle.std.specs.Prelude.{◌≡◌, ◌↔◌, false, IsTrue, IfOk, MatchOption};
 ghost use Rattle.cp_model.specs.Given.{listed};
-ghost use Rattle.cp_lists.specs.Lists.{IsIn, item_at};
+ghost use Rattle.cp_lists.specs.Lists.{IsIn};
 ghost use Rattle.cp_model.specs.Skeleton.{UniqueAt as Plain};
 ghost use Rattle.cp_skel.specs.View.{skeleton_view};
 ghost use Rattle.cp_normal.specs.Branches.{IsSettled};
-ghost use Rattle.cp_skel.specs.Events.{located_event_view, events_of};
+ghost use Rattle.cp_skel.specs.Events.{events_of};
 ghost use Rattle.cp_normal.specs.MisplacedValues.{OriginatesElsewhere, IsFirstMisplacedAt, IsFirstMisplaced};
 
 use crate::carried_values::carries_value;
@@ -27,8 +27,8 @@ fn originates_elsewhere(
     occurrence: &LocatedEvent,
     unique: &UniqueAt,
 ) -> Result<bool, AllocError>
-    requires listed { map located_event_view occurrences.now ≡ events_of (skeleton_view k.now) }
-    requires is_there { IsIn (located_event_view occurrence.now) (events_of (skeleton_view k.now)) }
+    requires listed { occurrences.now ≡ events_of (skeleton_view k.now) }
+    requires is_there { IsIn occurrence.now (events_of (skeleton_view k.now)) }
     ensures { IfOk result (λ found. IsTrue found ↔ OriginatesElsewhere (skeleton_view k.now) occurrence.now.node unique.now) }
 {
     if occurrence.node == unique.origin() {
@@ -48,8 +48,8 @@ fn first_at(
     occurrence: &LocatedEvent,
     uniques: &[UniqueAt],
 ) -> Result<Option<Atom>, AllocError>
-    requires listed { map located_event_view occurrences.now ≡ events_of (skeleton_view k.now) }
-    requires is_there { IsIn (located_event_view occurrence.now) (events_of (skeleton_view k.now)) }
+    requires listed { occurrences.now ≡ events_of (skeleton_view k.now) }
+    requires is_there { IsIn occurrence.now (events_of (skeleton_view k.now)) }
     ensures { IfOk result (λ found. MatchOption found
         ((u : Plain) → IsIn u uniques.now → OriginatesElsewhere (skeleton_view k.now) occurrence.now.node u → ⊥)
         (λ v. IsFirstMisplacedAt (skeleton_view k.now) occurrence.now.node uniques.now v)) }
@@ -67,7 +67,7 @@ pub(crate) fn some_is_misplaced(
     k: &Skeleton,
     occurrences: &[LocatedEvent],
 ) -> Result<bool, AllocError>
-    requires listed { map located_event_view occurrences.now ≡ events_of (skeleton_view k.now) }
+    requires listed { occurrences.now ≡ events_of (skeleton_view k.now) }
     ensures none { IfOk result (λ found. found ≡ false → IsSettled (skeleton_view k.now)) }
     ensures some { IfOk result (λ found. IsTrue found → IsSettled (skeleton_view k.now) → ⊥) }
 {
@@ -88,7 +88,7 @@ fn first_among(
     occurrences: &[LocatedEvent],
     uniques: &[UniqueAt],
 ) -> Result<Option<Misplaced>, AllocError>
-    requires listed { map located_event_view occurrences.now ≡ events_of (skeleton_view k.now) }
+    requires listed { occurrences.now ≡ events_of (skeleton_view k.now) }
     requires in_order { uniques.now ≡ (listed (skeleton_view k.now)).uniquely_originating }
     ensures { IfOk result (λ found. MatchOption found
         (IsSettled (skeleton_view k.now))
@@ -113,7 +113,7 @@ pub(crate) fn first_misplaced(
     k: &Skeleton,
     occurrences: &[LocatedEvent],
 ) -> Result<Option<Misplaced>, AllocError>
-    requires listed { map located_event_view occurrences.now ≡ events_of (skeleton_view k.now) }
+    requires listed { occurrences.now ≡ events_of (skeleton_view k.now) }
     ensures { IfOk result (λ found. MatchOption found
         (IsSettled (skeleton_view k.now))
         (λ s. IsFirstMisplaced (skeleton_view k.now) s.value s.node)) }

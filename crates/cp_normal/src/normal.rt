@@ -1,9 +1,9 @@
 // Tests whether a skeleton is normal, and computes the pairs of its normal form.
-ghost use Rattle.std.specs.Prelude.{◌≡◌, ◌↔◌, map, option_map, IsTrue, IfOk};
-ghost use Rattle.cp_skel.specs.Events.{located_event_view, events_of};
+ghost use Rattle.std.specs.Prelude.{◌≡◌, ◌↔◌, option_map, IsTrue, IfOk};
+ghost use Rattle.cp_skel.specs.Events.{events_of};
 ghost use Rattle.cp_skel.specs.View.{skeleton_view};
 ghost use Rattle.cp_normal.specs.Exact.{IsRefuted};
-ghost use Rattle.cp_normal.specs.Findings.{AreNormalPairs, ClosesCycle, IsNormalised};
+ghost use Rattle.cp_normal.specs.Findings.{AreNormalPairs, IsNormalised};
 ghost use Rattle.cp_normal.specs.NormalForms.{IsNormal};
 
 use crate::carried_values::some_carries_non_originating;
@@ -17,7 +17,7 @@ use std::alloc::{AllocError, Global};
 
 /// Whether the assumptions contradict what the nodes carry. `occurrences` are the events of the skeleton.
 pub(crate) fn is_refuted(k: &Skeleton, occurrences: &[LocatedEvent]) -> bool
-    requires listed { map located_event_view occurrences.now ≡ events_of (skeleton_view k.now) }
+    requires listed { occurrences.now ≡ events_of (skeleton_view k.now) }
     ensures { IsTrue result ↔ IsRefuted (skeleton_view k.now) }
 {
     if some_carries_non_originating(k, occurrences) {
@@ -35,7 +35,7 @@ fn own_and_added(
     k: &Skeleton,
     occurrences: &[LocatedEvent],
 ) -> Result<Vec<OrderPair>, AllocError>
-    requires listed { map located_event_view occurrences.now ≡ events_of (skeleton_view k.now) }
+    requires listed { occurrences.now ≡ events_of (skeleton_view k.now) }
     ensures { IfOk result (λ pairs. AreNormalPairs (skeleton_view k.now) pairs.items) }
 {
     let added = pairs_among(alloc, k, occurrences)?;
@@ -53,7 +53,7 @@ pub(crate) fn normal_pairs_among(
     k: &Skeleton,
     occurrences: &[LocatedEvent],
 ) -> Result<Option<Vec<OrderPair>>, AllocError>
-    requires listed { map located_event_view occurrences.now ≡ events_of (skeleton_view k.now) }
+    requires listed { occurrences.now ≡ events_of (skeleton_view k.now) }
     requires consistent { IsRefuted (skeleton_view k.now) → ⊥ }
     ensures { IfOk result (λ found. IsNormalised (skeleton_view k.now) (option_map (λ pairs. pairs.items) found)) }
 {

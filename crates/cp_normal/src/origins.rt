@@ -5,7 +5,7 @@ ghost use Rattle.cp_model.specs.Realisation.{OriginatesAtTerm};
 ghost use Rattle.cp_lists.specs.Lists.{item_at};
 ghost use Rattle.cp_strand.specs.View.{strand_view};
 ghost use Rattle.cp_skel.specs.View.{skeleton_view};
-ghost use Rattle.cp_skel.specs.Events.{located_event_view, events_of};
+ghost use Rattle.cp_skel.specs.Events.{events_of};
 ghost use Rattle.cp_collapse.specs.Property.{Has};
 ghost use Rattle.cp_collapse.specs.Partitions.{is_some_instance};
 ghost use Rattle.cp_normal.specs.Events.{HasOtherOrigin, IsSentAtOrigin, IsCarriedBefore};
@@ -55,7 +55,7 @@ pub fn has_two_origins(k: &Skeleton) -> bool
 
 /// Whether the event is a transmission at the recorded origin of a unique value, and carries the value.
 fn is_sent_at_origin(occurrence: &LocatedEvent, unique: &UniqueAt) -> bool
-    ensures { IsTrue result ↔ IsSentAtOrigin unique.now (located_event_view occurrence.now) }
+    ensures { IsTrue result ↔ IsSentAtOrigin unique.now occurrence.now }
 {
     matches!(occurrence.event, Event::Send(_))
         && occurrence.node == unique.origin()
@@ -64,7 +64,7 @@ fn is_sent_at_origin(occurrence: &LocatedEvent, unique: &UniqueAt) -> bool
 
 /// Whether the event is before the recorded origin of a unique value on its strand, and carries the value.
 fn is_carried_before(occurrence: &LocatedEvent, unique: &UniqueAt) -> bool
-    ensures { IsTrue result ↔ IsCarriedBefore unique.now (located_event_view occurrence.now) }
+    ensures { IsTrue result ↔ IsCarriedBefore unique.now occurrence.now }
 {
     occurrence.node.strand == unique.origin().strand
         && occurrence.node.index < unique.origin().index
@@ -73,7 +73,7 @@ fn is_carried_before(occurrence: &LocatedEvent, unique: &UniqueAt) -> bool
 
 /// Whether some event is a transmission at the recorded origin that carries the value.
 fn some_is_sent_at_origin(occurrences: &[LocatedEvent], unique: &UniqueAt) -> bool
-    ensures { IsTrue result ↔ Has (λ o. IsSentAtOrigin unique.now (located_event_view o)) occurrences.now }
+    ensures { IsTrue result ↔ Has (λ o. IsSentAtOrigin unique.now o) occurrences.now }
 {
     occurrences
         .iter()
@@ -82,7 +82,7 @@ fn some_is_sent_at_origin(occurrences: &[LocatedEvent], unique: &UniqueAt) -> bo
 
 /// Whether some event before the recorded origin, on its strand, carries the value.
 fn some_is_carried_before(occurrences: &[LocatedEvent], unique: &UniqueAt) -> bool
-    ensures { IsTrue result ↔ Has (λ o. IsCarriedBefore unique.now (located_event_view o)) occurrences.now }
+    ensures { IsTrue result ↔ Has (λ o. IsCarriedBefore unique.now o) occurrences.now }
 {
     occurrences
         .iter()
@@ -108,7 +108,7 @@ fn is_on_instance(k: &Skeleton, node: Node) -> bool
 
 /// Whether a unique value originates at its recorded origin. `occurrences` are the events of the skeleton.
 pub(crate) fn originates(k: &Skeleton, occurrences: &[LocatedEvent], unique: &UniqueAt) -> bool
-    requires listed { map located_event_view occurrences.now ≡ events_of (skeleton_view k.now) }
+    requires listed { occurrences.now ≡ events_of (skeleton_view k.now) }
     ensures { IsTrue result ↔ OriginatesAtTerm (skeleton_view k.now) unique.now.value unique.now.origin }
 {
     if !is_on_instance(k, unique.origin()) {
@@ -122,7 +122,7 @@ pub(crate) fn originates(k: &Skeleton, occurrences: &[LocatedEvent], unique: &Un
 
 /// Whether some of these unique values does not originate at its recorded origin. `occurrences` are the events of the skeleton.
 fn one_loses_origin(k: &Skeleton, occurrences: &[LocatedEvent], uniques: &[UniqueAt]) -> bool
-    requires listed { map located_event_view occurrences.now ≡ events_of (skeleton_view k.now) }
+    requires listed { occurrences.now ≡ events_of (skeleton_view k.now) }
     ensures { IsTrue result ↔ Has (λ u. OriginatesAtTerm (skeleton_view k.now) u.value u.origin → ⊥) uniques.now }
 {
     for unique in uniques {
@@ -135,7 +135,7 @@ fn one_loses_origin(k: &Skeleton, occurrences: &[LocatedEvent], uniques: &[Uniqu
 
 /// Whether some unique value does not originate at its recorded origin. `occurrences` are the events of the skeleton.
 pub(crate) fn some_loses_origin(k: &Skeleton, occurrences: &[LocatedEvent]) -> bool
-    requires listed { map located_event_view occurrences.now ≡ events_of (skeleton_view k.now) }
+    requires listed { occurrences.now ≡ events_of (skeleton_view k.now) }
     ensures { IsTrue result ↔ LosesOrigin (skeleton_view k.now) }
 {
     one_loses_origin(k, occurrences, k.assumptions().uniquely_originating())

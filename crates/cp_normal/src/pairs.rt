@@ -1,9 +1,9 @@
 // The pairs from recorded origins of unique values to receptions that carry them.
-ghost use Rattle.std.specs.Prelude.{◌≡◌, ◌↔◌, map, IfOk, OnOk, IfSome, IfNone};
+ghost use Rattle.std.specs.Prelude.{◌≡◌, ◌↔◌, IfOk, OnOk, IfSome, IfNone};
 ghost use Rattle.cp_lists.specs.Lists.{IsIn};
 ghost use Rattle.cp_model.specs.declared.node.OrderPair.{OrderPair as Plain};
 ghost use Rattle.cp_skel.specs.View.{skeleton_view};
-ghost use Rattle.cp_skel.specs.Events.{located_event_view, events_of};
+ghost use Rattle.cp_skel.specs.Events.{events_of};
 ghost use Rattle.cp_collapse.specs.Property.{Has};
 ghost use Rattle.cp_normal.specs.Events.{Gathers, IsPairBetween};
 ghost use Rattle.cp_normal.specs.Findings.{IsAddedPair};
@@ -15,8 +15,8 @@ use std::alloc::{AllocError, Global};
 /// The pair from the recorded origin of a unique value to an event, if the event is a reception on another strand that carries
 /// the value.
 fn pair_between(occurrence: &LocatedEvent, unique: &UniqueAt) -> Option<OrderPair>
-    ensures some { IfSome result (λ p. IsPairBetween (located_event_view occurrence.now) unique.now p) }
-    ensures none { IfNone result ((p : Plain) → IsPairBetween (located_event_view occurrence.now) unique.now p → ⊥) }
+    ensures some { IfSome result (λ p. IsPairBetween occurrence.now unique.now p) }
+    ensures none { IfNone result ((p : Plain) → IsPairBetween occurrence.now unique.now p → ⊥) }
 {
     let is_pair = matches!(occurrence.event, Event::Receive(_))
         && unique.origin().strand != occurrence.node.strand
@@ -37,7 +37,7 @@ fn add_pairs_to(
     uniques: &[UniqueAt],
     pairs: &mut Vec<OrderPair>,
 ) -> Result<(), AllocError>
-    ensures { OnOk result (Gathers (λ u p. IsPairBetween (located_event_view occurrence.now) u p) uniques.now pairs.old.items pairs.new.items) }
+    ensures { OnOk result (Gathers (λ u p. IsPairBetween occurrence.now u p) uniques.now pairs.old.items pairs.new.items) }
 {
     for unique in uniques {
         if let Some(pair) = pair_between(occurrence, unique) {
@@ -53,7 +53,7 @@ fn add_pairs(
     uniques: &[UniqueAt],
     pairs: &mut Vec<OrderPair>,
 ) -> Result<(), AllocError>
-    ensures { OnOk result (Gathers (λ o p. Has (λ u. IsPairBetween (located_event_view o) u p) uniques.now) occurrences.now pairs.old.items pairs.new.items) }
+    ensures { OnOk result (Gathers (λ o p. Has (λ u. IsPairBetween o u p) uniques.now) occurrences.now pairs.old.items pairs.new.items) }
 {
     for occurrence in occurrences {
         add_pairs_to(occurrence, uniques, pairs)?;
@@ -67,7 +67,7 @@ pub(crate) fn pairs_among(
     k: &Skeleton,
     occurrences: &[LocatedEvent],
 ) -> Result<Vec<OrderPair>, AllocError>
-    requires listed { map located_event_view occurrences.now ≡ events_of (skeleton_view k.now) }
+    requires listed { occurrences.now ≡ events_of (skeleton_view k.now) }
     ensures { IfOk result (λ pairs. (p : Plain) → IsIn p pairs.items ↔ IsAddedPair (skeleton_view k.now) p) }
 {
     let mut pairs = Vec::new(alloc);

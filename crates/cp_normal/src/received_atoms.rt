@@ -1,9 +1,7 @@
 // The atoms that receptions carry.
-ghost use Rattle.std.specs.Prelude.{◌≡◌, [], map, IfOk, OnOk};
+ghost use Rattle.std.specs.Prelude.{◌≡◌, [], IfOk, OnOk};
 ghost use Rattle.cp_model.specs.Given.{atoms_onto};
 ghost use Rattle.cp_term.specs.Spines.{HasTail};
-ghost use Rattle.cp_skel.specs.Events.{located_event_view};
-ghost use Rattle.cp_strand.specs.View.{event_view};
 ghost use Rattle.cp_normal.specs.ReceivedAtomLists.{carried_atoms, received_atoms, heard_of, heard_among};
 
 use cp_skel::{Atom, Event, LocatedEvent, Node, add_atom};
@@ -41,7 +39,7 @@ fn add_carried(term: &Term, atoms: &mut Vec<Atom>) -> Result<(), AllocError>
 
 /// Appends the atoms that the event carries if it is a reception, except those listed already.
 fn add_received(event: &Event, atoms: &mut Vec<Atom>) -> Result<(), AllocError>
-    ensures { OnOk result (atoms.new.items ≡ atoms_onto atoms.old.items (received_atoms (event_view event.now))) }
+    ensures { OnOk result (atoms.new.items ≡ atoms_onto atoms.old.items (received_atoms event.now)) }
 {
     match event {
         Event::Send(_) => Ok(()),
@@ -52,7 +50,7 @@ fn add_received(event: &Event, atoms: &mut Vec<Atom>) -> Result<(), AllocError>
 /// Appends the atoms that the event carries if it is a reception before the node on the node's strand, except those listed
 /// already.
 fn add_heard(occurrence: &LocatedEvent, node: Node, atoms: &mut Vec<Atom>) -> Result<(), AllocError>
-    ensures { OnOk result (atoms.new.items ≡ atoms_onto atoms.old.items (heard_of node (located_event_view occurrence.now))) }
+    ensures { OnOk result (atoms.new.items ≡ atoms_onto atoms.old.items (heard_of node occurrence.now)) }
 {
     if occurrence.node.strand == node.strand && occurrence.node.index < node.index {
         return add_received(&occurrence.event, atoms);
@@ -67,7 +65,7 @@ pub(crate) fn atoms_received(
     occurrences: &[LocatedEvent],
     node: Node,
 ) -> Result<Vec<Atom>, AllocError>
-    ensures { IfOk result (λ atoms. atoms.items ≡ atoms_onto [] (heard_among node (map located_event_view occurrences.now))) }
+    ensures { IfOk result (λ atoms. atoms.items ≡ atoms_onto [] (heard_among node occurrences.now)) }
 {
     let mut atoms = Vec::new(alloc);
     for occurrence in occurrences {

@@ -1,6 +1,6 @@
 // Settled skeletons: no unique value is misplaced. Each comes with the pairs of its normal form.
-ghost use Rattle.std.specs.Prelude.{◌≡◌, map, option_map, IfOk, MatchOption};
-ghost use Rattle.cp_skel.specs.Events.{located_event_view, events_of};
+ghost use Rattle.std.specs.Prelude.{◌≡◌, option_map, IfOk, MatchOption};
+ghost use Rattle.cp_skel.specs.Events.{events_of};
 ghost use Rattle.cp_normal.specs.Findings.{IsContradictory, IsNormalised};
 ghost use Rattle.cp_normal.specs.Branches.{IsSettled};
 ghost use Rattle.cp_normal.specs.Candidates.{IsNormalFormOfSettled};
@@ -62,7 +62,7 @@ impl Settled {
         form: Form,
         occurrences: &[LocatedEvent],
     ) -> Result<Option<Settled>, AllocError>
-        requires listed { map located_event_view occurrences.now ≡ events_of (form_view form) }
+        requires listed { occurrences.now ≡ events_of (form_view form) }
         requires consistent { IsRefuted (form_view form) → ⊥ }
         requires settled { IsSettled (form_view form) }
         ensures { IfOk result (λ found. MatchOption found

@@ -1,8 +1,9 @@
 // Laws about the variables of normal forms. Each is the contract of a function that does nothing.
 ghost use Rattle.std.specs.Prelude.{List};
 ghost use Rattle.cp_lists.specs.Lists.{IsIn};
-ghost use Rattle.cp_model.specs.Term.{Variable, atom_of_variable, variables_of_atom, Substitution, apply_to_atom};
-ghost use Rattle.cp_model.specs.Strand.{Declaration};
+ghost use Rattle.cp_model.specs.Term.{variable_term, variables_of, Substitution, apply_to};
+ghost use Rattle.cp_model.specs.declared.variable.Variable.{Variable};
+ghost use Rattle.cp_model.specs.declared.variable.Declaration.{Declaration};
 ghost use Rattle.cp_model.specs.Skeleton.{Skeleton};
 ghost use Rattle.cp_model.specs.Problem.{IsDeclared};
 ghost use Rattle.cp_model.specs.PointOfView.{HasDeclaredVariables};
@@ -15,9 +16,9 @@ ghost use Rattle.cp_normal.specs.Exact.{HasForms};
 /// before; and under any substitution that maps each of its own variables to such a term. A skeleton that says the same as one
 /// with declared variables has them too.
 pub fn substitutions_keep_declared_variables()
-    ensures under { (variables : List Declaration) (s : Substitution) (k : Skeleton) → ((x y : Variable) → IsDeclared variables x → IsIn y (variables_of_atom (apply_to_atom s (atom_of_variable x))) → IsDeclared variables y)
+    ensures under { (variables : List Declaration) (s : Substitution) (k : Skeleton) → ((x y : Variable) → IsDeclared variables x → IsIn y (variables_of (apply_to s (variable_term x))) → IsDeclared variables y)
         → HasDeclaredVariables variables k → HasDeclaredVariables variables (skeleton_under s k) }
-    ensures given { (variables : List Declaration) (s : Substitution) (k : Skeleton) → ((x y : Variable) → IsIn x (all_variables k) → IsIn y (variables_of_atom (apply_to_atom s (atom_of_variable x))) → IsDeclared variables y)
+    ensures given { (variables : List Declaration) (s : Substitution) (k : Skeleton) → ((x y : Variable) → IsIn x (all_variables k) → IsIn y (variables_of (apply_to s (variable_term x))) → IsDeclared variables y)
         → HasDeclaredVariables variables (skeleton_under s k) }
     ensures agreeing { (variables : List Declaration) (k l : Skeleton) → SaysTheSame k l → HasDeclaredVariables variables k → HasDeclaredVariables variables l }
 {}

@@ -1,26 +1,31 @@
 -- Bindings of a pattern's variables, and the substitutions that agree with them.
-use Rattle.std.proofs.Common.{◌≡◌, ◌⊎◌, ⊎_elim, inl, inr, ℕ, ◌+◌, ◌<◌, ◌≤◌, Bool, true, false, if◌then◌else◌, ◌==◌, List, [], ◌∷◌, map, length, get_or, drop, refl, sym, ap, ap₂, ◌∙◌, subst}
+use Rattle.std.proofs.Common.{◌≡◌, ◌⊎◌, inl, inr, ℕ, ◌+◌, ◌<◌, ◌≤◌, Bool, true, false, if◌then◌else◌, List, [], ◌∷◌, length, get_or, drop, refl, sym, ap, ap₂, ◌∙◌, subst}
 use Rattle.std.specs.Prelude.{◌↔◌}
-use Rattle.std.proofs.lemmas.Bool.{eqb-true, eq-eqb, or_cases, or_left, or_right, false_from_ne_true}
+use Rattle.std.proofs.lemmas.Bool.{false_from_ne_true}
 use Rattle.std.proofs.lemmas.List.{drop_all}
 use Rattle.cp_lists.specs.Lists.{IsIn, here, there}
 use Rattle.cp_lists.proofs.Members.{in_cases, not_in_none, only_item, in_append, drop_read}
-use Rattle.cp_model.specs.Term.{Sort, text_sort, datum_sort, name_sort, skey_sort, akey_sort, Variable, skey_variable, ltk_term, PairTerm, akey_variable, pubk_term, symmetric_term, asymmetric_term, AtomTerm, text_variable, datum_variable, name_variable, key_term, Term, tag_term, atom_term, pair_term, enc_term, atom_of_variable, variables_of_key, variables_of_atom, variables_of, flag_of, Substitution, apply_to_key, apply_to_atom, apply_to}
-use Rattle.cp_model.specs.Pattern.{IsPattern}
+use Rattle.cp_model.specs.Term.{skey_variable, ltk_term, PairTerm, akey_variable, pubk_term, symmetric_term, asymmetric_term, AtomTerm, text_variable, datum_variable, name_variable, key_term, Term, tag_term, atom_term, pair_term, enc_term, variable_term, variables_of_key, variables_of_atom, variables_of, flag_of, Substitution, apply_to_key, apply_to_atom, apply_to}
+use Rattle.cp_model.specs.declared.sort.Sort.{Sort}
+use Rattle.cp_model.specs.declared.sort.Sort.TheVariants.{Text as text_sort, Datum as datum_sort, Name as name_sort, Skey as skey_sort, Akey as akey_sort}
+use Rattle.cp_model.specs.declared.variable.Variable.{Variable}
 use Rattle.cp_model.specs.Tree.{Pattern}
 use Rattle.cp_model.proofs.LawAgreement.{agree_term}
 use Rattle.cp_model.proofs.CarriedParts.{not_both}
+use Rattle.cp_model.specs.Same.{has_variable}
+use Rattle.cp_model.proofs.SameTests.{variable_in, in_has_variable}
 use Rattle.cp_model.proofs.LawTerms.{flag_same}
 use Rattle.cp_unify.specs.Beside.{Agrees, MatchesBeside}
-use Rattle.cp_unify.specs.Bindings.{Binding, variable_of}
-use Rattle.cp_unify.specs.Matches.{is_number_of}
-use Rattle.cp_theory.specs.Matches.{IsFreeIn}
+use Rattle.cp_term.specs.Variables.{variable_of_sort}
+use Rattle.cp_unify.specs.Atoms.{atom_of}
+use Rattle.cp_unify.specs.Bindings.{Binding, sort_of, variable_of}
 use Rattle.cp_pattern.specs.Ready.{AgreesBut, AgreesOnFree}
+use Rattle.cp_pattern.proofs.LawMatches.{sort_of_variable}
 
 -- ---- what two substitutions make the same of a term, they make the same of its variables
 
 abbrev pub SameFor : Substitution → Substitution → Variable → Type 0
-SameFor s t x = apply_to_atom s (atom_of_variable x) ≡ apply_to_atom t (atom_of_variable x)
+SameFor s t x = apply_to s (variable_term x) ≡ apply_to t (variable_term x)
 
 module _ (s t : Substitution) where
   one_same : (x y : Variable) → SameFor s t y → IsIn x (y ∷ []) → SameFor s t x
@@ -34,19 +39,19 @@ module _ (s t : Substitution) where
   akey_same flag n e =
       let e0 : flag_of flag (s.akeys n).0 ≡ flag_of flag (t.akeys n).0 = cc in
       let e1 : (s.akeys n).1 ≡ (t.akeys n).1 = cc in
-      ap₂ (λ (f : Bool) (k : PairTerm). key_term (asymmetric_term f k)) (flag_same flag (s.akeys n).0 (t.akeys n).0 e0) e1
+      ap₂ (λ (f : Bool) (k : PairTerm). atom_term (key_term (asymmetric_term f k))) (flag_same flag (s.akeys n).0 (t.akeys n).0 e0) e1
 
   atom_same : (u : AtomTerm) → apply_to_atom s u ≡ apply_to_atom t u → (x : Variable) → IsIn x (variables_of_atom u) → SameFor s t x
-  atom_same (text_variable n) e x i = one_same x _ e i
-  atom_same (datum_variable n) e x i = one_same x _ e i
-  atom_same (name_variable n) e x i = one_same x _ e i
-  atom_same (key_term (symmetric_term (skey_variable n))) e x i = one_same x _ e i
+  atom_same (text_variable n) e x i = one_same x (record { sort = text_sort; number = n }) (ap atom_term e) i
+  atom_same (datum_variable n) e x i = one_same x (record { sort = datum_sort; number = n }) (ap atom_term e) i
+  atom_same (name_variable n) e x i = one_same x (record { sort = name_sort; number = n }) (ap atom_term e) i
+  atom_same (key_term (symmetric_term (skey_variable n))) e x i = one_same x (record { sort = skey_sort; number = n }) (ap atom_term e) i
   atom_same (key_term (symmetric_term (ltk_term a b))) e x i =
       let e0 : s.names a ≡ t.names a = cc in let e1 : s.names b ≡ t.names b = cc in
-      two_same x _ _ (ap name_variable e0) (ap name_variable e1) (in_cases i)
+      two_same x (record { sort = name_sort; number = a }) (record { sort = name_sort; number = b }) (ap (λ (m : ℕ). atom_term (name_variable m)) e0) (ap (λ (m : ℕ). atom_term (name_variable m)) e1) (in_cases i)
   atom_same (key_term (asymmetric_term flag (akey_variable n))) e x i = one_same x _ (akey_same flag n e) i
   atom_same (key_term (asymmetric_term flag (pubk_term p a))) e x i =
-      let e0 : s.names a ≡ t.names a = cc in one_same x _ (ap name_variable e0) i
+      let e0 : s.names a ≡ t.names a = cc in one_same x (record { sort = name_sort; number = a }) (ap (λ (m : ℕ). atom_term (name_variable m)) e0) i
 
   either_same : (xs ys : List Variable) (x : Variable) → (IsIn x xs → SameFor s t x) → (IsIn x ys → SameFor s t x) → IsIn x xs ⊎ IsIn x ys → SameFor s t x
   either_same xs ys x p q (inl i) = p i
@@ -62,130 +67,116 @@ module _ (s t : Substitution) where
       let e0 : apply_to s a ≡ apply_to t a = cc in let e1 : apply_to_key s k ≡ apply_to_key t k = cc in
       either_same (variables_of a) (variables_of_key k) x (same_variables a e0 x) (atom_same (key_term k) (ap key_term e1) x) (in_append (variables_of a) (variables_of_key k) i)
 
--- ---- numbers of variables
+-- ---- two substitutions in one: for variables that pass the test the second, for others the first
 
-abbrev pub numbers : List Variable → List ℕ
-numbers xs = map (λ x. x.number) xs
-
-pub numbered : (xs : List Variable) (m : ℕ) → is_number_of (numbers xs) m ≡ true → (y : Variable) × IsIn y xs × (y.number ≡ m)
-numbered [] m e = absurd (cc)
-numbered (x ∷ xs) m e =
-    ⊎_elim (λ p. (x, here, eqb-true x.number m p)) (λ q. let r = numbered xs m q in (r.0, there r.1, r.2))
-    (or_cases (x.number == m) (is_number_of (numbers xs) m) e)
-
-pub has_number : (xs : List Variable) (y : Variable) → IsIn y xs → is_number_of (numbers xs) y.number ≡ true
-has_number [] y i = absurd (not_in_none i)
-has_number (x ∷ xs) y i =
-    ⊎_elim (λ e. or_left (x.number == y.number) (is_number_of (numbers xs) y.number) (eq-eqb x.number y.number (ap (λ (z : Variable). z.number) e)))
-    (λ j. or_right (x.number == y.number) (is_number_of (numbers xs) y.number) (has_number xs y j)) (in_cases i)
-
--- ---- two substitutions in one: for numbers that pass the test the second, for others the first
-
-abbrev mixed : (ℕ → Bool) → Substitution → Substitution → Substitution
+abbrev mixed : (Variable → Bool) → Substitution → Substitution → Substitution
 mixed test f s = record {
-  texts = λ n. if test n then s.texts n else f.texts n;
-  datums = λ n. if test n then s.datums n else f.datums n;
-  names = λ n. if test n then s.names n else f.names n;
-  skeys = λ n. if test n then s.skeys n else f.skeys n;
-  akeys = λ n. if test n then s.akeys n else f.akeys n;
+  texts = λ n. if test (record { sort = text_sort; number = n }) then s.texts n else f.texts n;
+  datums = λ n. if test (record { sort = datum_sort; number = n }) then s.datums n else f.datums n;
+  names = λ n. if test (record { sort = name_sort; number = n }) then s.names n else f.names n;
+  skeys = λ n. if test (record { sort = skey_sort; number = n }) then s.skeys n else f.skeys n;
+  akeys = λ n. if test (record { sort = akey_sort; number = n }) then s.akeys n else f.akeys n;
 }
 
-module _ (test : ℕ → Bool) (f s : Substitution) where
-  -- what is given to a number depends on its test alone
-  by_test : (k : Sort) (n : ℕ) (b : Bool) → test n ≡ b → SameFor (mixed test f s) (mixed (λ m. b) f s) (record { sort = k; number = n })
+module _ (test : Variable → Bool) (f s : Substitution) where
+  -- what is given to a variable depends on its test alone
+  by_test : (k : Sort) (n : ℕ) (b : Bool) → test (record { sort = k; number = n }) ≡ b → SameFor (mixed test f s) (mixed (λ y. b) f s) (record { sort = k; number = n })
   by_test text_sort n b e = rw e refl
   by_test datum_sort n b e = rw e refl
   by_test name_sort n b e = rw e refl
   by_test skey_sort n b e = rw e refl
   by_test akey_sort n b e = rw e refl
 
-  second_at : (k : Sort) (n : ℕ) → test n ≡ true → SameFor (mixed test f s) s (record { sort = k; number = n })
+  second_at : (k : Sort) (n : ℕ) → test (record { sort = k; number = n }) ≡ true → SameFor (mixed test f s) s (record { sort = k; number = n })
   second_at k n e = by_test k n true e
 
-  first_at : (k : Sort) (n : ℕ) → test n ≡ false → SameFor (mixed test f s) f (record { sort = k; number = n })
+  first_at : (k : Sort) (n : ℕ) → test (record { sort = k; number = n }) ≡ false → SameFor (mixed test f s) f (record { sort = k; number = n })
   first_at k n e = by_test k n false e
 
 -- ---- what agrees with the bindings that are kept
 
-module _ (locals : List ℕ) (f s : Substitution) where
-  mixed_agrees_with : (b : Binding) (v : Bool) → is_number_of locals b.number ≡ v → (is_number_of locals b.number ≡ false → apply_to_atom f (atom_of_variable (variable_of b)) ≡ b.term) →
-      apply_to_atom s (atom_of_variable (variable_of b)) ≡ b.term → apply_to_atom (mixed (is_number_of locals) f s) (atom_of_variable (variable_of b)) ≡ b.term
-  mixed_agrees_with b true e p q = second_at (is_number_of locals) f s (variable_of b).sort b.number e ∙ q
-  mixed_agrees_with b false e p q = first_at (is_number_of locals) f s (variable_of b).sort b.number e ∙ p e
+pub not_among : (xs : List Variable) (x : Variable) → has_variable xs x ≡ false → IsIn x xs → ⊥
+not_among xs x e i = not_both e (in_has_variable xs x i)
 
-  mixed_agrees : (bs : List Binding) → AgreesBut locals f bs → Agrees s bs → Agrees (mixed (is_number_of locals) f s) bs
+has_not : (xs : List Variable) (x : Variable) → (IsIn x xs → ⊥) → has_variable xs x ≡ false
+has_not xs x none = false_from_ne_true (has_variable xs x) (λ e. none (variable_in xs x e))
+
+module _ (locals : List Variable) (f s : Substitution) where
+  mixed_agrees_with : (b : Binding) (v : Bool) → has_variable locals (variable_of b) ≡ v → ((IsIn (variable_of b) locals → ⊥) → apply_to f (variable_term (variable_of b)) ≡ atom_term b.term) →
+      apply_to s (variable_term (variable_of b)) ≡ atom_term b.term → apply_to (mixed (has_variable locals) f s) (variable_term (variable_of b)) ≡ atom_term b.term
+  mixed_agrees_with b true e p q = second_at (has_variable locals) f s (variable_of b).sort b.number e ∙ q
+  mixed_agrees_with b false e p q = first_at (has_variable locals) f s (variable_of b).sort b.number e ∙ p (not_among locals (variable_of b) e)
+
+  mixed_agrees : (bs : List Binding) → AgreesBut locals f bs → Agrees s bs → Agrees (mixed (has_variable locals) f s) bs
   mixed_agrees [] h k = tt
-  mixed_agrees (b ∷ bs) h k = (mixed_agrees_with b (is_number_of locals b.number) refl h.0 k.0, mixed_agrees bs h.1 k.1)
+  mixed_agrees (b ∷ bs) h k = (mixed_agrees_with b (has_variable locals (variable_of b)) refl h.0 k.0, mixed_agrees bs h.1 k.1)
 
-  first_agrees : (bs : List Binding) → Agrees (mixed (is_number_of locals) f s) bs → AgreesBut locals f bs
+  first_agrees : (bs : List Binding) → Agrees (mixed (has_variable locals) f s) bs → AgreesBut locals f bs
   first_agrees [] h = tt
-  first_agrees (b ∷ bs) h = (λ e. sym (first_at (is_number_of locals) f s (variable_of b).sort b.number e) ∙ h.0, first_agrees bs h.1)
-
--- A variable of the pattern that is no local has the number of none.
-other_number : (p : Pattern) → IsPattern p → (x : Variable) → IsFreeIn x p → is_number_of (numbers p.locals) x.number ≡ false
-other_number p is x free = false_from_ne_true (is_number_of (numbers p.locals) x.number) (λ e.
-    let r = numbered p.locals x.number e in
-    let sort : (r.0).sort ≡ x.sort = is.one_sort r.0 x (is.locals_occur r.0 r.1) free.occurs r.2 in
-    free.no_local (subst (λ (y : Variable). IsIn y p.locals) (ap₂ (λ (k : Sort) (n : ℕ). record { sort = k; number = n }) sort r.2) r.1))
+  first_agrees (b ∷ bs) h = (λ none. sym (first_at (has_variable locals) f s (variable_of b).sort b.number (has_not locals (variable_of b) none)) ∙ h.0, first_agrees bs h.1)
 
 -- The bindings that make the pattern what s makes of it, without those of locals, are met by what says the same as s.
-module _ (p : Pattern) (is : IsPattern p) (s : Substitution) (q : List Binding) (m : MatchesBeside p.term (apply_to s p.term) [] q) (f : Substitution) where
+module _ (p : Pattern) (s : Substitution) (q : List Binding) (m : MatchesBeside p.term (apply_to s p.term) [] q) (f : Substitution) where
   abbrev both : Substitution
-  both = mixed (is_number_of (numbers p.locals)) f s
+  both = mixed (has_variable p.locals) f s
 
-  said_by_bindings : AgreesBut (numbers p.locals) f q → AgreesOnFree p s f
+  said_by_bindings : AgreesBut p.locals f q → AgreesOnFree p s f
   said_by_bindings h x free =
-      let agrees = mixed_agrees (numbers p.locals) f s q h (m.general s tt refl) in
-      sym (first_at (is_number_of (numbers p.locals)) f s x.sort x.number (other_number p is x free))
+      let agrees = mixed_agrees p.locals f s q h (m.general s tt refl) in
+      sym (first_at (has_variable p.locals) f s x.sort x.number (has_not p.locals x free.no_local))
       ∙ same_variables both s p.term (m.sound both agrees) x free.occurs
 
-  each_same : AgreesOnFree p s f → (x : Variable) (v : Bool) → is_number_of (numbers p.locals) x.number ≡ v → IsIn x (variables_of p.term) → SameFor both s x
-  each_same h x true e i = second_at (is_number_of (numbers p.locals)) f s x.sort x.number e
-  each_same h x false e i = first_at (is_number_of (numbers p.locals)) f s x.sort x.number e ∙ h x (record { occurs = i; no_local = λ l. not_both e (has_number p.locals x l) })
+  each_same : AgreesOnFree p s f → (x : Variable) (v : Bool) → has_variable p.locals x ≡ v → IsIn x (variables_of p.term) → SameFor both s x
+  each_same h x true e i = second_at (has_variable p.locals) f s x.sort x.number e
+  each_same h x false e i = first_at (has_variable p.locals) f s x.sort x.number e ∙ h x (record { occurs = i; no_local = not_among p.locals x e })
 
-  bindings_by_said : AgreesOnFree p s f → AgreesBut (numbers p.locals) f q
+  bindings_by_said : AgreesOnFree p s f → AgreesBut p.locals f q
   bindings_by_said h =
-      first_agrees (numbers p.locals) f s q (m.general both tt (agree_term both s p.term (λ x i. each_same h x (is_number_of (numbers p.locals) x.number) refl i)))
+      first_agrees p.locals f s q (m.general both tt (agree_term both s p.term (λ x i. each_same h x (has_variable p.locals x) refl i)))
 
 -- As the code has them.
-pub said_exactly : (p : Pattern) → IsPattern p → (s : Substitution) (locals : List ℕ) → locals ≡ map (λ (x : Variable). x.number) p.locals → (term image : Term) (given q all : List Binding) → term ≡ p.term → image ≡ apply_to s term →
+pub said_exactly : (p : Pattern) (s : Substitution) (locals : List Variable) → locals ≡ p.locals → (term image : Term) (given q all : List Binding) → term ≡ p.term → image ≡ apply_to s term →
     given ≡ [] → MatchesBeside term image given q → all ≡ q → (r : List Binding) → ((f : Substitution) → Agrees f r ↔ AgreesBut locals f all) → (f : Substitution) → Agrees f r ↔ AgreesOnFree p s f
-said_exactly p is s locals of_locals term image given q all is_term is_image nothing m same r kept f =
+said_exactly p s locals of_locals term image given q all is_term is_image nothing m same r kept f =
     let m1 : MatchesBeside p.term (apply_to s p.term) [] q =
     subst (λ (t : Term). MatchesBeside t (apply_to s p.term) [] q) is_term
     (subst (λ (t : Term). MatchesBeside term t [] q) (is_image ∙ ap (apply_to s) is_term)
     (subst (λ (g : List Binding). MatchesBeside term image g q) nothing m)) in
     let k = kept f in (
-      λ a. said_by_bindings p is s q m1 f (subst (λ (ns : List ℕ). AgreesBut ns f q) of_locals (subst (AgreesBut locals f) same (k.0 a))),
-      λ h. k.1 (subst (AgreesBut locals f) (sym same) (subst (λ (ns : List ℕ). AgreesBut ns f q) (sym of_locals) (bindings_by_said p is s q m1 f h))),
+      λ a. said_by_bindings p s q m1 f (subst (λ (xs : List Variable). AgreesBut xs f q) of_locals (subst (AgreesBut locals f) same (k.0 a))),
+      λ h. k.1 (subst (AgreesBut locals f) (sym same) (subst (λ (xs : List Variable). AgreesBut xs f q) (sym of_locals) (bindings_by_said p s q m1 f h))),
     )
+
+-- The sort of a binding.
+pub bound_sort : (k : Sort) (v : AtomTerm) → ((n : ℕ) → variable_of_sort k n ≡ variable_term (record { sort = sort_of v; number = n })) → k ≡ sort_of v
+bound_sort k v h = sym (sort_of_variable k 0) ∙ ap (λ (t : Term). sort_of (atom_of t)) (h 0) ∙ sort_of_variable (sort_of v) 0
 
 -- ---- the loop that keeps bindings
 
 -- What is kept, with what is left, says what all say.
-abbrev pub IsKept : List ℕ → List Binding → List Binding → List Binding → Type 0
+abbrev pub IsKept : List Variable → List Binding → List Binding → List Binding → Type 0
 IsKept locals all kept rest = (f : Substitution) → (Agrees f kept × AgreesBut locals f rest) ↔ AgreesBut locals f all
 
-pub none_kept : (locals : List ℕ) (all : List Binding) → IsKept locals all [] all
+pub none_kept : (locals : List Variable) (all : List Binding) → IsKept locals all [] all
 none_kept locals all f = (λ h. h.1, λ h. (tt, h))
 
-module _ (locals : List ℕ) (all kept : List Binding) (i : ℕ) (b : Binding) (so_far : IsKept locals all kept (drop i all)) (below : i < length all) (read : b ≡ get_or all i b) where
+module _ (locals : List Variable) (all kept : List Binding) (i : ℕ) (b : Binding) (so_far : IsKept locals all kept (drop i all)) (below : i < length all) (read : b ≡ get_or all i b) where
   one_left : IsKept locals all kept (b ∷ drop (i + 1) all)
   one_left = subst (IsKept locals all kept) (drop_read all i b below read) so_far
 
-  pub left_out : is_number_of locals b.number ≡ true → IsKept locals all kept (drop (i + 1) all)
+  pub left_out : has_variable locals (variable_of b) ≡ true → IsKept locals all kept (drop (i + 1) all)
   left_out e f = let h = one_left f in (
-    λ k. h.0 (k.0, ((λ n. absurd (not_both n e)), k.1)),
+    λ k. h.0 (k.0, ((λ none. absurd (none (variable_in locals (variable_of b) e))), k.1)),
     λ k. let r = h.1 k in (r.0, r.1.1),
   )
 
-  pub kept_too : is_number_of locals b.number ≡ false → (next : List Binding) → next ≡ b ∷ kept → IsKept locals all next (drop (i + 1) all)
+  pub kept_too : has_variable locals (variable_of b) ≡ false → (next : List Binding) → next ≡ b ∷ kept → IsKept locals all next (drop (i + 1) all)
   kept_too e next is f = subst (λ (bs : List Binding). (Agrees f bs × AgreesBut locals f (drop (i + 1) all)) ↔ AgreesBut locals f all) (sym is)
       (let h = one_left f in (
-        λ k. h.0 (k.0.1, ((λ n. k.0.0), k.1)),
-        λ k. let r = h.1 k in ((r.1.0 e, r.0), r.1.1),
+        λ k. h.0 (k.0.1, ((λ none. k.0.0), k.1)),
+        λ k. let r = h.1 k in ((r.1.0 (not_among locals (variable_of b) e), r.0), r.1.1),
       ))
 
-pub all_kept : (locals : List ℕ) (all kept : List Binding) (i : ℕ) → length all ≤ i → IsKept locals all kept (drop i all) → (f : Substitution) → Agrees f kept ↔ AgreesBut locals f all
+pub all_kept : (locals : List Variable) (all kept : List Binding) (i : ℕ) → length all ≤ i → IsKept locals all kept (drop i all) → (f : Substitution) → Agrees f kept ↔ AgreesBut locals f all
 all_kept locals all kept i end so_far f =
     let h = subst (IsKept locals all kept) (drop_all i all end) so_far f in (λ a. h.0 (a, tt), λ a. (h.1 a).0)

@@ -5,9 +5,8 @@ use Rattle.cp_theory.specs.Critical.{IsPartOfPairs, whole_part, part_of_left, pa
 use Rattle.cp_term.specs.Shapes.{HasShape}
 use Rattle.cp_term.specs.declared.shape.Shape.{Shape}
 use Rattle.cp_term.specs.declared.shape.Shape.TheVariants.{Tag, Variable, Inverse, Ltk, Pubk, Pair, Encryption}
-use Rattle.cp_term.specs.Variables.{variable_term}
+use Rattle.cp_term.specs.Variables.{variable_of_sort}
 use Rattle.cp_model.specs.declared.sort.Sort.{Sort}
-use Rattle.cp_model.specs.declared.sort.Sort.TheVariants.{Text, Datum, Name, Skey, Akey}
 use Rattle.cp_term.specs.declared.term.Term as program
 
 module _ (c : Term) where
@@ -41,12 +40,8 @@ module _ (c : Term) where
         (⊎_elim (λ p. absurd (not (record { part = p; no_pair = h.no_pair }))) (λ p. record { part = p; no_pair = h.no_pair }))
         (part_of_pair h.part l r is)
 
-variable_no_pair : (sort : Sort) (n : ℕ) (a b : Term) → variable_term sort n ≡ pair_term a b → ⊥
-variable_no_pair Text n a b e = cc
-variable_no_pair Datum n a b e = cc
-variable_no_pair Name n a b e = cc
-variable_no_pair Skey n a b e = cc
-variable_no_pair Akey n a b e = cc
+variable_no_pair : (sort : Sort) (n : ℕ) (a b : Term) → variable_of_sort sort n ≡ pair_term a b → ⊥
+variable_no_pair sort n a b e = cc
 
 -- A term of another shape than a pair is none.
 pub no_pair_by_shape : (s : Shape) (t : Term) → HasShape s t → ((l r : Bor program.Term) → s ≡ Pair l r → ⊥) → (a b : Term) → t ≡ pair_term a b → ⊥

@@ -1,7 +1,7 @@
 -- What a loop has seen of each item of a list.
-use Rattle.std.proofs.Common.{◌≡◌, ℕ, ◌+◌, ◌<◌, ◌≤◌, List, map, length, get_or, drop, sym, subst, ⊎_elim}
+use Rattle.std.proofs.Common.{◌≡◌, ℕ, ◌+◌, ◌<◌, ◌≤◌, List, length, get_or, drop, subst, ⊎_elim}
 use Rattle.cp_lists.specs.Lists.{IsIn}
-use Rattle.cp_lists.proofs.Members.{item_is_in, next_or_rest, none_left, from_map, into_map}
+use Rattle.cp_lists.proofs.Members.{item_is_in, next_or_rest, none_left}
 
 -- Each item has the property, where those from place i on have it.
 abbrev pub EachIfRest : {A : Type 0} → (A → Type 0) → List A → ℕ → Type 0
@@ -16,11 +16,3 @@ module _ {A : Type 0} (P : A → Type 0) (xs : List A) where
 
   pub not_each : (i : ℕ) (y : A) → i < length xs → y ≡ get_or xs i y → (P y → ⊥) → ((x : A) → IsIn x xs → P x) → ⊥
   not_each i y below read not each = not (each y (item_is_in xs i y below read))
-
--- The items of a list that is another under a function.
-module _ {A B : Type 0} (f : A → B) (P : B → Type 0) (xs : List A) (ys : List B) (all : map f xs ≡ ys) where
-  pub each_of_map : ((x : A) → IsIn x xs → P (f x)) → (y : B) → IsIn y ys → P y
-  each_of_map each y i = let r = from_map f xs (subst (λ (zs : List B). IsIn y zs) (sym all) i) in subst P r.2 (each r.0 r.1)
-
-  pub map_of_each : ((y : B) → IsIn y ys → P y) → (x : A) → IsIn x xs → P (f x)
-  map_of_each each x i = each (f x) (subst (λ (zs : List B). IsIn (f x) zs) all (into_map f i))

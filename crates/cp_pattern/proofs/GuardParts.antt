@@ -1,7 +1,8 @@
 -- What guards a test, part by part.
 use Rattle.std.proofs.Common.{◌≡◌, List, sym, subst}
 use Rattle.cp_lists.specs.Lists.{IsIn}
-use Rattle.cp_model.specs.Term.{Variable, Term, variables_of}
+use Rattle.cp_model.specs.Term.{Term, variables_of}
+use Rattle.cp_model.specs.declared.variable.Variable.{Variable}
 use Rattle.cp_model.specs.Tree.{Pattern}
 use Rattle.cp_model.specs.declared.node.Node.{Node}
 use Rattle.cp_model.specs.Skeleton.{Skeleton}

@@ -2,8 +2,11 @@
 use Rattle.std.proofs.Common.{◌≡◌, ℕ, suc, List, [], ◌∷◌, refl, sym, ap, ◌∙◌}
 use Rattle.cp_lists.specs.Lists.{IsIn, there}
 use Rattle.cp_lists.proofs.Members.{at_head}
-use Rattle.cp_model.specs.Term.{Sort, text_sort, datum_sort, name_sort, skey_sort, akey_sort, Variable, Term, atom_of_variable, Substitution, apply_to_atom, apply_to, composed}
-use Rattle.cp_model.proofs.LawTerms.{atom_composed, term_composed}
+use Rattle.cp_model.specs.Term.{Term, atom_of_variable, variable_term, Substitution, apply_to, composed, atom_term}
+use Rattle.cp_model.specs.declared.sort.Sort.{Sort}
+use Rattle.cp_model.specs.declared.sort.Sort.TheVariants.{Text as text_sort, Datum as datum_sort, Name as name_sort, Skey as skey_sort, Akey as akey_sort}
+use Rattle.cp_model.specs.declared.variable.Variable.{Variable}
+use Rattle.cp_model.proofs.LawTerms.{term_composed}
 use Rattle.cp_model.specs.Tree.{Pattern}
 use Rattle.cp_unify.specs.Bindings.{Binding, sort_of, variable_of}
 use Rattle.cp_unify.proofs.VariablesUnder.{other}
@@ -14,7 +17,7 @@ use Rattle.cp_pattern.specs.Opened.{with_new, opened_pattern}
 pub matching_stays : (p : Pattern) (s u : Substitution) (e : Term) → Matches p s e → Matches p (composed s u) (apply_to u e)
 matching_stays p s u e m = record {
   filled = composed m.filled u;
-  as_said = λ x free. atom_composed m.filled u (atom_of_variable x) ∙ ap (apply_to_atom u) (m.as_said x free) ∙ sym (atom_composed s u (atom_of_variable x));
+  as_said = λ x free. term_composed m.filled u (variable_term x) ∙ ap (apply_to u) (m.as_said x free) ∙ sym (term_composed s u (variable_term x));
   same = term_composed m.filled u p.term ∙ ap (apply_to u) m.same;
 }
 
@@ -30,18 +33,18 @@ binds_it : (n : ℕ) (x : Variable) → variable_of (to_new n x) ≡ x
 binds_it n x = ap (λ (s : Sort). record { sort = s; number = x.number }) (sort_of_variable x.sort n)
 
 -- New variables for the locals leave the others.
-pub others_stay : (n : ℕ) (xs : List Variable) (s : Substitution) (y : Variable) → (IsIn y xs → ⊥) → apply_to_atom (with_new n xs s) (atom_of_variable y) ≡ apply_to_atom s (atom_of_variable y)
+pub others_stay : (n : ℕ) (xs : List Variable) (s : Substitution) (y : Variable) → (IsIn y xs → ⊥) → apply_to (with_new n xs s) (variable_term y) ≡ apply_to s (variable_term y)
 others_stay n [] s y apart = refl
 others_stay n (x ∷ xs) s y apart =
-    other (to_new n x) (with_new (suc n) xs s) y (λ e. apart (at_head (e ∙ binds_it n x)))
+    ap atom_term (other (to_new n x) (with_new (suc n) xs s) y (λ e. apart (at_head (e ∙ binds_it n x))))
     ∙ others_stay (suc n) xs s y (λ i. apart (there i))
 
 -- Where a substitution makes a term and an opened pattern one, the pattern then matches the term.
 pub unifier_matches : (p : Pattern) (s u : Substitution) (n : ℕ) (e : Term) → apply_to u e ≡ apply_to u (opened_pattern p s n) → Matches p (composed s u) (apply_to u e)
 unifier_matches p s u n e same = record {
   filled = composed (with_new n p.locals s) u;
-  as_said = λ x free. atom_composed (with_new n p.locals s) u (atom_of_variable x)
-      ∙ ap (apply_to_atom u) (others_stay n p.locals s x free.no_local)
-      ∙ sym (atom_composed s u (atom_of_variable x));
+  as_said = λ x free. term_composed (with_new n p.locals s) u (variable_term x)
+      ∙ ap (apply_to u) (others_stay n p.locals s x free.no_local)
+      ∙ sym (term_composed s u (variable_term x));
   same = term_composed (with_new n p.locals s) u p.term ∙ sym same;
 }

@@ -1,17 +1,16 @@
 -- Transmissions of role strands before a node, as they are listed.
-use Rattle.std.proofs.Common.{◌≡◌, List, map, Some, Bool, true, refl, sym, ap, ◌∙◌, subst}
+use Rattle.std.proofs.Common.{◌≡◌, List, Some, Bool, true, refl, sym, ap, ◌∙◌, subst}
 use Rattle.cp_lists.specs.Lists.{IsIn, here}
 use Rattle.cp_lists.proofs.Members.{in_append_right}
-use Rattle.cp_pattern.proofs.Each.{each_of_map, map_of_each}
 use Rattle.cp_model.specs.Same.{same_term}
 use Rattle.cp_model.specs.Term.{Term, Substitution}
-use Rattle.cp_model.specs.Strand.{send}
+use Rattle.cp_model.specs.declared.strand.Event.TheVariants.{Send as send}
 use Rattle.cp_model.specs.declared.node.Node.{Node}
 use Rattle.cp_model.specs.Skeleton.{instance, term_event_at, Skeleton, Before, IsNodeOf}
 use Rattle.cp_model.specs.Derivable.{IsOnInstance}
 use Rattle.cp_model.specs.Tree.{Pattern}
-use Rattle.cp_skel.specs.Events.{LocatedEvent, located_event_view, is_role_strand, events_of}
-use Rattle.cp_skel.specs.declared.events.LocatedEvent as program
+use Rattle.cp_skel.specs.Events.{is_role_strand, events_of}
+use Rattle.cp_skel.specs.declared.events.LocatedEvent.{LocatedEvent}
 use Rattle.cp_skel.specs.Sound.{IsSound}
 use Rattle.cp_skel.proofs.OrderWithout.{way_ends}
 use Rattle.cp_skel.proofs.EventLists.{listed_event, listed_role, event_listed}
@@ -45,9 +44,9 @@ module _ (ps : List Pattern) (k : Skeleton) (n : Node) (c : Term) where
   each_guarded : ((o : LocatedEvent) → IsIn o (events_of k) → IsGuardedAt ps k n c o) → SendInsideAlone ps k n c
   each_guarded each m t on at before = each (record { node = m; event = send t; by_role = true }) (sent_listed m t on at) t refl refl before
 
-  module _ (os : List program.LocatedEvent) (all : map located_event_view os ≡ events_of k) where
-    pub guarded_by_each : ((o : program.LocatedEvent) → IsIn o os → IsGuardedAt ps k n c (located_event_view o)) → SendInsideAlone ps k n c
-    guarded_by_each each = each_guarded (each_of_map located_event_view (IsGuardedAt ps k n c) os (events_of k) all each)
+  module _ (os : List LocatedEvent) (all : os ≡ events_of k) where
+    pub guarded_by_each : ((o : LocatedEvent) → IsIn o os → IsGuardedAt ps k n c o) → SendInsideAlone ps k n c
+    guarded_by_each each = each_guarded (λ o i. each o (subst (λ (xs : List LocatedEvent). IsIn o xs) (sym all) i))
 
-    pub guarded_listed : SendInsideAlone ps k n c → (o : program.LocatedEvent) → IsIn o os → IsGuardedAt ps k n c (located_event_view o)
-    guarded_listed h = map_of_each located_event_view (IsGuardedAt ps k n c) os (events_of k) all (guarded_each h)
+    pub guarded_listed : SendInsideAlone ps k n c → (o : LocatedEvent) → IsIn o os → IsGuardedAt ps k n c o
+    guarded_listed h o i = guarded_each h o (subst (λ (xs : List LocatedEvent). IsIn o xs) all i)

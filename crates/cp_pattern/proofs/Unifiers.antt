@@ -2,7 +2,8 @@
 use Rattle.std.proofs.Common.{◌≡◌, ◌++◌, [], refl, sym, ap, ◌∙◌, subst, Option, Some, None, IfSome, IfNone}
 use Rattle.std.proofs.lemmas.List.{append-nil}
 use Rattle.std.specs.Prelude.{List}
-use Rattle.cp_model.specs.Term.{Variable, Term, variables_of, value_of, after, Substitution, apply_to}
+use Rattle.cp_model.specs.Term.{Term, variables_of, value_of, after, Substitution, apply_to}
+use Rattle.cp_model.specs.declared.variable.Variable.{Variable}
 use Rattle.cp_model.proofs.LawTerms.{value_after}
 use Rattle.cp_unify.specs.Bindings.{Binding, as_substitution, variables_of_bindings}
 use Rattle.cp_unify.specs.Unifiers.{AreVariablesAmong, IsMostGeneralUnifier, HasNoUnifier}

@@ -1,16 +1,17 @@
 -- Variables of lists that are put behind one another.
-use Rattle.std.proofs.Common.{◌≡◌, ℕ, suc, ◌≤◌, List, [], ◌∷◌, ◌++◌, map, length, drop, append_assoc, Bool, refl, sym, ap, ◌∙◌}
+use Rattle.std.proofs.Common.{◌≡◌, ℕ, suc, ◌≤◌, List, [], ◌∷◌, ◌++◌, length, drop, append_assoc, Bool, refl, sym, ap, ◌∙◌}
 use Rattle.std.proofs.lemmas.List.{append-nil, drop_all}
-use Rattle.cp_model.specs.Term.{Variable, Term, variables_of}
-use Rattle.cp_model.specs.Strand.{Event, payload, variables_of_trace}
+use Rattle.cp_model.specs.Term.{Term, variables_of}
+use Rattle.cp_model.specs.declared.variable.Variable.{Variable}
+use Rattle.cp_model.specs.Strand.{payload, variables_of_trace}
+use Rattle.cp_model.specs.declared.strand.Event.{Event}
+use Rattle.cp_model.specs.declared.strand.Event.TheVariants.{Send as send}
 use Rattle.cp_model.specs.Skeleton.{SkeletonStrand, skeleton_trace, Skeleton}
 use Rattle.cp_model.specs.Problem.{variables_of_strands, variables_of_atoms, variables_of_uniques}
-use Rattle.cp_skel.specs.Events.{LocatedEvent, is_role_strand, located_events_on, located_events_from, events_of}
+use Rattle.cp_skel.specs.Events.{is_role_strand, located_events_on, located_events_from, events_of}
+use Rattle.cp_skel.specs.declared.events.LocatedEvent.{LocatedEvent}
 use Rattle.cp_theory.specs.Normal.{variables_of_terms}
 use Rattle.cp_theory.specs.Critical.{used_variables}
-use Rattle.cp_strand.specs.View.{event_view}
-use Rattle.cp_strand.specs.declared.protocol.Event as program
-use Rattle.cp_strand.specs.declared.protocol.Event.TheVariants.{Send}
 use Rattle.cp_pattern.specs.Within.{variables_of_occurrences}
 
 of_occurrences-append : (os ps : List LocatedEvent) → variables_of_occurrences (os ++ ps) ≡ variables_of_occurrences os ++ variables_of_occurrences ps
@@ -39,10 +40,10 @@ five_lists a b c d e = ap (λ xs. xs ++ e) (ap (λ xs. xs ++ d) (append_assoc a 
 -- ---- one more
 
 -- A transmission behind others.
-pub sent_behind : (es : List program.Event) (t : Term) → variables_of_trace (map event_view (es ++ Send t ∷ [])) ≡ variables_of_trace (map event_view es) ++ variables_of t
+pub sent_behind : (es : List (Event Term)) (t : Term) → variables_of_trace (es ++ send t ∷ []) ≡ variables_of_trace es ++ variables_of t
 sent_behind [] t = append-nil (variables_of t)
 sent_behind (e ∷ es) t =
-    ap (λ xs. variables_of (payload (event_view e)) ++ xs) (sent_behind es t) ∙ sym (append_assoc (variables_of (payload (event_view e))) (variables_of_trace (map event_view es)) (variables_of t))
+    ap (λ xs. variables_of (payload e) ++ xs) (sent_behind es t) ∙ sym (append_assoc (variables_of (payload e)) (variables_of_trace es) (variables_of t))
 
 -- What is put behind others is the first of what was left.
 pub put_next : (old new left rest whole added : List Variable) → new ≡ old ++ added → left ≡ added ++ rest → old ++ left ≡ whole → new ++ rest ≡ whole

@@ -1,7 +1,7 @@
 -- Terms that are received at a node.
 use Rattle.std.specs.Prelude.{◌≡◌, Some}
 use Rattle.cp_model.specs.Term.{Term}
-use Rattle.cp_model.specs.Strand.{recv}
+use Rattle.cp_model.specs.declared.strand.Event.TheVariants.{Receive as recv}
 use Rattle.cp_model.specs.declared.node.Node.{Node}
 use Rattle.cp_model.specs.Skeleton.{term_event_at, Skeleton}
 use Rattle.cp_theory.specs.Critical.{IsComponent}

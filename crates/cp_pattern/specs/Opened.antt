@@ -1,8 +1,9 @@
 -- Patterns with new variables for their locals.
 use Rattle.std.specs.Prelude.{◌≡◌, ℕ, suc, List, [], ◌∷◌, ◌++◌, map, take, codes, Option, Some, None}
 use Rattle.cp_lists.specs.Lists.{item_at}
-use Rattle.cp_model.specs.Term.{Variable, Term, atom_of_variable, Substitution, apply_to}
-use Rattle.cp_model.specs.Strand.{Declaration}
+use Rattle.cp_model.specs.Term.{Term, atom_of_variable, Substitution, apply_to}
+use Rattle.cp_model.specs.declared.variable.Variable.{Variable}
+use Rattle.cp_model.specs.declared.variable.Declaration.{Declaration}
 use Rattle.cp_model.specs.Tree.{Pattern}
 use Rattle.cp_unify.specs.Bindings.{Binding, put_term}
 

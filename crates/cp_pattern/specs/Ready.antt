@@ -1,23 +1,23 @@
 -- Patterns that are ready for matching under a substitution of their other variables.
-use Rattle.std.specs.Prelude.{◌≡◌, ◌↔◌, ℕ, false, List, [], ◌∷◌}
+use Rattle.std.specs.Prelude.{◌≡◌, ◌↔◌, List, [], ◌∷◌}
 use Rattle.cp_lists.specs.Lists.{IsIn}
 use Rattle.cp_model.specs.Senders.{ArePaired}
-use Rattle.cp_model.specs.Term.{Variable, Term, atom_of_variable, Substitution, apply_to_atom}
+use Rattle.cp_model.specs.Term.{Term, atom_term, variable_term, Substitution, apply_to}
+use Rattle.cp_model.specs.declared.variable.Variable.{Variable}
 use Rattle.cp_model.specs.Tree.{Pattern}
 use Rattle.cp_unify.specs.Beside.{Agrees}
 use Rattle.cp_unify.specs.Bindings.{Binding, variable_of}
-use Rattle.cp_unify.specs.Matches.{is_number_of}
 use Rattle.cp_theory.specs.Matches.{IsFreeIn, Matches}
 use Rattle.cp_pattern.specs.declared.pattern_matches.Ready.{Ready}
 
--- The substitution gives the variable of each binding its term, but for those with these numbers.
-abbrev pub AgreesBut : List ℕ → Substitution → List Binding → Type 0
-AgreesBut numbers f [] = Unit {0}
-AgreesBut numbers f (b ∷ bs) = (is_number_of numbers b.number ≡ false → apply_to_atom f (atom_of_variable (variable_of b)) ≡ b.term) × AgreesBut numbers f bs
+-- The substitution gives the variable of each binding its term, but for these variables.
+abbrev pub AgreesBut : List Variable → Substitution → List Binding → Type 0
+AgreesBut locals f [] = Unit {0}
+AgreesBut locals f (b ∷ bs) = ((IsIn (variable_of b) locals → ⊥) → apply_to f (variable_term (variable_of b)) ≡ atom_term b.term) × AgreesBut locals f bs
 
 -- f gives the variables of the pattern that are not local what s says of them.
 abbrev pub AgreesOnFree : Pattern → Substitution → Substitution → Type 0
-AgreesOnFree p s f = (x : Variable) → IsFreeIn x p → apply_to_atom f (atom_of_variable x) ≡ apply_to_atom s (atom_of_variable x)
+AgreesOnFree p s f = (x : Variable) → IsFreeIn x p → apply_to f (variable_term x) ≡ apply_to s (variable_term x)
 
 -- It has the pattern's term, and the substitutions that agree with its bindings are those that say what s says.
 pub record IsReadyFor (s : Substitution) (p : Pattern) (r : Ready) : Type 0 where

@@ -1,25 +1,25 @@
 -- Variables among others, and patterns that may guard tests.
-use Rattle.std.specs.Prelude.{◌&&◌, ◌||◌, ℕ, List, [], ◌∷◌, ◌++◌, Bool, true, false}
+use Rattle.std.specs.Prelude.{◌&&◌, ◌||◌, List, [], ◌∷◌, ◌++◌, Bool, true, false}
 use Rattle.cp_lists.specs.Lists.{IsIn}
-use Rattle.cp_model.specs.Term.{Variable, variables_of}
+use Rattle.cp_model.specs.Term.{variables_of}
+use Rattle.cp_model.specs.declared.variable.Variable.{Variable}
 use Rattle.cp_model.specs.Strand.{payload}
 use Rattle.cp_model.specs.Same.{has_variable}
 use Rattle.cp_model.specs.Tree.{Pattern}
 use Rattle.cp_model.specs.Pattern.{IsPattern}
-use Rattle.cp_skel.specs.Events.{LocatedEvent}
-use Rattle.cp_unify.specs.Matches.{is_number_of}
+use Rattle.cp_skel.specs.declared.events.LocatedEvent.{LocatedEvent}
 use Rattle.cp_theory.specs.Matches.{IsFreeIn}
 use Rattle.cp_theory.specs.Guards.{HoldsNoLocalInItsKey}
 
--- Each of the variables on the right has one of these numbers, or is among those on the left.
-abbrev pub has_all_but : List ℕ → List Variable → List Variable → Bool
-has_all_but numbers xs [] = true
-has_all_but numbers xs (y ∷ ys) = (is_number_of numbers y.number || has_variable xs y) && has_all_but numbers xs ys
+-- Each of the variables on the right is a local, or among those on the left.
+abbrev pub has_all_but : List Variable → List Variable → List Variable → Bool
+has_all_but locals xs [] = true
+has_all_but locals xs (y ∷ ys) = (has_variable locals y || has_variable xs y) && has_all_but locals xs ys
 
--- One of the variables has one of these numbers.
-abbrev pub has_numbered : List ℕ → List Variable → Bool
-has_numbered numbers [] = false
-has_numbered numbers (x ∷ xs) = is_number_of numbers x.number || has_numbered numbers xs
+-- One of the variables on the right is among those on the left.
+abbrev pub has_some : List Variable → List Variable → Bool
+has_some xs [] = false
+has_some xs (y ∷ ys) = has_variable xs y || has_some xs ys
 
 -- The variables that occur in the messages of these events.
 abbrev pub variables_of_occurrences : List LocatedEvent → List Variable

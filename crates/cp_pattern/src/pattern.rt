@@ -1,32 +1,33 @@
 // Patterns that may guard tests.
-ghost use Rattle.std.specs.Prelude.{◌≡◌, ◌↔◌, map, IsTrue};
+ghost use Rattle.std.specs.Prelude.{◌≡◌, ◌↔◌, IsTrue};
 ghost use Rattle.cp_lists.specs.Lists.{IsIn};
 ghost use Rattle.cp_model.specs.Strand.{variables_of_trace};
 ghost use Rattle.cp_model.specs.Term.{KeyTerm, variables_of_key};
 ghost use Rattle.cp_model.specs.Tree.{Pattern as Plain};
-ghost use Rattle.cp_strand.specs.View.{event_view};
 ghost use Rattle.cp_term.specs.Keys.{key_as_term};
-ghost use Rattle.cp_pattern.specs.Within.{has_numbered, MayGuard};
+ghost use Rattle.cp_pattern.specs.Within.{has_some, MayGuard};
 
-use crate::within::all_within;
+use crate::within::{all_within, is_local};
+use cp_model::Variable;
 use cp_skel::Event;
-use cp_term::{Pattern, Shape, Term, VarId};
+use cp_term::{Pattern, Shape, Sort, Term};
 
-/// Whether a variable of the key has one of these numbers.
-fn holds_local(locals: &[VarId], key: &Term) -> bool
-    ensures { (k : KeyTerm) → key.now ≡ key_as_term k → result ≡ has_numbered locals.now (variables_of_key k) }
+/// Whether a variable of the key is one of these.
+fn holds_local(locals: &[Variable], key: &Term) -> bool
+    ensures { (k : KeyTerm) → key.now ≡ key_as_term k → result ≡ has_some locals.now (variables_of_key k) }
 {
     match key.shape() {
-        Shape::Variable(id, _) | Shape::Inverse(id) => locals.contains(&id),
-        Shape::Ltk(a, b) => locals.contains(&a) || locals.contains(&b),
-        Shape::Pubk(_, _, name) => locals.contains(&name),
+        Shape::Variable(id, sort) => is_local(locals, id, sort),
+        Shape::Inverse(id) => is_local(locals, id, Sort::Akey),
+        Shape::Ltk(a, b) => is_local(locals, a, Sort::Name) || is_local(locals, b, Sort::Name),
+        Shape::Pubk(_, _, name) => is_local(locals, name, Sort::Name),
         Shape::Tag(_) | Shape::Pair(..) | Shape::Encryption(..) => false,
     }
 }
 
 /// Whether the pattern may guard tests: its key holds no local, and its other variables occur in these events.
 fn may_guard(events: &[Event], pattern: &Pattern) -> bool
-    ensures { IsTrue result ↔ MayGuard (variables_of_trace (map event_view events.now)) pattern.now }
+    ensures { IsTrue result ↔ MayGuard (variables_of_trace events.now) pattern.now }
 {
     let locals = pattern.locals();
     let term = pattern.term();
@@ -41,7 +42,7 @@ fn may_guard(events: &[Event], pattern: &Pattern) -> bool
 
 /// Whether each of the patterns may guard tests: its key holds no local, and its other variables occur in these events.
 pub(crate) fn all_may_guard(events: &[Event], patterns: &[Pattern]) -> bool
-    ensures { IsTrue result ↔ ((p : Plain) → IsIn p patterns.now → MayGuard (variables_of_trace (map event_view events.now)) p) }
+    ensures { IsTrue result ↔ ((p : Plain) → IsIn p patterns.now → MayGuard (variables_of_trace events.now) p) }
 {
     for pattern in patterns {
         if !may_guard(events, pattern) {

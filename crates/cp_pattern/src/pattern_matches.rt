@@ -3,12 +3,13 @@ ghost use Rattle.std.specs.Prelude.{◌≡◌, ◌↔◌, List, IsTrue, IfOk};
 ghost use Rattle.cp_model.specs.Term.{Substitution};
 ghost use Rattle.cp_model.specs.Tree.{Pattern as Plain};
 ghost use Rattle.cp_unify.specs.Beside.{Agrees};
-ghost use Rattle.cp_unify.specs.Bindings.{as_substitution};
-ghost use Rattle.cp_unify.specs.Matches.{is_number_of};
+ghost use Rattle.cp_model.specs.Same.{has_variable};
+ghost use Rattle.cp_unify.specs.Bindings.{variable_of, as_substitution};
 ghost use Rattle.cp_theory.specs.Matches.{Matches};
 ghost use Rattle.cp_pattern.specs.Ready.{AgreesBut, AgreesOnFree, IsReadyFor, AreReadyFor, HasMatch};
 
-use cp_term::{Pattern, Term, VarId};
+use cp_model::{Variable, has_variable};
+use cp_term::{Pattern, Term};
 use cp_unify::{Binding, Subst, apply, matching_beside};
 use std::alloc::{AllocError, Global};
 
@@ -20,20 +21,24 @@ pub(crate) struct Ready {
     said: Subst,
 }
 
-/// Whether a variable has one of these numbers.
-fn is_local(locals: &[VarId], variable: VarId) -> bool
-    ensures { result ≡ is_number_of locals.now variable }
+/// Whether the binding is of one of these variables.
+fn is_of_local(binding: &Binding, locals: &[Variable]) -> bool
+    ensures { result ≡ has_variable locals.now (variable_of binding.now) }
 {
-    locals.contains(&variable)
+    let variable = Variable {
+        sort: binding.sort(),
+        number: binding.variable().number(),
+    };
+    has_variable(locals, variable)
 }
 
-/// The bindings, except those of variables with these numbers.
-fn without(alloc: Global, bindings: &[Binding], locals: &[VarId]) -> Result<Subst, AllocError>
+/// The bindings, except those of these variables.
+fn without(alloc: Global, bindings: &[Binding], locals: &[Variable]) -> Result<Subst, AllocError>
     ensures { IfOk result (λ r. (f : Substitution) → Agrees f r ↔ AgreesBut locals.now f bindings.now) }
 {
     let mut kept = Subst::new(alloc);
     for binding in bindings {
-        if is_local(locals, binding.variable()) {
+        if is_of_local(binding, locals) {
             continue;
         }
         let term = binding.term().copy()?;

@@ -1,7 +1,6 @@
 // Transmissions of role strands before a node.
 ghost use Rattle.std.specs.Prelude.{◌≡◌, ◌↔◌, IsTrue, IfOk};
 ghost use Rattle.cp_model.specs.Skeleton.{IsNodeOf};
-ghost use Rattle.cp_skel.specs.Events.{located_event_view};
 ghost use Rattle.cp_skel.specs.View.{skeleton_view};
 ghost use Rattle.cp_pattern.specs.Sent.{IsGuardedAt, SendInsideAlone};
 
@@ -25,7 +24,7 @@ fn is_guarded_at(
 ) -> Result<bool, AllocError>
     requires there { IsNodeOf (skeleton_view k.now).strands node }
     requires gathered { leading.now ≡ record { pairs = k.now.order; node = node } }
-    ensures { IfOk result (λ answer. IsTrue answer ↔ IsGuardedAt patterns.now (skeleton_view k.now) node critical.now (located_event_view occurrence.now)) }
+    ensures { IfOk result (λ answer. IsTrue answer ↔ IsGuardedAt patterns.now (skeleton_view k.now) node critical.now occurrence.now) }
 {
     let Event::Send(message) = &occurrence.event else {
         return Ok(true);

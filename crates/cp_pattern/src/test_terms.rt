@@ -1,8 +1,7 @@
 // Tests whether a term is a test at a node.
-ghost use Rattle.std.specs.Prelude.{◌≡◌, ◌↔◌, option_map, IsTrue, IfOk};
+ghost use Rattle.std.specs.Prelude.{◌≡◌, ◌↔◌, IsTrue, IfOk};
 ghost use Rattle.cp_theory.specs.Critical.{IsTest};
 ghost use Rattle.cp_model.specs.Skeleton.{term_event_at};
-ghost use Rattle.cp_strand.specs.View.{event_view};
 ghost use Rattle.cp_skel.specs.View.{skeleton_view};
 ghost use Rattle.cp_pattern.specs.HeardTerms.{IsReceivedComponentAt};
 
@@ -14,7 +13,7 @@ use std::alloc::{AllocError, Global};
 
 /// The event at a node, if there is one.
 pub(crate) fn event_at(alloc: Global, k: &Skeleton, node: Node) -> Result<Option<Event>, AllocError>
-    ensures { IfOk result (λ e. option_map event_view e ≡ term_event_at (skeleton_view k.now).strands node) }
+    ensures { IfOk result (λ e. e ≡ term_event_at (skeleton_view k.now).strands node) }
 {
     match k.strands().get(node.strand) {
         Some(strand) => strand.event(alloc, node.index),

@@ -1,13 +1,11 @@
 // The uses of a skeleton's variables.
-ghost use Rattle.std.specs.Prelude.{◌≡◌, ◌++◌, map, IfOk, OnOk};
+ghost use Rattle.std.specs.Prelude.{◌≡◌, ◌++◌, IfOk, OnOk};
 ghost use Rattle.cp_theory.specs.Normal.{variables_of_terms};
 ghost use Rattle.cp_theory.specs.Critical.{used_variables};
 ghost use Rattle.cp_model.specs.Problem.{variables_of_atoms, variables_of_uniques, variables_of_strands};
 ghost use Rattle.cp_model.specs.Strand.{variables_of_trace};
 ghost use Rattle.cp_model.specs.Term.{variables_of};
-ghost use Rattle.cp_skel.specs.Events.{located_event_view};
 ghost use Rattle.cp_skel.specs.View.{skeleton_view};
-ghost use Rattle.cp_strand.specs.View.{event_view};
 ghost use Rattle.cp_pattern.specs.Within.{variables_of_occurrences};
 
 use cp_skel::{Atom, Event, LocatedEvent, Skeleton, UniqueAt};
@@ -16,7 +14,7 @@ use std::alloc::{AllocError, Global};
 
 /// Appends a transmission of the term.
 fn add_term(term: &Term, events: &mut Vec<Event>) -> Result<(), AllocError>
-    ensures { OnOk result (variables_of_trace (map event_view events.new.items) ≡ variables_of_trace (map event_view events.old.items) ++ variables_of term.now) }
+    ensures { OnOk result (variables_of_trace events.new.items ≡ variables_of_trace events.old.items ++ variables_of term.now) }
 {
     let term = term.copy()?;
     events.push(Event::Send(term))?;
@@ -25,7 +23,7 @@ fn add_term(term: &Term, events: &mut Vec<Event>) -> Result<(), AllocError>
 
 /// Appends transmissions of the terms.
 fn add_terms(terms: &[Term], events: &mut Vec<Event>) -> Result<(), AllocError>
-    ensures { OnOk result (variables_of_trace (map event_view events.new.items) ≡ variables_of_trace (map event_view events.old.items) ++ variables_of_terms terms.now) }
+    ensures { OnOk result (variables_of_trace events.new.items ≡ variables_of_trace events.old.items ++ variables_of_terms terms.now) }
 {
     for term in terms {
         add_term(term, events)?;
@@ -35,7 +33,7 @@ fn add_terms(terms: &[Term], events: &mut Vec<Event>) -> Result<(), AllocError>
 
 /// Appends transmissions of the atoms.
 fn add_atoms(atoms: &[Atom], events: &mut Vec<Event>) -> Result<(), AllocError>
-    ensures { OnOk result (variables_of_trace (map event_view events.new.items) ≡ variables_of_trace (map event_view events.old.items) ++ variables_of_atoms atoms.now) }
+    ensures { OnOk result (variables_of_trace events.new.items ≡ variables_of_trace events.old.items ++ variables_of_atoms atoms.now) }
 {
     for atom in atoms {
         add_term(atom.as_term(), events)?;
@@ -45,7 +43,7 @@ fn add_atoms(atoms: &[Atom], events: &mut Vec<Event>) -> Result<(), AllocError>
 
 /// Appends transmissions of the unique values.
 fn add_uniques(uniques: &[UniqueAt], events: &mut Vec<Event>) -> Result<(), AllocError>
-    ensures { OnOk result (variables_of_trace (map event_view events.new.items) ≡ variables_of_trace (map event_view events.old.items) ++ variables_of_uniques uniques.now) }
+    ensures { OnOk result (variables_of_trace events.new.items ≡ variables_of_trace events.old.items ++ variables_of_uniques uniques.now) }
 {
     for unique in uniques {
         add_term(unique.value().as_term(), events)?;
@@ -55,7 +53,7 @@ fn add_uniques(uniques: &[UniqueAt], events: &mut Vec<Event>) -> Result<(), Allo
 
 /// Appends transmissions of the messages.
 fn add_messages(occurrences: &[LocatedEvent], events: &mut Vec<Event>) -> Result<(), AllocError>
-    ensures { OnOk result (variables_of_trace (map event_view events.new.items) ≡ variables_of_trace (map event_view events.old.items) ++ variables_of_occurrences (map located_event_view occurrences.now)) }
+    ensures { OnOk result (variables_of_trace events.new.items ≡ variables_of_trace events.old.items ++ variables_of_occurrences occurrences.now) }
 {
     for occurrence in occurrences {
         add_term(occurrence.event.payload(), events)?;
@@ -66,7 +64,7 @@ fn add_messages(occurrences: &[LocatedEvent], events: &mut Vec<Event>) -> Result
 /// Transmissions of all terms in which the skeleton uses variables: its messages, the values of its assumptions, and the values
 /// of its problem's variables.
 pub(crate) fn used_in(alloc: Global, k: &Skeleton) -> Result<Vec<Event>, AllocError>
-    ensures { IfOk result (λ es. variables_of_trace (map event_view es.items) ≡ used_variables (skeleton_view k.now)) }
+    ensures { IfOk result (λ es. variables_of_trace es.items ≡ used_variables (skeleton_view k.now)) }
 {
     let mut events = Vec::new(alloc);
     let occurrences = k.events(alloc)?;

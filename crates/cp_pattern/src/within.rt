@@ -1,25 +1,35 @@
 // Tests whether the variables of terms are among given ones.
-ghost use Rattle.std.specs.Prelude.{◌≡◌, ◌||◌, map};
+ghost use Rattle.std.specs.Prelude.{◌≡◌, ◌||◌};
 ghost use Rattle.cp_model.specs.Same.{has_variable};
 ghost use Rattle.cp_model.specs.Strand.{variables_of_trace};
 ghost use Rattle.cp_model.specs.Term.{variables_of};
-ghost use Rattle.cp_strand.specs.View.{sort_view, event_view};
-ghost use Rattle.cp_unify.specs.Matches.{is_number_of};
 ghost use Rattle.cp_pattern.specs.Within.{has_all_but};
 
+use cp_model::{Variable, has_variable};
 use cp_skel::{Event, occurs};
 use cp_term::{Shape, Sort, Term, VarId};
 
-/// Whether the variable has one of these numbers, or occurs in the events.
-fn is_within(events: &[Event], locals: &[VarId], id: VarId, sort: Sort) -> bool
-    ensures { result ≡ (is_number_of locals.now id || has_variable (variables_of_trace (map event_view events.now)) (record { sort = sort_view sort; number = id })) }
+/// Whether the variable of this sort is one of these.
+pub(crate) fn is_local(locals: &[Variable], id: VarId, sort: Sort) -> bool
+    ensures { result ≡ has_variable locals.now (record { sort = sort; number = id }) }
 {
-    locals.contains(&id) || occurs(events, id, sort)
+    let variable = Variable {
+        sort,
+        number: id.number(),
+    };
+    has_variable(locals, variable)
 }
 
-/// Whether each variable of the term has one of these numbers, or occurs in the events.
-pub fn all_within(events: &[Event], locals: &[VarId], term: &Term) -> bool
-    ensures { result ≡ has_all_but locals.now (variables_of_trace (map event_view events.now)) (variables_of term.now) }
+/// Whether the variable of this sort is one of these, or occurs in the events.
+fn is_within(events: &[Event], locals: &[Variable], id: VarId, sort: Sort) -> bool
+    ensures { result ≡ (has_variable locals.now (record { sort = sort; number = id }) || has_variable (variables_of_trace events.now) (record { sort = sort; number = id })) }
+{
+    is_local(locals, id, sort) || occurs(events, id, sort)
+}
+
+/// Whether each variable of the term is one of these, or occurs in the events.
+pub fn all_within(events: &[Event], locals: &[Variable], term: &Term) -> bool
+    ensures { result ≡ has_all_but locals.now (variables_of_trace events.now) (variables_of term.now) }
 {
     let mut rest = term;
     loop {

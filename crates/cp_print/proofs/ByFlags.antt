@@ -2,11 +2,12 @@
 use Rattle.std.proofs.Common.{◌≡◌, ℕ, suc, ◌+◌, ◌≤◌, List, [], ◌∷◌, length, get_or, Bool, false, refl, ap, ◌∙◌, arith, add-one}
 use Rattle.std.specs.Prelude.{Some}
 use Rattle.cp_lists.specs.Lists.{item_at}
-use Rattle.cp_model.specs.Term.{Variable, Substitution, atom_of_variable, apply_to_atom}
-use Rattle.cp_model.specs.Strand.{Declaration}
+use Rattle.cp_model.specs.Term.{apply_to, variable_term, Substitution}
+use Rattle.cp_model.specs.declared.variable.Variable.{Variable}
+use Rattle.cp_model.specs.declared.variable.Declaration.{Declaration}
 use Rattle.cp_sexpr.specs.Syntax.{Form}
 use Rattle.cp_language.specs.Names.{has_number, sort_text}
-use Rattle.cp_language.specs.Printed.{variable, word, plain_list, atom_form}
+use Rattle.cp_language.specs.Printed.{term_form, variable, word, plain_list}
 use Rattle.cp_language.specs.Report.{name_or_none, vars_from, maplets_from}
 use Rattle.cp_model.specs.Same.{has_variable}
 use Rattle.cp_names.specs.Flags.{AreFlagsOf, AreFlagsAmong}
@@ -34,7 +35,7 @@ module _ (named : Variable → Form) (prefix : List Variable) (all : List Declar
   maplets-from n [] h = refl
   maplets-from n (d ∷ ds) h =
       let x = variable d.sort n in
-      let f = plain_list (word d.identifier ∷ atom_form named (apply_to_atom terms (atom_of_variable x)) ∷ []) in
+      let f = plain_list (word d.identifier ∷ term_form named (apply_to terms (variable_term x)) ∷ []) in
       let here : item_at all n ≡ Some d = ap (item_at all) (let e : n ≡ n + 0 = omega arith in e) ∙ h 0 d refl in
       let later : AreFrom all (suc n) ds = λ k e g. ap (item_at all) (let j : suc n + k ≡ n + suc k = omega arith in j) ∙ h (suc k) e g in
       let rest : maplets_by named flags terms (n + 1) ds ≡ maplets_from named prefix terms (suc n) ds = ap (λ k. maplets_by named flags terms k ds) (add-one n) ∙ maplets-from (suc n) ds later in

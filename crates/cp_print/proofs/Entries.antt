@@ -10,8 +10,9 @@ use Rattle.cp_sexpr.specs.declared.form.Form as program
 use Rattle.cp_language.specs.Problems.{Problem}
 use Rattle.cp_language.specs.Report.{label_form}
 use Rattle.cp_language.specs.ShapesText.{chosen_from, chosen_report_from, chosen_report_forms}
-use Rattle.cp_load.specs.declared.input.Problem as loaded
-use Rattle.cp_load.specs.Inputs.{problem_view, entries_view}
+use Rattle.cp_load.specs.declared.input.Entry as loaded
+use Rattle.cp_load.specs.Inputs.{problem_view, problem_in, entries_view}
+use Rattle.cp_load.proofs.Entries.{form_viewed, problem_viewed, none_viewed}
 use Rattle.cp_skel.specs.declared.tree.TreeNode.{TreeNode}
 use Rattle.cp_skel.specs.Trees.{label_view}
 use Rattle.cp_print.specs.WrittenForms.{HasAppendedForms, Leaves, entry_forms, trees_behind}
@@ -24,39 +25,36 @@ entry-first chosen f (Some p) [] rest = refl
 entry-first chosen f (Some p) (t ∷ ts) rest = refl
 
 -- The top forms from entry number k on, of a report with these trees for the problems among them.
-abbrev pub entries_left : (Label → Bool) → List program.Form → List (Option loaded.Problem) → ℕ → List Tree → List Form
-entries_left chosen fs ps k ts = chosen_report_forms chosen (entries_view (map view (drop k fs)) (drop k ps)) ts
+abbrev pub entries_left : (Label → Bool) → List program.Form → List loaded.Entry → ℕ → List Tree → List Form
+entries_left chosen fs es k ts = chosen_report_forms chosen (entries_view (map view (drop k fs)) (drop k es)) ts
 
 -- one entry, and those behind it
-pub entry_next : (chosen : Label → Bool) (fs : List program.Form) (ps : List (Option loaded.Problem)) (k : ℕ) (f : program.Form) (p : Option loaded.Problem) (ts us : List Tree)
-    → k < min (length fs) (length ps) → f ≡ get_or fs k f → p ≡ get_or ps k p → us ≡ trees_behind (option_map problem_view p) ts
-    → chosen_report_forms chosen (entries_view (map view (drop k fs)) (drop k ps)) ts ≡ entry_forms chosen (view f) (option_map problem_view p) ts ++ chosen_report_forms chosen (entries_view (map view (drop (k + 1) fs)) (drop (k + 1) ps)) us
-entry_next chosen fs ps k f p ts us lt e e' g =
-    let rest = chosen_report_forms chosen (entries_view (map view (drop (k + 1) fs)) (drop (k + 1) ps)) in
-    ap₂ (λ (xs : List program.Form) (qs : List (Option loaded.Problem)). chosen_report_forms chosen (entries_view (map view xs) qs) ts) (drop_read fs k f (omega arith) e) (drop_read ps k p (omega arith) e')
-    ∙ entry-first chosen (view f) (option_map problem_view p) ts rest ∙ ap (λ vs. entry_forms chosen (view f) (option_map problem_view p) ts ++ rest vs) (sym g)
-
-entries-short : (fs : List Form) → entries_view fs [] ≡ []
-entries-short [] = refl
-entries-short (f ∷ fs) = refl
+pub entry_next : (chosen : Label → Bool) (fs : List program.Form) (es : List loaded.Entry) (k : ℕ) (f : program.Form) (e : loaded.Entry) (ts us : List Tree)
+    → k < min (length fs) (length es) → f ≡ get_or fs k f → e ≡ get_or es k e → us ≡ trees_behind (option_map problem_view (problem_in e)) ts
+    → chosen_report_forms chosen (entries_view (map view (drop k fs)) (drop k es)) ts ≡ entry_forms chosen (view f) (option_map problem_view (problem_in e)) ts ++ chosen_report_forms chosen (entries_view (map view (drop (k + 1) fs)) (drop (k + 1) es)) us
+entry_next chosen fs es k f e ts us lt is is' g =
+    let rest = chosen_report_forms chosen (entries_view (map view (drop (k + 1) fs)) (drop (k + 1) es)) in
+    ap₂ (λ (xs : List program.Form) (ys : List loaded.Entry). chosen_report_forms chosen (entries_view (map view xs) ys) ts) (drop_read fs k f (omega arith) is) (drop_read es k e (omega arith) is')
+    ∙ ap₂ (λ (h : Form) (o : Option Problem). chosen_report_from chosen h o ts rest) (form_viewed e (view f)) (problem_viewed e (view f))
+    ∙ entry-first chosen (view f) (option_map problem_view (problem_in e)) ts rest ∙ ap (λ vs. entry_forms chosen (view f) (option_map problem_view (problem_in e)) ts ++ rest vs) (sym g)
 
 -- at the end of the shorter list no entry is left
-pub entries_done : (chosen : Label → Bool) (fs : List program.Form) (ps : List (Option loaded.Problem)) (k : ℕ) (ts : List Tree) → min (length fs) (length ps) ≤ k → chosen_report_forms chosen (entries_view (map view (drop k fs)) (drop k ps)) ts ≡ []
-entries_done chosen fs ps k ts h = by_length (length fs) (length ps) refl refl h
+pub entries_done : (chosen : Label → Bool) (fs : List program.Form) (es : List loaded.Entry) (k : ℕ) (ts : List Tree) → min (length fs) (length es) ≤ k → chosen_report_forms chosen (entries_view (map view (drop k fs)) (drop k es)) ts ≡ []
+entries_done chosen fs es k ts h = by_length (length fs) (length es) refl refl h
   where
-    by_forms : length fs ≤ k → chosen_report_forms chosen (entries_view (map view (drop k fs)) (drop k ps)) ts ≡ []
-    by_forms g = ap (λ (xs : List program.Form). chosen_report_forms chosen (entries_view (map view xs) (drop k ps)) ts) (drop_all k fs g)
+    by_forms : length fs ≤ k → chosen_report_forms chosen (entries_view (map view (drop k fs)) (drop k es)) ts ≡ []
+    by_forms g = ap (λ (xs : List program.Form). chosen_report_forms chosen (entries_view (map view xs) (drop k es)) ts) (drop_all k fs g)
 
-    by_problems : length ps ≤ k → chosen_report_forms chosen (entries_view (map view (drop k fs)) (drop k ps)) ts ≡ []
-    by_problems g = ap (λ (qs : List (Option loaded.Problem)). chosen_report_forms chosen (entries_view (map view (drop k fs)) qs) ts) (drop_all k ps g) ∙ ap (λ es. chosen_report_forms chosen es ts) (entries-short (map view (drop k fs)))
+    by_entries : length es ≤ k → chosen_report_forms chosen (entries_view (map view (drop k fs)) (drop k es)) ts ≡ []
+    by_entries g = ap (λ (ys : List loaded.Entry). chosen_report_forms chosen (entries_view (map view (drop k fs)) ys) ts) (drop_all k es g) ∙ ap (λ ds. chosen_report_forms chosen ds ts) (none_viewed (map view (drop k fs)))
 
-    by_length : (m n : ℕ) → m ≡ length fs → n ≡ length ps → min m n ≤ k → chosen_report_forms chosen (entries_view (map view (drop k fs)) (drop k ps)) ts ≡ []
-    by_length m n e f h = elim (either m n k h) [ inl a ↦ by_forms (omega (arith, a, e)) | inr b ↦ by_problems (omega (arith, b, f)) ]
+    by_length : (m n : ℕ) → m ≡ length fs → n ≡ length es → min m n ≤ k → chosen_report_forms chosen (entries_view (map view (drop k fs)) (drop k es)) ts ≡ []
+    by_length m n e f h = elim (either m n k h) [ inl a ↦ by_forms (omega (arith, a, e)) | inr b ↦ by_entries (omega (arith, b, f)) ]
 
 -- all is written where no entry is left
-pub all_written : (chosen : Label → Bool) (a ea b eb : List ℕ) (fs : List program.Form) (ps : List (Option loaded.Problem)) (k : ℕ) (ts : List Tree) (whole : List Form)
-    → Leaves a ea b eb whole (entries_left chosen fs ps k ts) → min (length fs) (length ps) ≤ k → HasAppendedForms a ea b eb whole
-all_written chosen a ea b eb fs ps k ts whole l past = leaves_none a ea b eb whole (entries_left chosen fs ps k ts) l (entries_done chosen fs ps k ts past)
+pub all_written : (chosen : Label → Bool) (a ea b eb : List ℕ) (fs : List program.Form) (es : List loaded.Entry) (k : ℕ) (ts : List Tree) (whole : List Form)
+    → Leaves a ea b eb whole (entries_left chosen fs es k ts) → min (length fs) (length es) ≤ k → HasAppendedForms a ea b eb whole
+all_written chosen a ea b eb fs es k ts whole l past = leaves_none a ea b eb whole (entries_left chosen fs es k ts) l (entries_done chosen fs es k ts past)
 
 -- ---- labels
 

@@ -1,7 +1,8 @@
 -- The parts along the right spine of a term.
 use Rattle.std.proofs.Common.{◌≡◌, List, [], ◌∷◌, ◌++◌, map, refl, sym, ap, ap₂, ◌∙◌, ◌<◌, length, arith, codes}
 use Rattle.cp_sexpr.specs.Syntax.{Form, list, Forms, none, more, append, forms_of}
-use Rattle.cp_model.specs.Term.{Variable, Term, pair_term, enc_term, KeyTerm}
+use Rattle.cp_model.specs.Term.{Term, pair_term, enc_term, KeyTerm}
+use Rattle.cp_model.specs.declared.variable.Variable.{Variable}
 use Rattle.cp_language.specs.Printed.{gathered, headed_list, spine, no_place, word, key_form, atom_form}
 use Rattle.cp_strand.specs.Atoms.{atom_of}
 use Rattle.cp_term.specs.Keys.{key_as_term}

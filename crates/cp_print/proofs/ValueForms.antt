@@ -1,7 +1,8 @@
 -- The values of the map, pair by pair.
 use Rattle.std.proofs.Common.{◌≡◌, ℕ, ◌≤◌, List, [], ◌∷◌, length, drop, refl, ap, ◌∙◌, arith, min, ◌⊎◌, inl, inr}
 use Rattle.std.proofs.lemmas.List.{drop_all}
-use Rattle.cp_model.specs.Term.{Variable, Term}
+use Rattle.cp_model.specs.Term.{Term}
+use Rattle.cp_model.specs.declared.variable.Variable.{Variable}
 use Rattle.cp_sexpr.specs.Syntax.{Form}
 use Rattle.cp_language.specs.Report.{value_forms}
 

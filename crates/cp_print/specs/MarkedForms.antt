@@ -1,10 +1,11 @@
 -- The forms of flagged variables.
 use Rattle.std.specs.Prelude.{ℕ, ◌+◌, List, [], ◌∷◌, get_or, Bool, false, if◌then◌else◌}
 use Rattle.cp_lists.specs.Lists.{item_at}
-use Rattle.cp_model.specs.Term.{Variable, atom_of_variable, Substitution, apply_to_atom}
-use Rattle.cp_model.specs.Strand.{Declaration}
+use Rattle.cp_model.specs.Term.{apply_to, variable_term, Substitution}
+use Rattle.cp_model.specs.declared.variable.Variable.{Variable}
+use Rattle.cp_model.specs.declared.variable.Declaration.{Declaration}
 use Rattle.cp_language.specs.Names.{sort_text}
-use Rattle.cp_language.specs.Printed.{variable, word, plain_list, atom_form}
+use Rattle.cp_language.specs.Printed.{term_form, variable, word, plain_list}
 use Rattle.cp_language.specs.Report.{name_or_none}
 use Rattle.cp_sexpr.specs.Syntax.{Form}
 
@@ -19,5 +20,5 @@ vars_by names flags n (d ∷ ds) =
 abbrev pub maplets_by : (Variable → Form) → List Bool → Substitution → ℕ → List Declaration → List Form
 maplets_by named flags terms n [] = []
 maplets_by named flags terms n (d ∷ ds) =
-    if get_or flags n false then plain_list (word d.identifier ∷ atom_form named (apply_to_atom terms (atom_of_variable (variable d.sort n))) ∷ []) ∷ maplets_by named flags terms (n + 1) ds
+    if get_or flags n false then plain_list (word d.identifier ∷ term_form named (apply_to terms (variable_term (variable d.sort n))) ∷ []) ∷ maplets_by named flags terms (n + 1) ds
     else maplets_by named flags terms (n + 1) ds

@@ -1,11 +1,10 @@
 // Assumptions, the map from the problem, and the test of a label form.
-ghost use Rattle.std.specs.Prelude.{◌≡◌, ◌++◌, [], ◌∷◌, map, option_map, IfOk, OnOk};
+ghost use Rattle.std.specs.Prelude.{◌≡◌, ◌++◌, [], ◌∷◌, map, IfOk, OnOk};
 ghost use Rattle.cp_language.specs.Printed.{plain_list, word, atom_form, term_form, pattern_form};
 ghost use Rattle.cp_language.specs.Report.{named_by, unique_form, value_forms, map_form, test_items};
-ghost use Rattle.cp_model.specs.Term.{Variable};
+ghost use Rattle.cp_model.specs.declared.variable.Variable.{Variable};
 ghost use Rattle.cp_sexpr.specs.Syntax.{Form as Plain};
 ghost use Rattle.cp_sexpr.specs.View.{view};
-ghost use Rattle.cp_skel.specs.Trees.{test_view};
 ghost use Rattle.cp_skel.specs.View.{skeleton_view};
 ghost use Rattle.cp_print.specs.Named.{named_in};
 
@@ -116,13 +115,13 @@ pub(crate) fn add_test(
     test: &Option<Test>,
     items: &mut Vec<Form>,
 ) -> Result<(), AllocError>
-    ensures { OnOk result (map view items.new.items ≡ map view items.old.items ++ test_items (named_in naming.now) (option_map test_view test.now)) }
+    ensures { OnOk result (map view items.new.items ≡ map view items.old.items ++ test_items (named_in naming.now) test.now) }
 {
     let Some(test) = test else {
         return Ok(());
     };
     let node = node_form(alloc, test.node)?;
-    let critical = term_form(alloc, naming, &test.term)?;
+    let critical = term_form(alloc, naming, &test.critical)?;
     items.push(headed_list(alloc, "test", two(alloc, node, critical)?)?)?;
     Ok(())
 }

@@ -1,9 +1,8 @@
 // The items of a label form that list numbers, nodes and words.
-ghost use Rattle.std.specs.Prelude.{◌≡◌, ◌++◌, [], ◌∷◌, map, option_map, IfOk, OnOk};
+ghost use Rattle.std.specs.Prelude.{◌≡◌, ◌++◌, [], ◌∷◌, map, IfOk, OnOk};
 ghost use Rattle.cp_language.specs.Printed.{word, numeral};
 ghost use Rattle.cp_language.specs.Report.{item_unless_empty, node_form, parent_items, operation_words, mark_words, mark_items, outcome_words};
 ghost use Rattle.cp_sexpr.specs.View.{view};
-ghost use Rattle.cp_skel.specs.Trees.{operation_view, mark_view, outcome_view};
 
 use crate::makers::{headed_list, numeral, one, plain_list, two, word};
 use cp_sexpr::Form;
@@ -121,7 +120,7 @@ fn with_numbers(alloc: Global, text: &str, numbers: &[usize]) -> Result<Vec<Form
 
 /// How a label was made.
 pub(crate) fn operation_words(alloc: Global, operation: &Operation) -> Result<Vec<Form>, AllocError>
-    ensures { IfOk result (λ fs. map view fs.items ≡ operation_words (operation_view operation.now)) }
+    ensures { IfOk result (λ fs. map view fs.items ≡ operation_words operation.now) }
 {
     match operation {
         Operation::Problem => single(alloc, "problem"),
@@ -129,14 +128,14 @@ pub(crate) fn operation_words(alloc: Global, operation: &Operation) -> Result<Ve
         Operation::Displaced(node) => at_node(alloc, "displaced", *node),
         Operation::AddedStrand(strand) => numbered(alloc, "added-strand", *strand),
         Operation::AddedListener(strand) => numbered(alloc, "added-listener", *strand),
-        Operation::Collapsed(strands) => with_numbers(alloc, "collapsed", strands),
+        Operation::Collapsed(strands) => with_numbers(alloc, "collapsed", strands.as_slice()),
         Operation::Generalised => single(alloc, "generalised"),
     }
 }
 
 /// What a leaf is.
 fn mark_words(alloc: Global, mark: Mark) -> Result<Vec<Form>, AllocError>
-    ensures { IfOk result (λ fs. map view fs.items ≡ mark_words (mark_view mark)) }
+    ensures { IfOk result (λ fs. map view fs.items ≡ mark_words mark) }
 {
     match mark {
         Mark::Shape => single(alloc, "shape"),
@@ -154,7 +153,7 @@ pub(crate) fn add_mark(
     mark: Option<Mark>,
     items: &mut Vec<Form>,
 ) -> Result<(), AllocError>
-    ensures { OnOk result (map view items.new.items ≡ map view items.old.items ++ mark_items (option_map mark_view mark)) }
+    ensures { OnOk result (map view items.new.items ≡ map view items.old.items ++ mark_items mark) }
 {
     let Some(mark) = mark else {
         return Ok(());
@@ -165,7 +164,7 @@ pub(crate) fn add_mark(
 
 /// How the search for a problem ended.
 pub(crate) fn outcome_words(alloc: Global, outcome: Outcome) -> Result<Vec<Form>, AllocError>
-    ensures { IfOk result (λ fs. map view fs.items ≡ outcome_words (outcome_view outcome)) }
+    ensures { IfOk result (λ fs. map view fs.items ≡ outcome_words outcome) }
 {
     match outcome {
         Outcome::Complete => single(alloc, "complete"),

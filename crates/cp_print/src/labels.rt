@@ -1,10 +1,10 @@
 // Label forms.
-ghost use Rattle.std.specs.Prelude.{◌≡◌, ◌++◌, [], ◌∷◌, codes, map, option_map, IfOk, OnOk};
+ghost use Rattle.std.specs.Prelude.{◌≡◌, ◌++◌, [], ◌∷◌, codes, map, IfOk, OnOk};
 ghost use Rattle.cp_language.specs.Printed.{headed_list, numeral, atom_form, pattern_form};
 ghost use Rattle.cp_language.specs.Report.{named_by, item_unless_empty, parent_items, operation_words, strand_form, covering_pairs, unique_form, map_form, node_form, test_items, mark_items, label_form};
 ghost use Rattle.cp_model.specs.Given.{listed};
 ghost use Rattle.cp_sexpr.specs.View.{view};
-ghost use Rattle.cp_skel.specs.Trees.{operation_view, mark_view, test_view, label_view};
+ghost use Rattle.cp_skel.specs.Trees.{label_view};
 ghost use Rattle.cp_strand.specs.View.{strand_view};
 ghost use Rattle.cp_skel.specs.View.{skeleton_view};
 ghost use Rattle.cp_print.specs.Named.{named_in};
@@ -31,7 +31,7 @@ fn add_strand_items(
 ) -> Result<(), AllocError>
     ensures { OnOk result (map view items.new.items ≡ map view items.old.items
         ++ parent_items label.now.parent
-        ++ headed_list (codes "by") (operation_words (operation_view label.now.operation)) ∷ []
+        ++ headed_list (codes "by") (operation_words label.now.operation) ∷ []
         ++ item_unless_empty (codes "vars") (map view vars.items)
         ++ map (strand_form (named_in naming.now)) (map strand_view label.now.skeleton.strands)) }
 {
@@ -76,19 +76,19 @@ fn add_result_items(
 ) -> Result<(), AllocError>
     ensures { OnOk result (map view items.new.items ≡ map view items.old.items
         ++ map_form (named_in naming.now) of_problem.now (skeleton_view label.now.skeleton) ∷ []
-        ++ item_unless_empty (codes "unrealised") (map node_form label.now.unrealised.items)
-        ++ test_items (named_in naming.now) (option_map test_view label.now.test)
-        ++ item_unless_empty (codes "escape") (map (pattern_form (named_by naming.now.names.now)) label.now.patterns.items)
-        ++ item_unless_empty (codes "children") (map numeral label.now.children.items)
-        ++ mark_items (option_map mark_view label.now.mark)) }
+        ++ item_unless_empty (codes "unrealised") (map node_form label.now.unrealised)
+        ++ test_items (named_in naming.now) label.now.test
+        ++ item_unless_empty (codes "escape") (map (pattern_form (named_by naming.now.names.now)) label.now.patterns)
+        ++ item_unless_empty (codes "children") (map numeral label.now.children)
+        ++ mark_items label.now.mark) }
 {
     items.push(map_form(alloc, naming, of_problem, &label.skeleton)?)?;
-    let unrealised = node_forms(alloc, &label.unrealised)?;
+    let unrealised = node_forms(alloc, label.unrealised.as_slice())?;
     add_unless_empty(alloc, "unrealised", unrealised, items)?;
     add_test(alloc, naming, &label.test, items)?;
-    let escape = pattern_forms(alloc, naming.names, &label.patterns)?;
+    let escape = pattern_forms(alloc, naming.names, label.patterns.as_slice())?;
     add_unless_empty(alloc, "escape", escape, items)?;
-    let children = numerals(alloc, &label.children)?;
+    let children = numerals(alloc, label.children.as_slice())?;
     add_unless_empty(alloc, "children", children, items)?;
     add_mark(alloc, label.mark, items)
 }

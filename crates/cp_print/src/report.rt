@@ -3,7 +3,7 @@ ghost use Rattle.std.specs.Prelude.{◌≡◌, ◌++◌, [], ◌∷◌, length, 
 ghost use Rattle.cp_language.specs.Printed.{word, numeral};
 ghost use Rattle.cp_language.specs.Report.{status_form, report_forms, report_text, shape_count, text_of_forms};
 ghost use Rattle.cp_language.specs.ShapesText.{chosen_from, chosen_tree_forms, chosen_report_forms, chosen_text, shapes_forms, shapes_text};
-ghost use Rattle.cp_load.specs.Inputs.{problem_view, input_entries};
+ghost use Rattle.cp_load.specs.Inputs.{problem_view, problem_in, input_entries};
 ghost use Rattle.cp_model.specs.Tree.{expanded_count};
 ghost use Rattle.cp_sexpr.specs.Spelling.{AppendsFront};
 ghost use Rattle.cp_sexpr.specs.View.{view};
@@ -14,7 +14,7 @@ ghost use Rattle.cp_print.specs.WrittenForms.{ends_from, HasAppendedForms, entry
 use crate::items::outcome_words;
 use crate::labels::label_form;
 use crate::makers::{headed_list, numeral, word};
-use cp_load::{Input, Problem};
+use cp_load::{Entry, Input, Problem};
 use cp_names::problem_names;
 use cp_sexpr::{Form, write_top};
 use cp_skel::{Mark, Tree, TreeNode};
@@ -167,16 +167,16 @@ fn put_entry<'a>(
     alloc: Global,
     chosen: Labels,
     form: &Form,
-    problem: &Option<Problem>,
+    entry: &Entry,
     trees: &'a [Tree],
     out: &mut Vec<u8>,
     ends: &mut Vec<usize>,
 ) -> Result<&'a [Tree], AllocError>
-    ensures ok { OnOk result (HasAppendedForms out.old.items ends.old.items out.new.items ends.new.items (entry_forms (chosen_by chosen) (view form.now) (option_map problem_view problem.now) (map tree_view trees.now))) }
-    ensures rest { IfOk result (λ rest. map tree_view rest.now ≡ trees_behind (option_map problem_view problem.now) (map tree_view trees.now)) }
-    ensures err { OnErr result (AppendsFront out.old.items out.new.items (text_of_forms (entry_forms (chosen_by chosen) (view form.now) (option_map problem_view problem.now) (map tree_view trees.now)))) }
+    ensures ok { OnOk result (HasAppendedForms out.old.items ends.old.items out.new.items ends.new.items (entry_forms (chosen_by chosen) (view form.now) (option_map problem_view (problem_in entry.now)) (map tree_view trees.now))) }
+    ensures rest { IfOk result (λ rest. map tree_view rest.now ≡ trees_behind (option_map problem_view (problem_in entry.now)) (map tree_view trees.now)) }
+    ensures err { OnErr result (AppendsFront out.old.items out.new.items (text_of_forms (entry_forms (chosen_by chosen) (view form.now) (option_map problem_view (problem_in entry.now)) (map tree_view trees.now)))) }
 {
-    let Some(problem) = problem else {
+    let Some(problem) = entry.problem() else {
         put(form, out, ends)?;
         return Ok(trees);
     };
@@ -202,12 +202,12 @@ fn put_report(
 {
     let forms = input.forms;
     let mut rest = trees;
-    for number in 0..forms.len().min(input.problems.len()) {
+    for number in 0..forms.len().min(input.entries.len()) {
         rest = put_entry(
             alloc,
             chosen,
             &forms[number],
-            &input.problems[number],
+            &input.entries[number],
             rest,
             out,
             ends,

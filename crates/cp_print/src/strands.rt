@@ -1,17 +1,17 @@
 // The variables and the strands of a label form.
 ghost use Rattle.std.specs.Prelude.{◌≡◌, ◌++◌, [], ◌∷◌, count_by, map, IfOk, OnOk};
 ghost use Rattle.cp_model.specs.Homomorphism.{substitution_by};
-ghost use Rattle.cp_model.specs.Term.{atom_of_variable, apply_to_atom};
+ghost use Rattle.cp_model.specs.Term.{variable_term, apply_to};
 ghost use Rattle.cp_language.specs.Names.{sort_text};
-ghost use Rattle.cp_language.specs.Printed.{variable, word, plain_list, atom_form};
+ghost use Rattle.cp_language.specs.Printed.{variable, word, plain_list, term_form};
 ghost use Rattle.cp_language.specs.Report.{strand_form};
 ghost use Rattle.cp_sexpr.specs.View.{view};
-ghost use Rattle.cp_strand.specs.View.{sort_view, declaration_view, strand_view, instance_view};
+ghost use Rattle.cp_strand.specs.View.{strand_view, instance_view};
 ghost use Rattle.cp_print.specs.MarkedForms.{vars_by, maplets_by};
 ghost use Rattle.cp_print.specs.Named.{named_in};
 
 use crate::makers::{headed_list, numeral, one, plain_list, two, word};
-use crate::terms::{atom_form, term_form};
+use crate::terms::term_form;
 use crate::variable_names::{Naming, name_of, sort_text};
 use cp_names::{is_flagged, prefix_flags};
 use cp_sexpr::Form;
@@ -21,7 +21,7 @@ use std::alloc::{AllocError, Global};
 
 /// A variable: its name and its sort.
 fn var_form(alloc: Global, name: &str, sort: Sort) -> Result<Form, AllocError>
-    ensures { IfOk result (λ f. view f ≡ plain_list (word name.now ∷ word (sort_text (sort_view sort)) ∷ [])) }
+    ensures { IfOk result (λ f. view f ≡ plain_list (word name.now ∷ word (sort_text sort) ∷ [])) }
 {
     let name = word(alloc, name)?;
     let sort = word(alloc, sort_text(sort))?;
@@ -42,7 +42,7 @@ pub(crate) fn vars(
     flags: &[bool],
     variables: &[Declaration],
 ) -> Result<Vec<Form>, AllocError>
-    ensures { IfOk result (λ fs. map view fs.items ≡ vars_by names.now flags.now 0 (map declaration_view variables.now)) }
+    ensures { IfOk result (λ fs. map view fs.items ≡ vars_by names.now flags.now 0 variables.now) }
 {
     let mut forms = Vec::with_capacity(alloc, flagged_count(flags).saturating_add(1))?;
     for number in 0..variables.len() {
@@ -64,11 +64,11 @@ fn value_form(
     sort: Sort,
     number: usize,
 ) -> Result<Form, AllocError>
-    ensures { IfOk result (λ f. view f ≡ atom_form (named_in naming.now) (apply_to_atom (substitution_by values.now) (atom_of_variable (variable (sort_view sort) number)))) }
+    ensures { IfOk result (λ f. view f ≡ term_form (named_in naming.now) (apply_to (substitution_by values.now) (variable_term (variable sort number)))) }
 {
     let variable = var(alloc, VarId::numbered(number), sort)?;
     let value = applied(alloc, values, &variable)?;
-    atom_form(alloc, naming, &value)
+    term_form(alloc, naming, &value)
 }
 
 /// The maplet of the role's variable with this number: its identifier and its value.
@@ -79,7 +79,7 @@ fn maplet(
     declared: &Declaration,
     number: usize,
 ) -> Result<Form, AllocError>
-    ensures { IfOk result (λ f. view f ≡ plain_list (word declared.now.identifier ∷ atom_form (named_in naming.now) (apply_to_atom (substitution_by values.now) (atom_of_variable (variable (sort_view declared.now.sort) number))) ∷ [])) }
+    ensures { IfOk result (λ f. view f ≡ plain_list (word declared.now.identifier ∷ term_form (named_in naming.now) (apply_to (substitution_by values.now) (variable_term (variable declared.now.sort number))) ∷ [])) }
 {
     let identifier = word(alloc, declared.identifier.as_str())?;
     let value = value_form(alloc, naming, values, declared.sort, number)?;
@@ -94,7 +94,7 @@ fn maplets(
     flags: &[bool],
     variables: &[Declaration],
 ) -> Result<Vec<Form>, AllocError>
-    ensures { IfOk result (λ fs. map view fs.items ≡ maplets_by (named_in naming.now) flags.now (substitution_by values.now) 0 (map declaration_view variables.now)) }
+    ensures { IfOk result (λ fs. map view fs.items ≡ maplets_by (named_in naming.now) flags.now (substitution_by values.now) 0 variables.now) }
 {
     let mut forms = Vec::with_capacity(alloc, flagged_count(flags).saturating_add(3))?;
     for number in 0..variables.len() {

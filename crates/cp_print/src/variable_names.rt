@@ -1,12 +1,10 @@
 // How variables are named.
-ghost use Rattle.std.specs.Prelude.{◌≡◌, map, IfOk};
+ghost use Rattle.std.specs.Prelude.{◌≡◌, IfOk};
 ghost use Rattle.cp_language.specs.Names.{sort_text};
 ghost use Rattle.cp_language.specs.Printed.{variable, place_among};
 ghost use Rattle.cp_language.specs.Report.{name_or_none};
 ghost use Rattle.cp_lists.specs.Lists.{item_at};
 ghost use Rattle.cp_sexpr.specs.View.{view};
-ghost use Rattle.cp_strand.specs.View.{sort_view};
-ghost use Rattle.cp_scope.specs.Terms.{variable_view};
 ghost use Rattle.cp_print.specs.Named.{named_in};
 
 use crate::makers::{headed_list, numeral, two, word};
@@ -25,7 +23,7 @@ pub(crate) struct Naming<'a> {
 
 /// The word for a sort.
 pub(crate) fn sort_text(sort: Sort) -> &'static str
-    ensures { result.now ≡ sort_text (sort_view sort) }
+    ensures { result.now ≡ sort_text sort }
 {
     match sort {
         Sort::Text => "text",
@@ -49,7 +47,7 @@ pub(crate) fn name_of(names: &[Text], number: usize) -> &str
 
 /// The place of a variable among the locals.
 fn place_among(locals: &[Variable], sort: Sort, number: usize) -> Option<usize>
-    ensures { result ≡ place_among 0 (map variable_view locals.now) (variable (sort_view sort) number) }
+    ensures { result ≡ place_among 0 locals.now (variable sort number) }
 {
     for (place, local) in locals.iter().enumerate() {
         if is_same_sort(local.sort, sort) && local.number == number {
@@ -62,7 +60,7 @@ fn place_among(locals: &[Variable], sort: Sort, number: usize) -> Option<usize>
 impl Naming<'_> {
     /// A variable by its name, or a local by its place.
     pub(crate) fn named(&self, alloc: Global, sort: Sort, id: VarId) -> Result<Form, AllocError>
-        ensures { IfOk result (λ f. view f ≡ named_in self.now (variable (sort_view sort) id)) }
+        ensures { IfOk result (λ f. view f ≡ named_in self.now (variable sort id)) }
     {
         let number = id.number();
         match place_among(self.locals, sort, number) {

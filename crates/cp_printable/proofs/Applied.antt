@@ -2,20 +2,23 @@
 use Rattle.std.proofs.Common.{◌≡◌, ℕ, List, [], ◌∷◌, sym, subst, ⊎_elim}
 use Rattle.cp_lists.specs.Lists.{IsIn, here}
 use Rattle.cp_lists.proofs.Members.{not_in_none, only_item, in_cases, in_append, in_append_left, in_append_right}
-use Rattle.cp_model.specs.Term.{Sort, text_sort, datum_sort, name_sort, skey_sort, akey_sort, Variable, skey_variable, ltk_term, akey_variable, pubk_term, KeyTerm, symmetric_term, asymmetric_term, AtomTerm, text_variable, datum_variable, name_variable, key_term, Term, tag_term, atom_term, pair_term, enc_term, atom_of_variable, variables_of_atom, variables_of_key, variables_of, Substitution, apply_to_key, apply_to_atom, apply_to}
+use Rattle.cp_model.specs.Term.{variable_term, skey_variable, ltk_term, akey_variable, pubk_term, KeyTerm, symmetric_term, asymmetric_term, AtomTerm, text_variable, datum_variable, name_variable, key_term, Term, tag_term, atom_term, pair_term, enc_term, variables_of_atom, variables_of_key, variables_of, Substitution, apply_to_key, apply_to_atom, apply_to}
+use Rattle.cp_model.specs.declared.sort.Sort.{Sort}
+use Rattle.cp_model.specs.declared.sort.Sort.TheVariants.{Text as text_sort, Datum as datum_sort, Name as name_sort, Skey as skey_sort, Akey as akey_sort}
+use Rattle.cp_model.specs.declared.variable.Variable.{Variable}
 use Rattle.cp_printable.specs.Strings.{strings_of_atom, strings_of_key, strings_of}
-use Rattle.cp_printable.specs.Spelled.{IsSpelledAtom}
+use Rattle.cp_printable.specs.Spelled.{IsSpelledTerm, IsSpelledAtom}
 
 -- ---- variables have no strings
 
-of_sort : (k : Sort) (n : ℕ) (s : List ℕ) → IsIn s (strings_of_atom (atom_of_variable (record { sort = k; number = n }))) → ⊥
+of_sort : (k : Sort) (n : ℕ) (s : List ℕ) → IsIn s (strings_of (variable_term (record { sort = k; number = n }))) → ⊥
 of_sort text_sort n s i = not_in_none i
 of_sort datum_sort n s i = not_in_none i
 of_sort name_sort n s i = not_in_none i
 of_sort skey_sort n s i = not_in_none i
 of_sort akey_sort n s i = not_in_none i
 
-pub variable_has_none : (x : Variable) (s : List ℕ) → IsIn s (strings_of_atom (atom_of_variable x)) → ⊥
+pub variable_has_none : (x : Variable) (s : List ℕ) → IsIn s (strings_of (variable_term x)) → ⊥
 variable_has_none x s i = of_sort x.sort x.number s i
 
 -- ---- an atom whose variables are given admitted strings
@@ -23,7 +26,7 @@ variable_has_none x s i = of_sort x.sort x.number s i
 module _ (S : List ℕ → Type 0) (f : Substitution) where
   -- What is given to the variable has admitted strings.
   abbrev pub GivesAdmitted : Variable → Type 0
-  GivesAdmitted x = IsSpelledAtom S (apply_to_atom f (atom_of_variable x))
+  GivesAdmitted x = IsSpelledTerm S (apply_to f (variable_term x))
 
   of_key : (k : KeyTerm) → IsSpelledAtom S (key_term k) → ((x : Variable) → IsIn x (variables_of_key k) → GivesAdmitted x) → IsSpelledAtom S (key_term (apply_to_key f k))
   of_key (symmetric_term k) is each s i = absurd (not_in_none i)
@@ -38,11 +41,11 @@ module _ (S : List ℕ → Type 0) (f : Substitution) where
 
 -- ---- the strings of what is given to a variable are those of the term's under the substitution
 
-module _ (f : Substitution) (x : Variable) (s : List ℕ) (given : IsIn s (strings_of_atom (apply_to_atom f (atom_of_variable x)))) where
-  given_at : (z : Variable) → x ≡ z → IsIn s (strings_of_atom (apply_to_atom f (atom_of_variable z)))
-  given_at z e = subst (λ (w : Variable). IsIn s (strings_of_atom (apply_to_atom f (atom_of_variable w)))) e given
+module _ (f : Substitution) (x : Variable) (s : List ℕ) (given : IsIn s (strings_of (apply_to f (variable_term x)))) where
+  given_at : (z : Variable) → x ≡ z → IsIn s (strings_of (apply_to f (variable_term z)))
+  given_at z e = subst (λ (w : Variable). IsIn s (strings_of (apply_to f (variable_term w)))) e given
 
-  only_one : (z : Variable) → IsIn x (z ∷ []) → IsIn s (strings_of_atom (apply_to_atom f (atom_of_variable z)))
+  only_one : (z : Variable) → IsIn x (z ∷ []) → IsIn s (strings_of (apply_to f (variable_term z)))
   only_one z i = given_at z (only_item i)
 
   in_key : (k : KeyTerm) → IsIn x (variables_of_key k) → IsIn s (strings_of_key (apply_to_key f k))

@@ -3,14 +3,15 @@ use Rattle.std.proofs.Common.{◌≡◌, ◌⊎◌, inl, inr, ℕ, suc, ◌+◌,
 use Rattle.std.specs.Prelude.{map}
 use Rattle.cp_lists.specs.Lists.{IsIn, here, there}
 use Rattle.cp_lists.proofs.Members.{into_map, from_map}
-use Rattle.cp_model.specs.Term.{Variable, atom_of_variable, AtomTerm, Term, variables_of_atom, variables_of, Substitution, apply_to, apply_to_atom, composed}
+use Rattle.cp_model.specs.Term.{variable_term, AtomTerm, Term, variables_of_atom, variables_of, Substitution, apply_to, apply_to_atom, composed}
+use Rattle.cp_model.specs.declared.variable.Variable.{Variable}
 use Rattle.cp_model.specs.Identity.{unchanged}
 use Rattle.cp_model.specs.Same.{has_variable}
 use Rattle.cp_model.proofs.SameTests.{variable_in, in_has_variable}
 use Rattle.cp_model.proofs.LawTerms.{atom_composed, term_composed, atom_unchanged, term_unchanged}
 use Rattle.cp_model.proofs.LawAgreement.{agree_atom, agree_term}
 use Rattle.cp_report.specs.UpToNames.{variable_numbered, renamed, renaming, IsOneToOne}
-use Rattle.cp_report.proofs.Inverses.{renamed_atom, atom_onto, inverse, inverse_back}
+use Rattle.cp_report.proofs.Inverses.{renamed_variable, atom_onto, inverse, inverse_back}
 
 -- A number above those of the variables.
 abbrev pub above : List Variable → ℕ
@@ -91,9 +92,9 @@ module _ (number : Variable → ℕ) (xs : List Variable) (one : IsOneToOne numb
   -- ---- atoms and terms
 
   -- A variable of these, renamed and back, is itself.
-  variable_returned : (x : Variable) → IsIn x xs → apply_to_atom (composed f g) (atom_of_variable x) ≡ apply_to_atom unchanged (atom_of_variable x)
+  variable_returned : (x : Variable) → IsIn x xs → apply_to (composed f g) (variable_term x) ≡ apply_to unchanged (variable_term x)
   variable_returned x m =
-      atom_composed f g (atom_of_variable x) ∙ ap (apply_to_atom g) (renamed_atom number x) ∙ renamed_atom back (renamed number x) ∙ ap atom_of_variable (returned x m) ∙ sym (atom_unchanged (atom_of_variable x))
+      term_composed f g (variable_term x) ∙ ap (apply_to g) (renamed_variable number x) ∙ renamed_variable back (renamed number x) ∙ ap variable_term (returned x m) ∙ sym (term_unchanged (variable_term x))
 
   -- An atom over these variables, renamed and back, is itself.
   pub atom_returned : (v : AtomTerm) → ((x : Variable) → IsIn x (variables_of_atom v) → IsIn x xs) → apply_to_atom g (apply_to_atom f v) ≡ v
@@ -104,9 +105,9 @@ module _ (number : Variable → ℕ) (xs : List Variable) (one : IsOneToOne numb
   term_returned t within = sym (term_composed f g t) ∙ agree_term (composed f g) unchanged t (λ x m. variable_returned x (within x m)) ∙ term_unchanged t
 
   -- A variable that goes back to one of these, back and renamed, is itself.
-  variable_forth : (y : Variable) → IsIn (renamed back y) xs → apply_to_atom (composed g f) (atom_of_variable y) ≡ apply_to_atom unchanged (atom_of_variable y)
+  variable_forth : (y : Variable) → IsIn (renamed back y) xs → apply_to (composed g f) (variable_term y) ≡ apply_to unchanged (variable_term y)
   variable_forth y m =
-      atom_composed g f (atom_of_variable y) ∙ ap (apply_to_atom f) (renamed_atom back y) ∙ renamed_atom number (renamed back y) ∙ ap atom_of_variable (forth y m) ∙ sym (atom_unchanged (atom_of_variable y))
+      term_composed g f (variable_term y) ∙ ap (apply_to f) (renamed_variable back y) ∙ renamed_variable number (renamed back y) ∙ ap variable_term (forth y m) ∙ sym (term_unchanged (variable_term y))
 
   -- An atom that goes back to one over these variables, back and renamed, is itself.
   pub atom_forth : (v : AtomTerm) → ((x : Variable) → IsIn x (variables_of_atom (apply_to_atom g v)) → IsIn x xs) → apply_to_atom f (apply_to_atom g v) ≡ v

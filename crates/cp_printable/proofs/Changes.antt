@@ -4,7 +4,8 @@ use Rattle.std.proofs.lemmas.Bool.{cases_eq}
 use Rattle.cp_lists.specs.Lists.{item_at, IsIn, here, there}
 use Rattle.cp_lists.proofs.Members.{not_in_none, in_append, in_pushed, into_map}
 use Rattle.cp_lists.proofs.Items.{place_of, at_place}
-use Rattle.cp_model.specs.Term.{Variable, AtomTerm, Term, atom_term, atom_of_variable, Substitution, apply_to_atom}
+use Rattle.cp_model.specs.Term.{apply_to, variable_term, AtomTerm, Term, Substitution}
+use Rattle.cp_model.specs.declared.variable.Variable.{Variable}
 use Rattle.cp_model.specs.Strand.{Role, variables_of_prefix}
 use Rattle.cp_model.specs.declared.node.Node.{Node}
 use Rattle.cp_model.specs.Skeleton.{SkeletonStrand, instance, listener, UniqueAt, Assumptions, FromProblem, Skeleton}
@@ -31,9 +32,9 @@ fresh_has_none n (x ∷ xs) t here s j = variable_has_none (record { sort = x.so
 fresh_has_none n (x ∷ xs) t (there i) s j = fresh_has_none (suc n) xs t i s j
 
 -- What is new for the variables has no strings.
-new_has_none : (terms : Substitution) (xs : List Variable) (n : ℕ) (among : List Variable) → terms_of terms xs ≡ fresh_terms n among → (x : Variable) → IsIn x xs → (s : List ℕ) → IsIn s (strings_of (atom_term (apply_to_atom terms (atom_of_variable x)))) → ⊥
+new_has_none : (terms : Substitution) (xs : List Variable) (n : ℕ) (among : List Variable) → terms_of terms xs ≡ fresh_terms n among → (x : Variable) → IsIn x xs → (s : List ℕ) → IsIn s (strings_of (apply_to terms (variable_term x))) → ⊥
 new_has_none terms xs n among gives x i =
-    fresh_has_none n among (atom_term (apply_to_atom terms (atom_of_variable x))) (subst (IsIn (atom_term (apply_to_atom terms (atom_of_variable x)))) gives (into_map (λ (z : Variable). atom_term (apply_to_atom terms (atom_of_variable z))) i))
+    fresh_has_none n among (apply_to terms (variable_term x)) (subst (IsIn (apply_to terms (variable_term x))) gives (into_map (λ (z : Variable). apply_to terms (variable_term z)) i))
 
 module _ (S I : List ℕ → Type 0) where
   -- ---- lists that grow
@@ -47,7 +48,7 @@ module _ (S I : List ℕ → Type 0) where
 
   -- ---- what an instance gives
 
-  module _ (role : Role) (height : ℕ) (terms : Substitution) (of_role : IsSpelledRole S I role) (each : (z : Variable) → IsIn z (variables_of_prefix role height) → IsSpelledAtom S (apply_to_atom terms (atom_of_variable z))) where
+  module _ (role : Role) (height : ℕ) (terms : Substitution) (of_role : IsSpelledRole S I role) (each : (z : Variable) → IsIn z (variables_of_prefix role height) → IsSpelledTerm S (apply_to terms (variable_term z))) where
     given_spelled : (stated : List AtomTerm) → AreSpelledAtoms S stated → (v : AtomTerm) → IsGivenFrom stated role height terms v → IsSpelledAtom S v
     given_spelled stated are v g = subst (λ (w : AtomTerm). IsSpelledAtom S w) (sym g.same) (of_atom S terms g.atom (are g.atom g.listed) (λ z m. each z (g.applies z m)))
 
@@ -83,7 +84,7 @@ module _ (S I : List ℕ → Type 0) where
   strand_spelled role height n k l declares of_role adds is =
       behind k l (instance role height adds.terms) is adds.strands adds.from_problem (of_role, each) (grown_assumptions role height adds.terms of_role each (length k.strands) k.assumptions l.assumptions adds.assumptions is.assumptions)
     where
-      each : (z : Variable) → IsIn z (variables_of_prefix role height) → IsSpelledAtom S (apply_to_atom adds.terms (atom_of_variable z))
+      each : (z : Variable) → IsIn z (variables_of_prefix role height) → IsSpelledTerm S (apply_to adds.terms (variable_term z))
       each z i s j = absurd (new_has_none adds.terms (prefix_variables role height) n (prefix_variables role height) adds.gives z ((in-prefix role z height).1 (declares z (in_front_of_trace height role.trace z i), i)) s j)
 
   module _ (s height n : ℕ) (k l : Skeleton) (role : Role) (before : ℕ) (declares : DeclaresItsVariables role) (ext : Extends s height (fresh_terms n (added_variables role before height)) k l) (same_role : ext.role ≡ role) (same_before : ext.before ≡ before)
@@ -97,11 +98,11 @@ module _ (S I : List ℕ → Type 0) where
     was : IsSpelledStrand S I (instance ext.role ext.before ext.old_terms)
     was = is.strands (instance ext.role ext.before ext.old_terms) (at_place k.strands s (instance ext.role ext.before ext.old_terms) ext.was_instance)
 
-    each_term : (z : Variable) → IsIn z (variables_of_prefix ext.role height) → IsSpelledAtom S (apply_to_atom ext.terms (atom_of_variable z))
+    each_term : (z : Variable) → IsIn z (variables_of_prefix ext.role height) → IsSpelledTerm S (apply_to ext.terms (variable_term z))
     each_term z i = by_test (has_variable (variables_of_prefix ext.role ext.before) z) refl
       where
-        by_test : (b : Bool) → has_variable (variables_of_prefix ext.role ext.before) z ≡ b → IsSpelledAtom S (apply_to_atom ext.terms (atom_of_variable z))
-        by_test true e = let m = variable_in (variables_of_prefix ext.role ext.before) z e in subst (λ (v : AtomTerm). IsSpelledAtom S v) (ext.keeps z m) (was.1 z m)
+        by_test : (b : Bool) → has_variable (variables_of_prefix ext.role ext.before) z ≡ b → IsSpelledTerm S (apply_to ext.terms (variable_term z))
+        by_test true e = let m = variable_in (variables_of_prefix ext.role ext.before) z e in subst (λ (t : Term). IsSpelledTerm S t) (ext.keeps z m) (was.1 z m)
         by_test false e = λ t j.
             absurd (new_has_none ext.terms (added_variables ext.role ext.before height) n (added_variables role before height) gives_new z
             ((in-added ext.role z ext.before height).1 (

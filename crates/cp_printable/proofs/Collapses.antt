@@ -3,11 +3,12 @@ use Rattle.std.proofs.Common.{◌≡◌, ◌⊎◌, ℕ, List, Some, sym, ap, �
 use Rattle.cp_lists.specs.Lists.{item_at, IsIn, here, there}
 use Rattle.cp_lists.proofs.Items.{at_place, place_of}
 use Rattle.cp_lists.proofs.Members.{from_map}
-use Rattle.cp_model.specs.Term.{Variable, atom_of_variable, AtomTerm, AgreeOnTerms, Assignment, value_of_atom, after, Substitution, apply_to_atom, apply_to, composed}
+use Rattle.cp_model.specs.Term.{value_of, variable_term, AtomTerm, AgreeOnTerms, Assignment, after, Substitution, apply_to_atom, apply_to, composed}
+use Rattle.cp_model.specs.declared.variable.Variable.{Variable}
 use Rattle.cp_model.specs.Strand.{Role, variables_of_prefix}
 use Rattle.cp_model.specs.Skeleton.{SkeletonStrand, instance, listener, UniqueAt, Assumptions, Skeleton}
 use Rattle.cp_model.proofs.Gathered.{atoms, uniques}
-use Rattle.cp_model.proofs.LawTerms.{atom_after, atom_composed}
+use Rattle.cp_model.proofs.LawTerms.{value_after, term_composed}
 use Rattle.cp_unify.proofs.Free.{free}
 use Rattle.cp_collapse.specs.Partitions.{IsPartitionByRole, IdentifiesValues}
 use Rattle.cp_collapse.specs.Collapses.{unique_in, assumptions_in, IsCollapsed, AreCollapsesBy, no_collapses, collapse_by}
@@ -16,7 +17,7 @@ use Rattle.cp_collapse.proofs.StrandsOfCollapses.{strand_comes}
 use Rattle.cp_collapse.proofs.VariablesOfCollapses.{value_composed}
 use Rattle.cp_printable.specs.Spelled.{IsSpelledTerm, IsSpelledAtom, AreSpelledAtoms, IsSpelledStrand, AreSpelledAssumptions, IsSpelledSkeleton}
 use Rattle.cp_printable.proofs.Under.{GivesStrings, atom_under, term_under}
-use Rattle.cp_printable.proofs.NoOtherStrings.{leaving_out, same_atoms_left, gives_only}
+use Rattle.cp_printable.proofs.NoOtherStrings.{same_left, leaving_out, gives_only}
 
 -- ---- under a substitution that gives admitted strings
 
@@ -51,8 +52,8 @@ module _ (S I : List ℕ → Type 0) (f : Substitution) (gives : GivesStrings S 
   instance_image role height terms to agree is = (
     is.0,
     λ x i.
-        let e : apply_to_atom f (apply_to_atom terms (atom_of_variable x)) ≡ apply_to_atom to (atom_of_variable x) = sym (atom_composed terms f (atom_of_variable x)) ∙ agree x i in
-        subst (IsSpelledAtom S) e (atom_under S I f (apply_to_atom terms (atom_of_variable x)) gives (is.1 x i)),
+        let e : apply_to f (apply_to terms (variable_term x)) ≡ apply_to to (variable_term x) = sym (term_composed terms f (variable_term x)) ∙ agree x i in
+        subst (IsSpelledTerm S) e (term_under S I f (apply_to terms (variable_term x)) gives (is.1 x i)),
   )
 
 module _ (S I : List ℕ → Type 0) (decide : (t : List ℕ) → S t ⊎ (S t → ⊥)) where
@@ -66,26 +67,26 @@ module _ (S I : List ℕ → Type 0) (decide : (t : List ℕ) → S t ⊎ (S t �
     strand_spelled n st at = is.strands st (at_place k.strands n st at)
 
     term_of_instance : (n : ℕ) (role : Role) (height : ℕ) (terms : Substitution) → item_at k.strands n ≡ Some (instance role height terms) → (x : Variable) → IsIn x (variables_of_prefix role height) →
-        IsSpelledAtom S (apply_to_atom terms (atom_of_variable x))
+        IsSpelledTerm S (apply_to terms (variable_term x))
     term_of_instance n role height terms at = (strand_spelled n (instance role height terms) at).1
 
     -- Where other purposes are left out equal values stay equal.
     still_identifies : (g : Assignment) → IdentifiesValues k p g → IdentifiesValues k p (leaving_out S decide g)
     still_identifies g identifies n m role height terms height' terms' at au together x i j =
         let h = leaving_out S decide g in
-        let a = apply_to_atom terms (atom_of_variable x) in
-        let b = apply_to_atom terms' (atom_of_variable x) in
-        let equal : value_of_atom g a ≡ value_of_atom g b =
-        sym (atom_after g terms (atom_of_variable x)) ∙ identifies n m role height terms height' terms' at au together x i j ∙ atom_after g terms' (atom_of_variable x) in
-        atom_after h terms (atom_of_variable x)
-        ∙ same_atoms_left S decide g a b (term_of_instance n role height terms at x i) (term_of_instance m role height' terms' au x j) equal
-        ∙ sym (atom_after h terms' (atom_of_variable x))
+        let a = apply_to terms (variable_term x) in
+        let b = apply_to terms' (variable_term x) in
+        let equal : value_of g a ≡ value_of g b =
+        sym (value_after g terms (variable_term x)) ∙ identifies n m role height terms height' terms' at au together x i j ∙ value_after g terms' (variable_term x) in
+        value_after h terms (variable_term x)
+        ∙ same_left S decide g a b (term_of_instance n role height terms at x i) (term_of_instance m role height' terms' au x j) equal
+        ∙ sym (value_after h terms' (variable_term x))
 
     -- The values under the unifier are equal.
     identifies_itself : IdentifiesValues k p (after free f)
     identifies_itself n m role height terms height' terms' at au together x i j =
         value_composed f terms x
-        ∙ ap (value_of_atom free) (collapsed.most_general.identifies n m role height terms height' terms' at au together x i j)
+        ∙ ap (value_of free) (collapsed.most_general.identifies n m role height terms height' terms' at au together x i j)
         ∙ sym (value_composed f terms' x)
 
     gives : GivesStrings S f

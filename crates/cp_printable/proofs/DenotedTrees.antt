@@ -4,11 +4,12 @@ use Rattle.std.specs.List.{AllZip, cons_option, filter_map}
 use Rattle.cp_lists.specs.Lists.{IsIn, here, there}
 use Rattle.cp_model.specs.Senders.{ArePaired}
 use Rattle.cp_model.specs.PointOfView.{StatesItself}
-use Rattle.cp_model.specs.Tree.{Limits, Tree, IsTrueOf}
+use Rattle.cp_model.specs.Tree.{Tree, IsTrueOf}
+use Rattle.cp_model.specs.declared.tree.Limits.{Limits}
 use Rattle.cp_model.proofs.SingleMaps.{states_itself}
 use Rattle.cp_sexpr.specs.Syntax.{Forms}
 use Rattle.cp_language.specs.Problems.{Problem}
-use Rattle.cp_language.specs.Input.{Entry, faults_of, input_of}
+use Rattle.cp_language.specs.Input.{Entry, stated, faults_of, input_of}
 use Rattle.cp_language.proofs.Problems.{map_to_themselves}
 use Rattle.cp_report.specs.ReadBack.{report_of}
 use Rattle.cp_report.specs.UpToNames.{IsSameTree, IsSameEntry, IsReport}
@@ -27,12 +28,12 @@ in_next (Some q) ps p here = inl refl
 in_next (Some q) ps p (there i) = inr i
 
 -- Each of the problems is that of an entry.
-problem_of : (es : List Entry) (p : Problem) → IsIn p (filter_map (λ e. e.problem) es) → (e : Entry) × IsIn e es × (e.problem ≡ Some p)
+problem_of : (es : List Entry) (p : Problem) → IsIn p (filter_map stated es) → (e : Entry) × IsIn e es × (stated e ≡ Some p)
 problem_of [] p i = elim i [ ]
-problem_of (e ∷ es) p i = ⊎_elim (λ is. (e, here, is)) (λ j. let r = problem_of es p j in (r.0, there r.1, r.2)) (in_next e.problem (filter_map (λ d. d.problem) es) p i)
+problem_of (e ∷ es) p i = ⊎_elim (λ is. (e, here, is)) (λ j. let r = problem_of es p j in (r.0, there r.1, r.2)) (in_next (stated e) (filter_map stated es) p i)
 
 -- Entries that are the same state the same problems.
-same_problems : (ds es : List Entry) → ArePaired IsSameEntry ds es → filter_map (λ e. e.problem) ds ≡ filter_map (λ e. e.problem) es
+same_problems : (ds es : List Entry) → ArePaired IsSameEntry ds es → filter_map stated ds ≡ filter_map stated es
 same_problems [] [] p = refl
 same_problems [] (e ∷ es) p = absurd p
 same_problems (d ∷ ds) [] p = absurd p
@@ -61,7 +62,7 @@ pub report_true : (input : Forms) (trees : List Tree) (limits : Limits) (fs : Fo
     → AreTrueOf limits (input_of input) trees → AreTrueOf limits (report_of fs).entries (report_of fs).trees
 report_true input trees limits fs well_formed report is =
     subst (λ (ps : List Problem). AllZip (IsTrue limits) ps (report_of fs).trees) (same_problems (input_of input) (report_of fs).entries report.same.entries)
-    (all_true limits (filter_map (λ e. e.problem) (input_of input)) trees (report_of fs).trees
+    (all_true limits (filter_map stated (input_of input)) trees (report_of fs).trees
     (λ p i. let r = problem_of (input_of input) p i in states_itself (map_to_themselves input r.0 p well_formed r.1 r.2))
     (denoted_pairs fs report.fits) is report.same.trees)
 

@@ -4,15 +4,15 @@ use Rattle.cp_lists.specs.Lists.{here, one_step, more_steps}
 use Rattle.cp_lists.proofs.Members.{only_item}
 use Rattle.cp_lists.proofs.Mapped.{map_same}
 use Rattle.cp_model.specs.Senders.{ArePaired}
-use Rattle.cp_model.specs.Term.{atom_of_variable, AtomTerm, apply_to, apply_to_atom}
+use Rattle.cp_model.specs.Term.{variable_term, AtomTerm, apply_to, apply_to_atom}
 use Rattle.cp_model.specs.Identity.{unchanged}
-use Rattle.cp_model.specs.Strand.{send}
+use Rattle.cp_model.specs.declared.strand.Event.TheVariants.{Send as send}
 use Rattle.cp_model.specs.declared.node.Node.{Node}
 use Rattle.cp_model.specs.declared.node.OrderPair.{OrderPair}
 use Rattle.cp_model.specs.Skeleton.{SkeletonStrand, instance, listener, Assumptions, OrderStep, along_strand_of, along_pair, Before}
 use Rattle.cp_model.specs.Tree.{Pattern, Test, Label, IsTrueOf}
 use Rattle.cp_model.proofs.Images.{own_images}
-use Rattle.cp_model.proofs.LawTerms.{atom_composed, atom_unchanged, term_unchanged}
+use Rattle.cp_model.proofs.LawTerms.{term_composed, atom_unchanged, term_unchanged}
 use Rattle.cp_model.proofs.LawOrder.{before_wider}
 use Rattle.cp_theory.specs.EncryptionExamples.{locked, heard}
 use Rattle.cp_tree.specs.Example.{heard_label, sent_label, heard_tree, one_step_limits}
@@ -26,7 +26,7 @@ use Rattle.cp_printable.specs.PairedTree.{along_listener, paired_label, paired_t
 own_strands : (ks : List SkeletonStrand) → ArePaired (IsSameStrandUnder unchanged) ks ks
 own_strands [] = tt
 own_strands (instance role height terms ∷ ks) = (
-  ((λ i. role), (λ i. height), λ x m. atom_composed terms unchanged (atom_of_variable x) ∙ atom_unchanged (apply_to_atom terms (atom_of_variable x))),
+  ((λ i. role), (λ i. height), λ x m. term_composed terms unchanged (variable_term x) ∙ term_unchanged (apply_to terms (variable_term x))),
   own_strands ks,
 )
 own_strands (listener t ∷ ks) = (term_unchanged t, own_strands ks)

@@ -3,8 +3,8 @@ use Rattle.std.proofs.Common.{◌<◌, List, [], ◌∷◌, length, refl, arith}
 use Rattle.std.specs.Prelude.{◌^◌}
 use Rattle.cp_lists.specs.Lists.{IsIn, here, there}
 use Rattle.cp_lists.proofs.Members.{not_in_none}
-use Rattle.cp_model.specs.Term.{Variable}
-use Rattle.cp_model.specs.Strand.{Declaration}
+use Rattle.cp_model.specs.declared.variable.Variable.{Variable}
+use Rattle.cp_model.specs.declared.variable.Declaration.{Declaration}
 use Rattle.cp_model.specs.Problem.{IsDeclared}
 use Rattle.cp_model.specs.Tree.{Label}
 use Rattle.cp_model.specs.PrefixVariables.{prefix_variables}

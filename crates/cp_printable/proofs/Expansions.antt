@@ -2,8 +2,11 @@
 use Rattle.std.proofs.Common.{◌≡◌, ◌⊎◌, ℕ, List, [], ◌∷◌, ◌++◌, length, map, sym, subst, ⊎_elim}
 use Rattle.cp_lists.specs.Lists.{IsIn}
 use Rattle.cp_lists.proofs.Members.{not_in_none, only_item, in_append_right, in_pushed, from_map}
-use Rattle.cp_model.specs.Term.{Variable, Term}
-use Rattle.cp_model.specs.Strand.{send, recv, payload, Declaration, Role, Protocol}
+use Rattle.cp_model.specs.Term.{Term}
+use Rattle.cp_model.specs.declared.variable.Variable.{Variable}
+use Rattle.cp_model.specs.Strand.{payload, Role, Protocol}
+use Rattle.cp_model.specs.declared.strand.Event.TheVariants.{Send as send, Receive as recv}
+use Rattle.cp_model.specs.declared.variable.Declaration.{Declaration}
 use Rattle.cp_model.specs.Bundle.{node_at}
 use Rattle.cp_model.specs.declared.node.Node.{Node}
 use Rattle.cp_model.specs.Skeleton.{Skeleton}
@@ -12,7 +15,8 @@ use Rattle.cp_model.specs.PointOfView.{HasDeclaredVariables}
 use Rattle.cp_model.specs.Tree.{Pattern}
 use Rattle.cp_model.specs.declared.step.Step.{Step}
 use Rattle.cp_strand.specs.Declares.{DeclaresItsVariables}
-use Rattle.cp_skel.specs.Events.{LocatedEvent, events_of}
+use Rattle.cp_skel.specs.Events.{events_of}
+use Rattle.cp_skel.specs.declared.events.LocatedEvent.{LocatedEvent}
 use Rattle.cp_skel.proofs.EventLists.{listed_event}
 use Rattle.cp_cohort.specs.CoveringChildren.{Child}
 use Rattle.cp_cohort.specs.Cohort.{GuardedTest, IsCohort}

@@ -201,8 +201,8 @@ module _ (p : Problem) where
 trees_have : (first : Place) (above : List Protocol) (ss : List Section) → trees_misfits first above ss ≡ [] → (t : Tree) → IsIn t (trees_from above ss) → HasOrderPairs t
 trees_have first above [] e t m = elim m [ ]
 trees_have first above (s ∷ ss) e t m =
-    by (stated_problem above (headed s.form)) (none_before _ (trees_misfits first (protocols_behind (headed s.form) above) ss) e) m
-    (λ j. trees_have first (protocols_behind (headed s.form) above) ss (none_behind (tree_misfits (stated_problem above (headed s.form)) (next_place first ss) s.behind) (trees_misfits first (protocols_behind (headed s.form) above) ss) e) t j)
+    by (stated_problem above s.form) (none_before _ (trees_misfits first (protocols_behind (headed s.form) above) ss) e) m
+    (λ j. trees_have first (protocols_behind (headed s.form) above) ss (none_behind (tree_misfits (stated_problem above s.form) (next_place first ss) s.behind) (trees_misfits first (protocols_behind (headed s.form) above) ss) e) t j)
   where
     of_tree : (p : Problem) → tree_misfits (Some p) (next_place first ss) s.behind ≡ [] → HasOrderPairs (tree_of p s.behind)
     of_tree p h = labels_have p (if_whole (labels_in_front s.behind) (behind_labels s.behind)) 0 (labels_in_front s.behind) (none_before _ (ending_misfits (map (label_of p) (labels_in_front s.behind)) (next_place first ss) (behind_labels s.behind)) h)

@@ -4,12 +4,14 @@ use Rattle.std.proofs.Common.{◌≡◌, ℕ, List, [], ◌++◌, Bool, true, fa
 use Rattle.cp_lists.specs.Lists.{IsIn}
 use Rattle.cp_lists.proofs.Items.{at_place}
 use Rattle.cp_lists.proofs.Members.{not_in_none, in_append, into_map}
-use Rattle.cp_model.specs.Term.{akey_sort, Variable, AtomTerm, atom_of_variable, variables_of_atom, variables_of, Substitution, apply_to, apply_to_atom}
+use Rattle.cp_model.specs.Term.{Term, variable_term, AtomTerm, variables_of, Substitution, apply_to, apply_to_atom}
+use Rattle.cp_model.specs.declared.sort.Sort.TheVariants.{Akey as akey_sort}
+use Rattle.cp_model.specs.declared.variable.Variable.{Variable}
 use Rattle.cp_model.specs.Strand.{Role, prefix_of, variables_of_trace, variables_of_prefix}
 use Rattle.cp_model.specs.Skeleton.{SkeletonStrand, instance, listener, skeleton_trace, Skeleton}
 use Rattle.cp_model.specs.Problem.{variables_of_strands, variables_of_atoms, variables_of_uniques, variables_of_assumptions, variables_of_skeleton}
 use Rattle.cp_model.specs.Same.{has_variable}
-use Rattle.cp_model.proofs.LawTerms.{atom_composed}
+use Rattle.cp_model.proofs.LawTerms.{term_composed}
 use Rattle.cp_model.proofs.SameTests.{variable_in, in_has_variable}
 use Rattle.cp_theory.specs.Normal.{strand_under, unique_under, skeleton_under, with_pairs, variables_of_terms}
 use Rattle.cp_collapse.specs.SameSkeletons.{IsSameStrand, same_instance, same_listener, AreSameStrands, no_strands, same_strands, SaysTheSame}
@@ -17,7 +19,7 @@ use Rattle.cp_model.proofs.OccurringVariables.{strand_with, atom_with, unique_wi
 use Rattle.cp_model.proofs.UnderVariables.{of_trace}
 use Rattle.cp_normal.specs.BySubstitution.{all_variables, ComesBySubstitution}
 use Rattle.cp_normal.specs.Formed.{Formed, AreFormedNormalForms}
-use Rattle.cp_printable.specs.Strings.{strings_of_atom}
+use Rattle.cp_printable.specs.Strings.{strings_of, strings_of_atom}
 use Rattle.cp_printable.specs.Spelled.{IsSpelledStrand, IsSpelledSkeleton}
 use Rattle.cp_printable.proofs.Under.{GivesStrings, same_spelled}
 use Rattle.cp_printable.proofs.Applied.{variable_has_none, GivesAdmitted, in_atom, in_term}
@@ -45,8 +47,8 @@ module _ (S I : List ℕ → Type 0) where
     of_instance : (role : Role) (height : ℕ) (terms : Substitution) → IsSpelledStrand S I (strand_under f (instance role height terms)) → (x : Variable) → IsIn x (variables_of_trace (skeleton_trace (instance role height terms))) → Gives x
     of_instance role height terms is = of_trace Gives terms (prefix_of role height) each
       where
-        each : (z : Variable) → IsIn z (variables_of_prefix role height) → (y : Variable) → IsIn y (variables_of_atom (apply_to_atom terms (atom_of_variable z))) → Gives y
-        each z i y j s m = is.1 z i s (subst (λ (v : AtomTerm). IsIn s (strings_of_atom v)) (sym (atom_composed terms f (atom_of_variable z))) (in_atom f y s m (apply_to_atom terms (atom_of_variable z)) j))
+        each : (z : Variable) → IsIn z (variables_of_prefix role height) → (y : Variable) → IsIn y (variables_of (apply_to terms (variable_term z))) → Gives y
+        each z i y j s m = is.1 z i s (subst (λ (t : Term). IsIn s (strings_of t)) (sym (term_composed terms f (variable_term z))) (in_term f y s m (apply_to terms (variable_term z)) j))
 
     of_strand : (st : SkeletonStrand) → IsSpelledStrand S I (strand_under f st) → (x : Variable) → IsIn x (variables_of_trace (skeleton_trace st)) → Gives x
     of_strand (instance role height terms) is x i s j = of_instance role height terms is x i s j
@@ -95,8 +97,8 @@ module _ (S I : List ℕ → Type 0) where
     each_gives : (x : Variable) (b : Bool) → has_variable (all_variables k) x ≡ b → GivesAdmitted S c.substitution x
     each_gives x true e s i = all_given c.substitution k before x (variable_in (all_variables k) x e) s i
     each_gives x false e s i =
-        let left : apply_to_atom c.substitution (atom_of_variable x) ≡ atom_of_variable x = c.stays_within.leaves x (λ m. let has : has_variable (all_variables k) x ≡ true = in_has_variable (all_variables k) x m in absurd (cc)) in
-        absurd (variable_has_none x s (subst (λ (v : AtomTerm). IsIn s (strings_of_atom v)) left i))
+        let left : apply_to c.substitution (variable_term x) ≡ variable_term x = c.stays_within.leaves x (λ m. let has : has_variable (all_variables k) x ≡ true = in_has_variable (all_variables k) x m in absurd (cc)) in
+        absurd (variable_has_none x s (subst (λ (t : Term). IsIn s (strings_of t)) left i))
 
     pub comes_gives : GivesStrings S c.substitution
     comes_gives n s i = each_gives (record { sort = akey_sort; number = n }) (has_variable (all_variables k) (record { sort = akey_sort; number = n })) refl s i

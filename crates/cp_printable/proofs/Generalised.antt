@@ -1,6 +1,6 @@
 -- Generalising brings in no strings.
-use Rattle.std.proofs.Common.{ℕ, List, [], sym, subst}
-use Rattle.cp_lists.specs.Lists.{IsIn, here, there}
+use Rattle.std.proofs.Common.{ℕ, List, sym, subst}
+use Rattle.cp_lists.specs.Lists.{IsIn}
 use Rattle.cp_lists.proofs.Members.{was_in}
 use Rattle.cp_model.specs.Term.{AtomTerm}
 use Rattle.cp_model.specs.declared.node.OrderPair.{OrderPair}

@@ -3,11 +3,13 @@ use Rattle.std.proofs.Common.{◌≡◌, ◌⊎◌, inl, inr, ℕ, zero, suc, �
 use Rattle.cp_lists.specs.Lists.{item_at, IsIn}
 use Rattle.cp_lists.proofs.Items.{item_of_map, front_or_behind}
 use Rattle.cp_lists.proofs.Members.{not_in_none}
-use Rattle.cp_model.specs.Strand.{Declaration, Role, Protocol}
+use Rattle.cp_model.specs.Strand.{Role, Protocol}
+use Rattle.cp_model.specs.declared.variable.Declaration.{Declaration}
 use Rattle.cp_model.specs.Skeleton.{Skeleton, IsSkeleton}
 use Rattle.cp_model.specs.PointOfView.{HasDeclaredVariables, IsPointOfView}
 use Rattle.cp_model.specs.Pattern.{IsPattern}
-use Rattle.cp_model.specs.Tree.{Pattern, Label, Tree, Limits}
+use Rattle.cp_model.specs.Tree.{Pattern, Label, Tree}
+use Rattle.cp_model.specs.declared.tree.Limits.{Limits}
 use Rattle.cp_strand.specs.Declares.{DeclaresItsVariables}
 use Rattle.cp_roots.specs.Roots.{Root, AreRoots}
 use Rattle.cp_roots.proofs.InReportOrder.{declared_listed}
@@ -39,7 +41,7 @@ module _ (protocol : Protocol) (declares : (role : Role) → IsIn role protocol.
           skeleton = sk;
           declared = declared;
           test = test;
-          guards = escape_guards k e.test.node e.test.critical (terms_onto [] x.encryptions) is.escape (record { sent = x.sent; before = x.before; encryptions = x.encryptions; each = x.each; once = refl }) x.once ds declared test;
+          guards = escape_guards k e.test.node e.test.critical (terms_onto [] x.encryptions) is.escape (record { sent = x.sent; before = x.before; encryptions = x.encryptions; each = x.each; once = refl }) x.once test;
         }
 
     asked_last : IsWellAsked protocol (guarded_test_about e.variables k e.test e.patterns) × IsCohort protocol (guarded_test_about e.variables k e.test e.patterns) e.children

@@ -3,10 +3,13 @@ use Rattle.std.proofs.Common.{◌≡◌, ◌⊎◌, inl, inr, ℕ, zero, suc, �
 use Rattle.cp_lists.specs.Lists.{item_at, IsIn, here, there}
 use Rattle.cp_lists.proofs.Items.{at_place, item_of_map, front_or_behind}
 use Rattle.cp_lists.proofs.Members.{not_in_none, only_item, in_append, from_map}
-use Rattle.cp_model.specs.Strand.{Declaration}
+use Rattle.cp_model.specs.declared.variable.Declaration.{Declaration}
 use Rattle.cp_model.specs.Skeleton.{Skeleton}
 use Rattle.cp_model.specs.Problem.{numbers_from}
-use Rattle.cp_model.specs.Tree.{Operation, by_problem, by_collapse, by_contraction, by_displacement, by_added_strand, by_added_listener, by_generalising, Label, Tree, Limits}
+use Rattle.cp_model.specs.Tree.{Label, Tree}
+use Rattle.cp_model.specs.declared.tree.Operation.{Operation}
+use Rattle.cp_model.specs.declared.tree.Operation.TheVariants.{Problem as by_problem, Collapsed as by_collapse, Contracted as by_contraction, Displaced as by_displacement, AddedStrand as by_added_strand, AddedListener as by_added_listener, Generalised as by_generalising}
+use Rattle.cp_model.specs.declared.tree.Limits.{Limits}
 use Rattle.cp_collapse.specs.Collapses.{AreCollapsesBy, no_collapses, collapse_by}
 use Rattle.cp_roots.specs.Roots.{Root, living, in_report_order, first_roots, AreFormsOfCollapses, forms_of_one, AreRoots}
 use Rattle.cp_roots.specs.Roots as rooting

@@ -3,11 +3,14 @@ use Rattle.std.proofs.Common.{◌≡◌, ◌⊎◌, inl, inr, ℕ, zero, suc, �
 use Rattle.cp_lists.specs.Lists.{item_at, IsIn}
 use Rattle.cp_lists.proofs.Items.{at_place, place_of, item_of_map, front_or_behind}
 use Rattle.cp_lists.proofs.Members.{not_in_none}
-use Rattle.cp_model.specs.Strand.{Declaration, Role, Protocol}
+use Rattle.cp_model.specs.Strand.{Role, Protocol}
+use Rattle.cp_model.specs.declared.variable.Declaration.{Declaration}
 use Rattle.cp_model.specs.Skeleton.{Skeleton, IsSkeleton}
 use Rattle.cp_model.specs.Derivable.{IsUnrealised}
 use Rattle.cp_model.specs.PointOfView.{HasDeclaredVariables, IsPointOfView}
-use Rattle.cp_model.specs.Tree.{Mark, Test, Label, Tree, Limits}
+use Rattle.cp_model.specs.Tree.{Test, Label, Tree}
+use Rattle.cp_model.specs.declared.tree.Mark.{Mark}
+use Rattle.cp_model.specs.declared.tree.Limits.{Limits}
 use Rattle.cp_strand.specs.Declares.{DeclaresItsVariables}
 use Rattle.cp_roots.specs.Roots.{Root, AreRoots}
 use Rattle.cp_roots.specs.Sound.{AreSound}

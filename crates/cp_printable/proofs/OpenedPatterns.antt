@@ -4,8 +4,11 @@ use Rattle.cp_unify.specs.Bindings.{put_term}
 use Rattle.cp_lists.specs.Lists.{item_at, IsIn}
 use Rattle.cp_lists.proofs.Items.{at_place}
 use Rattle.cp_lists.proofs.Members.{not_in_none, from_map, in_append}
-use Rattle.cp_model.specs.Term.{Sort, text_sort, datum_sort, name_sort, skey_sort, akey_sort, Variable, PairTerm, akey_variable, pubk_term, atom_of_variable, Substitution, apply_to_half, composed}
-use Rattle.cp_model.specs.Strand.{Declaration}
+use Rattle.cp_model.specs.Term.{PairTerm, akey_variable, pubk_term, atom_of_variable, Substitution, apply_to_half, composed}
+use Rattle.cp_model.specs.declared.sort.Sort.{Sort}
+use Rattle.cp_model.specs.declared.sort.Sort.TheVariants.{Text as text_sort, Datum as datum_sort, Name as name_sort, Skey as skey_sort, Akey as akey_sort}
+use Rattle.cp_model.specs.declared.variable.Variable.{Variable}
+use Rattle.cp_model.specs.declared.variable.Declaration.{Declaration}
 use Rattle.cp_model.specs.Problem.{declared_sort, IsDeclared}
 use Rattle.cp_model.specs.Tree.{Pattern}
 use Rattle.cp_pattern.specs.Opened.{with_new, opened_pattern, identifier_or_x, declared_after, declared_as}

@@ -1,7 +1,7 @@
 -- The variables of the roots of a problem that maps to itself are declared.
 use Rattle.std.proofs.Common.{◌≡◌, ℕ, List, Some}
 use Rattle.cp_lists.specs.Lists.{item_at}
-use Rattle.cp_model.specs.Strand.{Declaration}
+use Rattle.cp_model.specs.declared.variable.Declaration.{Declaration}
 use Rattle.cp_model.specs.Skeleton.{Skeleton}
 use Rattle.cp_model.specs.PointOfView.{IsPointOfView, HasDeclaredVariables}
 use Rattle.cp_roots.specs.Roots.{Root, AreRoots}

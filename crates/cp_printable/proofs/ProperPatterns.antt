@@ -4,7 +4,10 @@ use Rattle.std.specs.Prelude.{Option, Some, None, ◌&&◌, ◌||◌, ◌==◌, 
 use Rattle.std.proofs.lemmas.Bool.{both_ways, cases_Bool, or_from, or_parts}
 use Rattle.cp_lists.specs.Lists.{IsIn, there}
 use Rattle.cp_lists.proofs.Members.{head_or_behind, at_head}
-use Rattle.cp_model.specs.Term.{Sort, text_sort, datum_sort, name_sort, skey_sort, akey_sort, Variable, variables_of}
+use Rattle.cp_model.specs.Term.{variables_of}
+use Rattle.cp_model.specs.declared.sort.Sort.{Sort}
+use Rattle.cp_model.specs.declared.sort.Sort.TheVariants.{Text as text_sort, Datum as datum_sort, Name as name_sort, Skey as skey_sort, Akey as akey_sort}
+use Rattle.cp_model.specs.declared.variable.Variable.{Variable}
 use Rattle.cp_model.specs.Tree.{Pattern}
 use Rattle.cp_model.specs.Same.{same_sort, has_variable}
 use Rattle.cp_model.proofs.SameTests.{variable_is, in_has_variable}

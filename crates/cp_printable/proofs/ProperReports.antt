@@ -5,7 +5,7 @@ use Rattle.cp_lists.specs.Lists.{IsIn, here, there}
 use Rattle.cp_model.specs.Tree.{Tree}
 use Rattle.cp_sexpr.specs.Syntax.{Form, forms_of}
 use Rattle.cp_language.specs.Problems.{Problem}
-use Rattle.cp_language.specs.Input.{Entry}
+use Rattle.cp_language.specs.Input.{Entry, form_of, stated}
 use Rattle.cp_language.specs.Report.{tree_forms, report_from, report_forms}
 use Rattle.cp_printable.specs.Proper.{IsProper, AreProper}
 
@@ -24,9 +24,9 @@ entry_is_proper f None ps trees rest form each later = (form, later trees each)
 entry_is_proper f (Some p) ps [] rest form each later = absurd each
 entry_is_proper f (Some p) ps (t ∷ ts) rest form each later = (form, one_behind (tree_forms p t) (rest ts) each.0 (later ts each.1))
 
-pub report_is_proper : (entries : List Entry) (trees : List Tree) → ((e : Entry) → IsIn e entries → IsProper e.form)
-    → AllZip (λ (p : Problem) (t : Tree). AreProper (forms_of (tree_forms p t))) (filter_map (λ e. e.problem) entries) trees → AreProper (forms_of (report_forms entries trees))
+pub report_is_proper : (entries : List Entry) (trees : List Tree) → ((e : Entry) → IsIn e entries → IsProper (form_of e))
+    → AllZip (λ (p : Problem) (t : Tree). AreProper (forms_of (tree_forms p t))) (filter_map stated entries) trees → AreProper (forms_of (report_forms entries trees))
 report_is_proper [] trees forms each = tt
 report_is_proper (e ∷ es) trees forms each =
-    entry_is_proper e.form e.problem (filter_map (λ d. d.problem) es) trees (report_forms es) (forms e here) each
+    entry_is_proper (form_of e) (stated e) (filter_map stated es) trees (report_forms es) (forms e here) each
     (λ ts zip. report_is_proper es ts (λ d i. forms d (there i)) zip)

@@ -5,8 +5,10 @@ use Rattle.std.specs.List.{filter}
 use Rattle.cp_lists.specs.Lists.{IsIn, here, there}
 use Rattle.cp_lists.proofs.Items.{place_of}
 use Rattle.cp_lists.proofs.Members.{in_append, in_append_left, from_filter}
-use Rattle.cp_model.specs.Term.{Variable, atom_of_variable, AtomTerm, variables_of_atom, variables_of, Substitution, apply_to_atom}
-use Rattle.cp_model.specs.Strand.{Declaration, prefix_of, variables_of_trace, variables_of_prefix}
+use Rattle.cp_model.specs.Term.{Term, apply_to, variable_term, AtomTerm, variables_of, Substitution}
+use Rattle.cp_model.specs.declared.variable.Variable.{Variable}
+use Rattle.cp_model.specs.Strand.{prefix_of, variables_of_trace, variables_of_prefix}
+use Rattle.cp_model.specs.declared.variable.Declaration.{Declaration}
 use Rattle.cp_model.specs.declared.node.Node.{Node}
 use Rattle.cp_model.specs.declared.node.OrderPair.{OrderPair}
 use Rattle.cp_model.specs.Skeleton.{SkeletonStrand, instance, listener, skeleton_trace, UniqueAt}
@@ -17,10 +19,10 @@ use Rattle.cp_model.proofs.SameTests.{variable_in}
 use Rattle.cp_model.proofs.Gathered.{IsGathering, onto-only, atoms, uniques}
 use Rattle.cp_model.proofs.OccurringVariables.{in_trace_under, in_strands, in_atoms, in_uniques}
 use Rattle.cp_sexpr.specs.Syntax.{Form}
-use Rattle.cp_language.specs.Printed.{word, plain_list, variable, atom_form}
+use Rattle.cp_language.specs.Printed.{term_form, word, plain_list, variable, atom_form}
 use Rattle.cp_language.specs.Report.{node_form, maplets_from, strand_form, is_covering, covering_with, covering_from, unique_form}
 use Rattle.cp_printable.specs.Proper.{IsStringText, IsSymbolText, IsProper}
-use Rattle.cp_printable.specs.Spelled.{IsSpelledAtom, AreSpelledAtoms, AreSpelledDeclarations, IsSpelledStrand}
+use Rattle.cp_printable.specs.Spelled.{IsSpelledTerm, IsSpelledAtom, AreSpelledAtoms, AreSpelledDeclarations, IsSpelledStrand}
 use Rattle.cp_printable.proofs.ProperWords.{proper_word, AreProperForms, proper_append, proper_map}
 use Rattle.cp_printable.proofs.ProperTerms.{AreNamed, proper_atom, proper_term}
 
@@ -28,17 +30,17 @@ module _ (named : Variable → Form) where
   -- ---- strands
 
   module _ (prefix : List Variable) (terms : Substitution)
-      (each : (x : Variable) → IsIn x prefix → AreNamed named (variables_of_atom (apply_to_atom terms (atom_of_variable x))) × IsSpelledAtom IsStringText (apply_to_atom terms (atom_of_variable x))) where
+      (each : (x : Variable) → IsIn x prefix → AreNamed named (variables_of (apply_to terms (variable_term x))) × IsSpelledTerm IsStringText (apply_to terms (variable_term x))) where
     proper_maplets : (n : ℕ) (ds : List Declaration) → AreSpelledDeclarations IsSymbolText ds → AreProperForms (maplets_from named prefix terms n ds)
     proper_maplets n [] own = tt
     proper_maplets n (d ∷ ds) own = by (has_variable prefix (variable d.sort n)) refl (proper_maplets (suc n) ds (λ c m. own c (there m)))
       where
-        value : AtomTerm
-        value = apply_to_atom terms (atom_of_variable (variable d.sort n))
+        value : Term
+        value = apply_to terms (variable_term (variable d.sort n))
 
         by : (b : Bool) → has_variable prefix (variable d.sort n) ≡ b → AreProperForms (maplets_from named prefix terms (suc n) ds)
-            → AreProperForms (if b then plain_list (word d.identifier ∷ atom_form named value ∷ []) ∷ maplets_from named prefix terms (suc n) ds else maplets_from named prefix terms (suc n) ds)
-        by true e rest = let h = each (variable d.sort n) (variable_in prefix (variable d.sort n) e) in ((own d here, (proper_atom named value h.0 h.1, tt)), rest)
+            → AreProperForms (if b then plain_list (word d.identifier ∷ term_form named value ∷ []) ∷ maplets_from named prefix terms (suc n) ds else maplets_from named prefix terms (suc n) ds)
+        by true e rest = let h = each (variable d.sort n) (variable_in prefix (variable d.sort n) e) in ((own d here, (proper_term named value h.0 h.1, tt)), rest)
         by false e rest = rest
 
   proper_strand : (s : SkeletonStrand) → AreNamed named (variables_of_trace (skeleton_trace s)) → IsSpelledStrand IsStringText IsSymbolText s → IsProper (strand_form named s)

@@ -3,7 +3,9 @@ use Rattle.std.proofs.Common.{List, Bool, true, false, refl}
 use Rattle.std.specs.Prelude.{ℕ, Option, Some, None, codes}
 use Rattle.cp_lists.specs.Lists.{IsIn, here, there}
 use Rattle.cp_lists.proofs.Members.{in_append_left, in_append_right}
-use Rattle.cp_model.specs.Term.{name_sort, skey_sort, akey_sort, text_sort, datum_sort, Variable, SymmetricTerm, skey_variable, ltk_term, PairTerm, akey_variable, pubk_term, KeyTerm, symmetric_term, asymmetric_term, AtomTerm, text_variable, datum_variable, name_variable, key_term, Term, tag_term, atom_term, pair_term, enc_term, variables_of_symmetric, variables_of_pair, variables_of_key, variables_of_atom, variables_of}
+use Rattle.cp_model.specs.Term.{SymmetricTerm, skey_variable, ltk_term, PairTerm, akey_variable, pubk_term, KeyTerm, symmetric_term, asymmetric_term, AtomTerm, text_variable, datum_variable, name_variable, key_term, Term, tag_term, atom_term, pair_term, enc_term, variables_of_symmetric, variables_of_pair, variables_of_key, variables_of_atom, variables_of}
+use Rattle.cp_model.specs.declared.sort.Sort.TheVariants.{Name as name_sort, Skey as skey_sort, Akey as akey_sort, Text as text_sort, Datum as datum_sort}
+use Rattle.cp_model.specs.declared.variable.Variable.{Variable}
 use Rattle.cp_sexpr.specs.Syntax.{Form, Forms, none, more}
 use Rattle.cp_language.specs.Printed.{variable, symmetric_form, name_items, asymmetric_form, key_form, atom_form, gathered, spine, term_form}
 use Rattle.cp_printable.specs.Strings.{strings_of_purpose, strings_of_pair, strings_of_key, strings_of}

@@ -5,15 +5,18 @@ use Rattle.std.specs.Prelude.{map}
 use Rattle.cp_lists.specs.Lists.{item_at, IsIn}
 use Rattle.cp_lists.proofs.Members.{in_append_left, in_append_right}
 use Rattle.cp_lists.proofs.Mapped.{map_same}
-use Rattle.cp_model.specs.Term.{Variable, atom_of_variable, AtomTerm, Term, variables_of_atom, variables_of, Substitution, apply_to, apply_to_atom}
-use Rattle.cp_model.specs.Strand.{Event, send, payload, Role, Protocol, prefix_of, variables_of_trace, Applies}
+use Rattle.cp_model.specs.Term.{variable_term, AtomTerm, Term, variables_of_atom, variables_of, Substitution, apply_to, apply_to_atom}
+use Rattle.cp_model.specs.declared.variable.Variable.{Variable}
+use Rattle.cp_model.specs.Strand.{payload, Role, Protocol, prefix_of, variables_of_trace, Applies}
+use Rattle.cp_model.specs.declared.strand.Event.{Event}
+use Rattle.cp_model.specs.declared.strand.Event.TheVariants.{Send as send}
 use Rattle.cp_model.specs.Bundle.{node_at}
 use Rattle.cp_model.specs.declared.node.Node.{Node}
 use Rattle.cp_model.specs.Problem.{variables_of_strands, variables_of_atoms, variables_of_uniques, variables_of_assumptions, variables_of_skeleton, variables_of_terms}
 use Rattle.cp_model.specs.Skeleton.{SkeletonStrand, instance, listener, skeleton_trace, term_event_at, UniqueAt, Skeleton, IsOrderPair, IsOrigin, GivesAssumptions, IsSkeleton}
 use Rattle.cp_model.specs.declared.node.OrderPair.{OrderPair}
 use Rattle.cp_model.specs.Homomorphism.{SkeletonMap, IsHomomorphism, IsEmbedding}
-use Rattle.cp_model.proofs.LawTerms.{atom_composed, carried_under}
+use Rattle.cp_model.proofs.LawTerms.{term_composed, atom_composed, carried_under}
 use Rattle.cp_model.proofs.LawAgreement.{agree_atom}
 use Rattle.cp_model.proofs.LawPrefixes.{in_trace}
 use Rattle.cp_model.proofs.LawStandings.{strand_of_event, event_on}
@@ -150,8 +153,8 @@ module _ (number : Variable → ℕ) (xs : List Variable) (one : IsOneToOne numb
   -- The terms of an instance, renamed and back, are these terms.
   instance_returned : (a : ℕ) (role : Role) (height : ℕ) (terms terms' : Substitution) → item_at k.strands a ≡ Some (instance role height terms) → HasTerms to role height terms terms' → HasTerms from role height terms' terms
   instance_returned a role height terms terms' at has x i =
-      atom_composed terms' from (atom_of_variable x) ∙ ap (apply_to_atom from) (sym (has x i) ∙ atom_composed terms to (atom_of_variable x))
-      ∙ atom_returned number xs one (apply_to_atom terms (atom_of_variable x)) (λ y m. strand_within a y (instance role height terms) at (in_trace_under terms (prefix_of role height) x y i m))
+      term_composed terms' from (variable_term x) ∙ ap (apply_to from) (sym (has x i) ∙ term_composed terms to (variable_term x))
+      ∙ term_returned number xs one (apply_to terms (variable_term x)) (λ y m. strand_within a y (instance role height terms) at (in_trace_under terms (prefix_of role height) x y i m))
 
   -- The way back is a homomorphism from the second skeleton to the first.
   pub back_homomorphism : IsHomomorphism n k (with_terms from)

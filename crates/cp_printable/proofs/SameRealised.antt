@@ -1,7 +1,8 @@
 -- A skeleton that is the same as a realised one up to names of variables and pairs that generate its order is realised.
 use Rattle.std.proofs.Common.{◌≡◌, ℕ, List, subst₂}
 use Rattle.cp_lists.specs.Lists.{IsIn}
-use Rattle.cp_model.specs.Term.{Variable, atoms_by}
+use Rattle.cp_model.specs.Term.{atoms_by}
+use Rattle.cp_model.specs.declared.variable.Variable.{Variable}
 use Rattle.cp_model.specs.Strand.{Protocol}
 use Rattle.cp_model.specs.Bundle.{Bundle, Precedes}
 use Rattle.cp_model.specs.declared.node.Node.{Node}

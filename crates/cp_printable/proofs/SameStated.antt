@@ -4,8 +4,9 @@ use Rattle.std.proofs.Common.{◌≡◌, ◌≢◌, ◌<◌, ℕ, List, refl, sy
 use Rattle.std.specs.Prelude.{map}
 use Rattle.cp_lists.specs.Lists.{IsIn}
 use Rattle.cp_lists.proofs.Mapped.{map_then}
-use Rattle.cp_model.specs.Term.{Variable, AtomTerm, Term, variables_of_atom, Substitution, apply_to, apply_to_atom, composed, after, value_of}
-use Rattle.cp_model.specs.Strand.{Declaration}
+use Rattle.cp_model.specs.Term.{AtomTerm, Term, variables_of_atom, Substitution, apply_to, apply_to_atom, composed, after, value_of}
+use Rattle.cp_model.specs.declared.variable.Variable.{Variable}
+use Rattle.cp_model.specs.declared.variable.Declaration.{Declaration}
 use Rattle.cp_model.specs.Bundle.{node_at}
 use Rattle.cp_model.specs.declared.node.OrderPair.{OrderPair}
 use Rattle.cp_model.specs.Problem.{IsDeclared, variables_of_skeleton, variables_of_terms}

@@ -4,7 +4,8 @@ use Rattle.std.specs.Prelude.{option_map}
 use Rattle.cp_lists.specs.Lists.{item_at}
 use Rattle.cp_model.specs.Senders.{ArePaired}
 use Rattle.cp_model.specs.Term.{Term, Substitution, apply_to, composed, AgreeOnTerms}
-use Rattle.cp_model.specs.Strand.{Event, event_map, Role, variables_of_prefix}
+use Rattle.cp_model.specs.Strand.{event_map, Role, variables_of_prefix}
+use Rattle.cp_model.specs.declared.strand.Event.{Event}
 use Rattle.cp_model.specs.declared.node.Node.{Node}
 use Rattle.cp_model.specs.Skeleton.{SkeletonStrand, instance, listener, term_event_at, IsNodeOf}
 use Rattle.cp_model.specs.Standing.{image_on}

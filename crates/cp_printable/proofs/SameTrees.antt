@@ -4,15 +4,20 @@ use Rattle.cp_lists.specs.Lists.{item_at, IsIn, here, there}
 use Rattle.cp_lists.proofs.Items.{place_of, at_place}
 use Rattle.cp_lists.proofs.Members.{in_append_left, in_append_right, head_or_behind}
 use Rattle.cp_model.specs.Senders.{ArePaired}
-use Rattle.cp_model.specs.Term.{Variable, Substitution}
-use Rattle.cp_model.specs.Strand.{Declaration, Protocol}
+use Rattle.cp_model.specs.Term.{Substitution}
+use Rattle.cp_model.specs.declared.variable.Variable.{Variable}
+use Rattle.cp_model.specs.Strand.{Protocol}
+use Rattle.cp_model.specs.declared.variable.Declaration.{Declaration}
 use Rattle.cp_model.specs.Bundle.{Bundle}
 use Rattle.cp_model.specs.Problem.{variables_of_skeleton}
 use Rattle.cp_model.specs.PointOfView.{StatesItself}
 use Rattle.cp_model.specs.Skeleton.{Skeleton, IsSkeleton}
 use Rattle.cp_model.specs.Standing.{Standing, StandsIn, StandsApart}
 use Rattle.cp_model.specs.Homomorphism.{Embeds, FactorsThrough, Covers}
-use Rattle.cp_model.specs.Tree.{Mark, shape, dead, seen, instance_of, limit_steps, limit_strands, Test, Label, Tree, Limits, is_expanded, expanded_count, if_shape, shapes_of, if_left, skeletons_left, IsOpen, ReachedSteps, ReachedStrands, IsTrueOf}
+use Rattle.cp_model.specs.Tree.{Test, Label, Tree, is_expanded, expanded_count, if_shape, shapes_of, if_left, skeletons_left, IsOpen, ReachedSteps, ReachedStrands, IsTrueOf}
+use Rattle.cp_model.specs.declared.tree.Mark.{Mark}
+use Rattle.cp_model.specs.declared.tree.Mark.TheVariants.{Shape as shape, Dead as dead, Seen as seen, InstanceOf as instance_of, LimitSteps as limit_steps, LimitStrands as limit_strands}
+use Rattle.cp_model.specs.declared.tree.Limits.{Limits}
 use Rattle.cp_model.proofs.Paired.{paired_item}
 use Rattle.cp_model.proofs.LawEmbeddings.{embeds_then}
 use Rattle.cp_language.specs.Report.{variables_of_terms, variables_of_test, variables_of_patterns, occurring}

@@ -2,8 +2,11 @@
 use Rattle.std.proofs.Common.{◌≡◌, ℕ, List, Bool, true, false, Some, refl, sym, ap, ◌∙◌, subst, inl, inr}
 use Rattle.std.specs.Prelude.{not}
 use Rattle.cp_lists.specs.Lists.{IsIn}
-use Rattle.cp_model.specs.Term.{Variable, symmetric_term, asymmetric_term, akey_variable, pubk_term, KeyTerm, key_term, inverse_term, AtomTerm, Term, atom_term, variables_of, variables_of_atom, flag_of, Substitution, apply_to, apply_to_key, apply_to_atom}
-use Rattle.cp_model.specs.Strand.{Event, send, recv, event_map}
+use Rattle.cp_model.specs.Term.{symmetric_term, asymmetric_term, akey_variable, pubk_term, KeyTerm, key_term, inverse_term, AtomTerm, Term, atom_term, variables_of, variables_of_atom, flag_of, Substitution, apply_to, apply_to_key, apply_to_atom}
+use Rattle.cp_model.specs.declared.variable.Variable.{Variable}
+use Rattle.cp_model.specs.Strand.{event_map}
+use Rattle.cp_model.specs.declared.strand.Event.{Event}
+use Rattle.cp_model.specs.declared.strand.Event.TheVariants.{Send as send, Receive as recv}
 use Rattle.cp_model.specs.declared.node.Node.{Node}
 use Rattle.cp_model.specs.Problem.{variables_of_skeleton}
 use Rattle.cp_model.specs.Skeleton.{term_event_at, Skeleton}

@@ -2,8 +2,9 @@
 -- declarations are.
 use Rattle.std.proofs.Common.{◌≡◌, ℕ, suc, List, [], ◌∷◌, ◌++◌, length, Bool, true, false, nat_lt, Option, Some, None, refl, sym, subst, ⊎_elim, if◌then◌else◌}
 use Rattle.cp_lists.specs.Lists.{IsIn, here, there}
-use Rattle.cp_model.specs.Term.{atom_of_variable, AtomTerm, atom_term, Substitution, apply_to_atom, variables_of_atom}
-use Rattle.cp_model.specs.Strand.{Declaration, Role, Protocol, variables_of_prefix}
+use Rattle.cp_model.specs.Term.{variable_term, AtomTerm, atom_term, Substitution, apply_to_atom, variables_of_atom}
+use Rattle.cp_model.specs.Strand.{Role, Protocol, variables_of_prefix}
+use Rattle.cp_model.specs.declared.variable.Declaration.{Declaration}
 use Rattle.cp_model.specs.Bundle.{node_at}
 use Rattle.cp_model.specs.Skeleton.{SkeletonStrand, instance, listener, skeleton_trace, UniqueAt, Assumptions}
 use Rattle.cp_model.specs.Same.{origin_in, has_variables}
@@ -124,7 +125,7 @@ given_spelled strands own h k = record {
 variables_strings : (n : ℕ) (ds : List Declaration) → HaveStrings (variable_terms n ds)
 variables_strings n [] = each_of_none (IsSpelledTerm IsStringText)
 variables_strings n (d ∷ ds) =
-    each_more (IsSpelledTerm IsStringText) (atom_term (atom_of_variable (record { sort = d.sort; number = n }))) (variable_terms (suc n) ds)
+    each_more (IsSpelledTerm IsStringText) (variable_term (record { sort = d.sort; number = n })) (variable_terms (suc n) ds)
     (variable_strings (record { sort = d.sort; number = n })) (variables_strings (suc n) ds)
 
 skeleton_spelled : (ds : List Declaration) (strands : List SkeletonStrand) (body : List Form) (variables : List Declaration) → AreProperStrands strands → AllProper body →

@@ -5,10 +5,16 @@ use Rattle.cp_base.specs.declared.place.Code.TheVariants.{DuplicateProtocol, Dup
 use Rattle.cp_base.specs.declared.place.Refusal.{Refusal}
 use Rattle.cp_lists.specs.Lists.{IsIn, here, there}
 use Rattle.cp_lists.proofs.Appended.{none_before, none_behind, none_of_three, none_of_four}
-use Rattle.cp_model.specs.Term.{Sort, Term}
-use Rattle.cp_model.specs.Strand.{Event, send, recv, payload, Declaration, Role}
+use Rattle.cp_model.specs.Term.{Term}
+use Rattle.cp_model.specs.declared.sort.Sort.{Sort}
+use Rattle.cp_model.specs.Strand.{payload, Role}
+use Rattle.cp_model.specs.declared.strand.Event.{Event}
+use Rattle.cp_model.specs.declared.strand.Event.TheVariants.{Send as send, Receive as recv}
+use Rattle.cp_model.specs.declared.variable.Declaration.{Declaration}
 use Rattle.cp_sexpr.specs.Syntax.{Form, symbol, string, number, list, Forms, none, more}
-use Rattle.cp_language.specs.Words.{ItemHead, event_head, SortWord}
+use Rattle.cp_language.specs.declared.words.SortWord.{SortWord}
+use Rattle.cp_language.specs.declared.words.ItemHead.{ItemHead}
+use Rattle.cp_language.specs.Words.{event_head}
 use Rattle.cp_language.specs.Faults.{fault, place_of, items_of}
 use Rattle.cp_language.specs.Terms.{term_faults, term_of, as_atom}
 use Rattle.cp_language.specs.Roles.{Headed, headed, text_of_symbol, items_behind, front_of, last_form, sort_named, sort_or_text, identifier_faults, identifiers_faults, declared_identifiers, list_items, declaration_faults, declarations_faults, vars_faults, declared_of, declarations_in, declarations_of, trace_faults, where_faultless, message_of, is_sending, event_of, events_in, events_stated, each_faults, role_item_faults, item_faults, name_faults_at, role_faults, atoms_in, item_or_none, forms_under, is_non_item, is_penetrator_non_item, is_unique_item, role_of, roles_faults, algebra_faults, protocol_faults, roles_in, protocol_of}

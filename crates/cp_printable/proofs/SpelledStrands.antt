@@ -3,12 +3,17 @@
 use Rattle.std.proofs.Common.{◌≡◌, ℕ, suc, ◌+◌, List, [], ◌∷◌, ◌++◌, length, Bool, true, false, Option, Some, None, refl, subst, if◌then◌else◌}
 use Rattle.cp_lists.specs.Lists.{item_at, here, there}
 use Rattle.cp_lists.proofs.Items.{at_place}
-use Rattle.cp_model.specs.Term.{Sort, text_sort, datum_sort, name_sort, skey_sort, akey_sort, Variable, atom_of_variable, PairTerm, akey_variable, pubk_term, symmetric_term, asymmetric_term, AtomTerm, text_variable, datum_variable, name_variable, key_term, Term, tag_term, atom_term, pair_term, enc_term, Substitution, apply_to_key, apply_to_atom}
-use Rattle.cp_model.specs.Strand.{Declaration, Role, variables_of_prefix}
+use Rattle.cp_model.specs.Term.{apply_to, variable_term, PairTerm, akey_variable, pubk_term, symmetric_term, asymmetric_term, AtomTerm, text_variable, datum_variable, name_variable, key_term, Term, tag_term, atom_term, pair_term, enc_term, Substitution, apply_to_key, apply_to_atom}
+use Rattle.cp_model.specs.declared.sort.Sort.{Sort}
+use Rattle.cp_model.specs.declared.sort.Sort.TheVariants.{Text as text_sort, Datum as datum_sort, Name as name_sort, Skey as skey_sort, Akey as akey_sort}
+use Rattle.cp_model.specs.declared.variable.Variable.{Variable}
+use Rattle.cp_model.specs.Strand.{Role, variables_of_prefix}
+use Rattle.cp_model.specs.declared.variable.Declaration.{Declaration}
 use Rattle.cp_model.specs.Skeleton.{SkeletonStrand, instance, listener}
 use Rattle.cp_model.specs.Homomorphism.{akey_in, substitution_by}
 use Rattle.cp_sexpr.specs.Syntax.{Form, symbol, string, number, list, none, more}
-use Rattle.cp_language.specs.Words.{is_one_of, ItemHead}
+use Rattle.cp_language.specs.declared.words.ItemHead.{ItemHead}
+use Rattle.cp_language.specs.Words.{is_one_of}
 use Rattle.cp_language.specs.Terms.{term_of}
 use Rattle.cp_language.specs.Roles.{headed, items_behind, item_or_none}
 use Rattle.cp_language.specs.Problems.{role_named, mapped_identifier, term_mapped, is_fresh, term_or_fresh, instantiated, instance_of_role, Strands, instance_by, name_in_front, listened_term, strand_by, fresh_of, with_strand, strands_from, is_assumption_or_order, before_items, number_of}
@@ -40,7 +45,7 @@ HaveStrings ts = Each (IsSpelledTerm IsStringText) ts
 
 -- The terms that a substitution gives have strings of bytes of strings alone.
 abbrev pub GivesStrings : Substitution → Type 0
-GivesStrings s = (x : Variable) → IsSpelledAtom IsStringText (apply_to_atom s (atom_of_variable x))
+GivesStrings s = (x : Variable) → IsSpelledTerm IsStringText (apply_to s (variable_term x))
 
 option_strings : (n : ℕ) (o : Option Term) → ((t : Term) → o ≡ Some t → AreStrings (strings_of t)) → AreStrings (strings_of_pair (akey_in n o).1)
 option_strings n None h = no_strings
@@ -53,7 +58,7 @@ option_strings n (Some (atom_term (name_variable m))) h = no_strings
 option_strings n (Some (atom_term (key_term (symmetric_term k)))) h = no_strings
 option_strings n (Some (atom_term (key_term (asymmetric_term flag k)))) h = h (atom_term (key_term (asymmetric_term flag k))) refl
 
-numbered_gives : (ts : List Term) → HaveStrings ts → (s : Sort) (n : ℕ) → IsSpelledAtom IsStringText (apply_to_atom (substitution_by ts) (atom_of_variable (record { sort = s; number = n })))
+numbered_gives : (ts : List Term) → HaveStrings ts → (s : Sort) (n : ℕ) → IsSpelledTerm IsStringText (apply_to (substitution_by ts) (variable_term (record { sort = s; number = n })))
 numbered_gives ts h text_sort n = no_strings
 numbered_gives ts h datum_sort n = no_strings
 numbered_gives ts h name_sort n = no_strings

@@ -2,10 +2,15 @@
 use Rattle.std.proofs.Common.{ℕ, List, [], ◌∷◌, ◌++◌, Bool, true, false, Option, Some, None, ⊎_elim}
 use Rattle.cp_lists.specs.Lists.{IsIn, here, there}
 use Rattle.cp_lists.proofs.Members.{in_append}
-use Rattle.cp_model.specs.Term.{Sort, text_sort, datum_sort, name_sort, skey_sort, akey_sort, Variable, atom_of_variable, KeyTerm, symmetric_term, asymmetric_term, inverse_term, text_variable, datum_variable, name_variable, key_term, Term, tag_term, atom_term, pair_term, enc_term}
-use Rattle.cp_model.specs.Strand.{Declaration}
+use Rattle.cp_model.specs.Term.{variable_term, KeyTerm, symmetric_term, asymmetric_term, inverse_term, text_variable, datum_variable, name_variable, key_term, Term, tag_term, atom_term, pair_term, enc_term}
+use Rattle.cp_model.specs.declared.sort.Sort.{Sort}
+use Rattle.cp_model.specs.declared.sort.Sort.TheVariants.{Text as text_sort, Datum as datum_sort, Name as name_sort, Skey as skey_sort, Akey as akey_sort}
+use Rattle.cp_model.specs.declared.variable.Variable.{Variable}
+use Rattle.cp_model.specs.declared.variable.Declaration.{Declaration}
 use Rattle.cp_sexpr.specs.Syntax.{Form, symbol, string, number, list, Forms, none, more}
-use Rattle.cp_language.specs.Words.{TermHead, cat, encrypt, long_term_key, public_key, private_key, inverse_key, operation_out_of_profile, no_operation, term_head}
+use Rattle.cp_language.specs.declared.words.TermHead.{TermHead}
+use Rattle.cp_language.specs.declared.words.TermHead.TheVariants.{Cat as cat, Enc as encrypt, Ltk as long_term_key, Pubk as public_key, Privk as private_key, Invk as inverse_key, OutOfProfile as operation_out_of_profile, Unknown as no_operation}
+use Rattle.cp_language.specs.Words.{term_head}
 use Rattle.cp_language.specs.Faults.{items_of}
 use Rattle.cp_language.specs.Terms.{variable_named, term_of_variable, paired, all_but_last, last_of, as_key, as_atom, long_term, inverted, key_of_name, applied, term_of, terms_of}
 use Rattle.cp_printable.specs.Strings.{strings_of_key, strings_of_atom, strings_of}
@@ -46,7 +51,7 @@ strings_of_both ss ts h k = each_of_both IsStringText ss ts h k
 
 -- ---- variables
 
-numbered_strings : (s : Sort) (n : ℕ) → AreStrings (strings_of_atom (atom_of_variable (record { sort = s; number = n })))
+numbered_strings : (s : Sort) (n : ℕ) → AreStrings (strings_of (variable_term (record { sort = s; number = n })))
 numbered_strings text_sort n = no_strings
 numbered_strings datum_sort n = no_strings
 numbered_strings name_sort n = no_strings
@@ -54,7 +59,7 @@ numbered_strings skey_sort n = no_strings
 numbered_strings akey_sort n = no_strings
 
 -- A variable has no strings.
-pub variable_strings : (x : Variable) → AreStrings (strings_of_atom (atom_of_variable x))
+pub variable_strings : (x : Variable) → AreStrings (strings_of (variable_term x))
 variable_strings x = numbered_strings x.sort x.number
 
 variable_or_none : (o : Option Variable) → AreStrings (strings_of (term_of_variable o))

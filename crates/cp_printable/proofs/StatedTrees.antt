@@ -5,7 +5,8 @@ use Rattle.cp_lists.specs.Lists.{IsIn}
 use Rattle.cp_lists.proofs.Items.{at_place}
 use Rattle.cp_model.specs.Strand.{Role}
 use Rattle.cp_model.specs.PointOfView.{IsPointOfView}
-use Rattle.cp_model.specs.Tree.{Limits, Label, Tree, IsTrueOf}
+use Rattle.cp_model.specs.Tree.{Label, Tree, IsTrueOf}
+use Rattle.cp_model.specs.declared.tree.Limits.{Limits}
 use Rattle.cp_strand.specs.Declares.{DeclaresItsVariables}
 use Rattle.cp_tree.specs.Searched.{IsTreeOf}
 use Rattle.cp_language.specs.Problems.{Problem}

@@ -3,13 +3,18 @@ use Rattle.std.proofs.Common.{◌≡◌, ℕ, List, [], ◌∷◌, Some, map, re
 use Rattle.cp_lists.specs.Lists.{item_at, IsIn, here, there}
 use Rattle.cp_lists.proofs.Members.{in_append, in_append_left, in_append_right, from_map}
 use Rattle.cp_lists.proofs.Items.{at_place, item_of_map, item_of_take}
-use Rattle.cp_model.specs.Term.{Sort, text_sort, datum_sort, name_sort, skey_sort, akey_sort, Variable, akey_variable, pubk_term, symmetric_term, asymmetric_term, AtomTerm, text_variable, datum_variable, name_variable, key_term, atom_of_variable, Term, tag_term, atom_term, pair_term, enc_term, variables_of_atom, variables_of_key, variables_of, IsCarriedByTerm, itself_term, in_left_term, in_right_term, in_plaintext_term, Substitution, apply_to_key, apply_to_atom, apply_to, composed}
-use Rattle.cp_model.specs.Strand.{Event, send, recv, payload, event_map, Role, prefix_of}
+use Rattle.cp_model.specs.Term.{variable_term, akey_variable, pubk_term, symmetric_term, asymmetric_term, AtomTerm, text_variable, datum_variable, name_variable, key_term, Term, tag_term, atom_term, pair_term, enc_term, variables_of_atom, variables_of_key, variables_of, IsCarriedByTerm, itself_term, in_left_term, in_right_term, in_plaintext_term, Substitution, apply_to_key, apply_to_atom, apply_to, composed}
+use Rattle.cp_model.specs.declared.sort.Sort.{Sort}
+use Rattle.cp_model.specs.declared.sort.Sort.TheVariants.{Text as text_sort, Datum as datum_sort, Name as name_sort, Skey as skey_sort, Akey as akey_sort}
+use Rattle.cp_model.specs.declared.variable.Variable.{Variable}
+use Rattle.cp_model.specs.Strand.{payload, event_map, Role, prefix_of}
+use Rattle.cp_model.specs.declared.strand.Event.{Event}
+use Rattle.cp_model.specs.declared.strand.Event.TheVariants.{Send as send, Receive as recv}
 use Rattle.cp_model.specs.declared.node.Node.{Node}
 use Rattle.cp_model.specs.declared.node.OrderPair.{OrderPair}
 use Rattle.cp_model.specs.Skeleton.{SkeletonStrand, instance, listener, skeleton_trace, term_event_at, UniqueAt, Assumptions, FromProblem, Skeleton}
 use Rattle.cp_model.specs.Given.{listed}
-use Rattle.cp_model.proofs.LawTerms.{atom_composed}
+use Rattle.cp_model.proofs.LawTerms.{term_composed}
 use Rattle.cp_model.proofs.LawStandings.{strand_of_event, event_on}
 use Rattle.cp_model.proofs.LawPrefixes.{in_trace}
 use Rattle.cp_model.specs.declared.step.Step.{Step}
@@ -38,7 +43,7 @@ module _ (S I : List ℕ → Type 0) where
 
   -- What the substitution gives each of these variables has admitted strings.
   abbrev AllGive : Substitution → List Variable → Type 0
-  AllGive f xs = (x : Variable) → IsIn x xs → IsSpelledAtom S (apply_to_atom f (atom_of_variable x))
+  AllGive f xs = (x : Variable) → IsIn x xs → IsSpelledTerm S (apply_to f (variable_term x))
 
   pub atom_by : (f : Substitution) (v : AtomTerm) → AllGive f (variables_of_atom v) → IsSpelledAtom S v → IsSpelledAtom S (apply_to_atom f v)
   atom_by f (text_variable n) gives is s i = elim i [ ]
@@ -60,14 +65,14 @@ module _ (S I : List ℕ → Type 0) where
       (λ j. atom_by f (key_term k) (λ x m. gives x (in_append_right (variables_of a) m)) (λ u m. is u (in_append_right (strings_of a) m)) s j)
       (in_append (strings_of (apply_to f a)) (strings_of_key (apply_to_key f k)) i)
 
-  gives_of_sort : (f : Substitution) → GivesStrings S f → (sort : Sort) (n : ℕ) → IsSpelledAtom S (apply_to_atom f (atom_of_variable (record { sort = sort; number = n })))
+  gives_of_sort : (f : Substitution) → GivesStrings S f → (sort : Sort) (n : ℕ) → IsSpelledTerm S (apply_to f (variable_term (record { sort = sort; number = n })))
   gives_of_sort f gives text_sort n s i = elim i [ ]
   gives_of_sort f gives datum_sort n s i = elim i [ ]
   gives_of_sort f gives name_sort n s i = elim i [ ]
   gives_of_sort f gives skey_sort n s i = elim i [ ]
   gives_of_sort f gives akey_sort n s i = gives n s i
 
-  pub gives_variable : (f : Substitution) → GivesStrings S f → (x : Variable) → IsSpelledAtom S (apply_to_atom f (atom_of_variable x))
+  pub gives_variable : (f : Substitution) → GivesStrings S f → (x : Variable) → IsSpelledTerm S (apply_to f (variable_term x))
   gives_variable f gives x = gives_of_sort f gives x.sort x.number
 
   pub atom_under : (f : Substitution) (v : AtomTerm) → GivesStrings S f → IsSpelledAtom S v → IsSpelledAtom S (apply_to_atom f v)
@@ -95,9 +100,9 @@ module _ (S I : List ℕ → Type 0) where
     unique = uniques_under f a.uniquely_originating gives are.unique;
   }
 
-  composed_spelled : (f terms : Substitution) (x : Variable) → GivesStrings S f → IsSpelledAtom S (apply_to_atom terms (atom_of_variable x)) → IsSpelledAtom S (apply_to_atom (composed terms f) (atom_of_variable x))
+  composed_spelled : (f terms : Substitution) (x : Variable) → GivesStrings S f → IsSpelledTerm S (apply_to terms (variable_term x)) → IsSpelledTerm S (apply_to (composed terms f) (variable_term x))
   composed_spelled f terms x gives is =
-      subst (IsSpelledAtom S) (sym (atom_composed terms f (atom_of_variable x))) (atom_under f (apply_to_atom terms (atom_of_variable x)) gives is)
+      subst (IsSpelledTerm S) (sym (term_composed terms f (variable_term x))) (term_under f (apply_to terms (variable_term x)) gives is)
 
   pub strand_under_spelled : (f : Substitution) (st : SkeletonStrand) → GivesStrings S f → IsSpelledStrand S I st → IsSpelledStrand S I (strand_under f st)
   strand_under_spelled f (instance role height terms) gives is = (is.0, λ x i. composed_spelled f terms x gives (is.1 x i))
@@ -124,7 +129,7 @@ module _ (S I : List ℕ → Type 0) where
   -- ---- skeletons that say the same, other pairs, and the order of a report
 
   same_strand_spelled : {s t : SkeletonStrand} → IsSameStrand s t → IsSpelledStrand S I s → IsSpelledStrand S I t
-  same_strand_spelled (same_instance agree) is = (is.0, λ x i. subst (IsSpelledAtom S) (agree x i) (is.1 x i))
+  same_strand_spelled (same_instance agree) is = (is.0, λ x i. subst (IsSpelledTerm S) (agree x i) (is.1 x i))
   same_strand_spelled same_listener is = is
 
   same_strands_spelled : {ss ts : List SkeletonStrand} → AreSameStrands ss ts → ((s : SkeletonStrand) → IsIn s ss → IsSpelledStrand S I s) → (t : SkeletonStrand) → IsIn t ts → IsSpelledStrand S I t

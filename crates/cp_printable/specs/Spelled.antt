@@ -2,8 +2,11 @@
 -- are admitted, and I which identifiers and names.
 use Rattle.std.specs.Prelude.{◌≡◌, ℕ, List, Some}
 use Rattle.cp_lists.specs.Lists.{IsIn}
-use Rattle.cp_model.specs.Term.{Variable, atom_of_variable, AtomTerm, Term, apply_to_atom}
-use Rattle.cp_model.specs.Strand.{Event, payload, Declaration, Role, variables_of_prefix}
+use Rattle.cp_model.specs.Term.{apply_to, variable_term, AtomTerm, Term}
+use Rattle.cp_model.specs.declared.variable.Variable.{Variable}
+use Rattle.cp_model.specs.Strand.{payload, Role, variables_of_prefix}
+use Rattle.cp_model.specs.declared.strand.Event.{Event}
+use Rattle.cp_model.specs.declared.variable.Declaration.{Declaration}
 use Rattle.cp_model.specs.Skeleton.{SkeletonStrand, instance, listener, UniqueAt, Assumptions, Skeleton}
 use Rattle.cp_model.specs.Tree.{Pattern, Test, Label}
 use Rattle.cp_language.specs.Problems.{Problem}
@@ -33,7 +36,7 @@ pub record IsSpelledRole (S I : List ℕ → Type 0) (role : Role) : Type 0 wher
 
 -- Of an instance its role, and the terms of the variables of its prefix; of a listener its term.
 abbrev pub IsSpelledStrand : (S I : List ℕ → Type 0) → SkeletonStrand → Type 0
-IsSpelledStrand S I (instance role height terms) = IsSpelledRole S I role × ((x : Variable) → IsIn x (variables_of_prefix role height) → IsSpelledAtom S (apply_to_atom terms (atom_of_variable x)))
+IsSpelledStrand S I (instance role height terms) = IsSpelledRole S I role × ((x : Variable) → IsIn x (variables_of_prefix role height) → IsSpelledTerm S (apply_to terms (variable_term x)))
 IsSpelledStrand S I (listener t) = IsSpelledTerm S t
 
 pub record AreSpelledAssumptions (S : List ℕ → Type 0) (a : Assumptions) : Type 0 where

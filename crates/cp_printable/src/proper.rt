@@ -7,7 +7,7 @@ ghost use Rattle.cp_sexpr.specs.Syntax.{Forms, forms_of};
 ghost use Rattle.cp_sexpr.specs.Reading.{IsReading};
 ghost use Rattle.cp_sexpr.specs.ReadBack.{all_unplaced, top_spellings, ReadsAs};
 ghost use Rattle.cp_language.specs.Problems.{Problem};
-ghost use Rattle.cp_language.specs.Input.{Entry, faults_of, input_of};
+ghost use Rattle.cp_language.specs.Input.{Entry, form_of, stated, faults_of, input_of};
 ghost use Rattle.cp_language.specs.Report.{HasItsVariables, tree_forms, report_forms};
 ghost use Rattle.cp_printable.specs.Proper.{IsStringText, IsSymbolText, IsProper, AreProper, AreWithinBounds};
 ghost use Rattle.cp_printable.specs.Spelled.{AreSpelledDeclarations, IsSpelledProblem, IsSpelledLabel};
@@ -26,8 +26,8 @@ pub fn proper_texts_say_their_forms()
 /// no fault, the roles, the variables and the skeletons of the problems that it states (`problems`).
 #[tactic(auto, using(crate::proofs::SpelledInput::form_is_proper, crate::proofs::SpelledInput::problem_is_spelled))]
 pub fn proper_input_is_spelled()
-    ensures forms { (fs : Forms) (e : Entry) → AreProper fs → IsIn e (input_of fs) → IsProper e.form }
-    ensures problems { (fs : Forms) (e : Entry) (p : Problem) → AreProper fs → faults_of fs ≡ [] → IsIn e (input_of fs) → e.problem ≡ Some p → IsSpelledProblem IsStringText IsSymbolText p }
+    ensures forms { (fs : Forms) (e : Entry) → AreProper fs → IsIn e (input_of fs) → IsProper (form_of e) }
+    ensures problems { (fs : Forms) (e : Entry) (p : Problem) → AreProper fs → faults_of fs ≡ [] → IsIn e (input_of fs) → stated e ≡ Some p → IsSpelledProblem IsStringText IsSymbolText p }
 {}
 
 /// What is printed is proper if what it is printed for is spelled properly: for a tree whose labels have their
@@ -36,5 +36,5 @@ pub fn proper_input_is_spelled()
 #[tactic(auto, using(crate::proofs::ProperTrees::tree_is_proper, crate::proofs::ProperReports::report_is_proper))]
 pub fn reports_are_proper()
     ensures tree { (p : Problem) (t : Tree) → AreSpelledDeclarations IsSymbolText p.variables → ((l : Label) → IsIn l t.labels → HasItsVariables p l) → ((l : Label) → IsIn l t.labels → IsSpelledLabel IsStringText IsSymbolText l) → AreProper (forms_of (tree_forms p t)) }
-    ensures report { (entries : List Entry) (trees : List Tree) → ((e : Entry) → IsIn e entries → IsProper e.form) → AllZip (λ (p : Problem) (t : Tree). AreProper (forms_of (tree_forms p t))) (filter_map (λ e. e.problem) entries) trees → AreProper (forms_of (report_forms entries trees)) }
+    ensures report { (entries : List Entry) (trees : List Tree) → ((e : Entry) → IsIn e entries → IsProper (form_of e)) → AllZip (λ (p : Problem) (t : Tree). AreProper (forms_of (tree_forms p t))) (filter_map stated entries) trees → AreProper (forms_of (report_forms entries trees)) }
 {}

@@ -1,10 +1,12 @@
 // The law that searches add no strings. It is the contract of a function that does nothing.
 ghost use Rattle.std.specs.Prelude.{ℕ, List};
 ghost use Rattle.cp_lists.specs.Lists.{IsIn};
-ghost use Rattle.cp_model.specs.Strand.{Declaration, Role, Protocol};
+ghost use Rattle.cp_model.specs.Strand.{Role, Protocol};
+ghost use Rattle.cp_model.specs.declared.variable.Declaration.{Declaration};
 ghost use Rattle.cp_model.specs.Skeleton.{Skeleton, IsSkeleton};
 ghost use Rattle.cp_model.specs.PointOfView.{IsPointOfView};
-ghost use Rattle.cp_model.specs.Tree.{Label, Tree, Limits};
+ghost use Rattle.cp_model.specs.Tree.{Label, Tree};
+ghost use Rattle.cp_model.specs.declared.tree.Limits.{Limits};
 ghost use Rattle.cp_strand.specs.Declares.{DeclaresItsVariables};
 ghost use Rattle.cp_tree.specs.Searched.{IsTreeOf};
 ghost use Rattle.cp_printable.specs.Spelled.{AreSpelledDeclarations, IsSpelledRole, IsSpelledSkeleton, IsSpelledLabel};

@@ -5,7 +5,8 @@ use Rattle.cp_base.specs.declared.place.Place.{Place}
 use Rattle.cp_lists.specs.Lists.{item_at, IsIn}
 use Rattle.cp_lists.proofs.Appended.{none_before, none_behind, none_of_three, none_of_four}
 use Rattle.cp_model.specs.Given.{given_non, given_penetrator_non, given_uniques}
-use Rattle.cp_model.specs.Strand.{Declaration, Role}
+use Rattle.cp_model.specs.Strand.{Role}
+use Rattle.cp_model.specs.declared.variable.Declaration.{Declaration}
 use Rattle.cp_model.specs.Problem.{variables_of_strands, variables_of_atoms, variables_of_uniques, variables_of_assumptions, variables_of_skeleton, variables_of_terms}
 use Rattle.cp_model.specs.Skeleton.{SkeletonStrand, IsSkeleton}
 use Rattle.cp_model.specs.Tree.{Label}

@@ -6,8 +6,9 @@ use Rattle.cp_base.specs.declared.place.Place.{Place}
 use Rattle.cp_lists.specs.Lists.{item_at, IsIn, here, there}
 use Rattle.cp_lists.proofs.Appended.{none_before, none_behind}
 use Rattle.cp_lists.proofs.Items.{at_place}
-use Rattle.cp_model.specs.Term.{Variable}
-use Rattle.cp_model.specs.Strand.{Declaration, Role, Protocol}
+use Rattle.cp_model.specs.declared.variable.Variable.{Variable}
+use Rattle.cp_model.specs.Strand.{Role, Protocol}
+use Rattle.cp_model.specs.declared.variable.Declaration.{Declaration}
 use Rattle.cp_model.specs.PointOfView.{IsPointOfView}
 use Rattle.cp_model.specs.Senders.{ArePaired}
 use Rattle.cp_model.specs.Tree.{Label, Tree}
@@ -69,8 +70,8 @@ tree_accepted p next behind e well few =
 trees_accepted : (first : Place) (above : List Protocol) (ss : List Section) → trees_misfits first above ss ≡ [] → ArePaired IsAccepted (problems_in (entries_from above (map (λ s. s.form) ss))) (trees_from above ss)
 trees_accepted first above [] e = tt
 trees_accepted first above (s ∷ ss) e =
-    by (stated_problem above (headed s.form)) (none_before (tree_misfits (stated_problem above (headed s.form)) (next_place first ss) s.behind) (trees_misfits first behind ss) e)
-    (trees_accepted first behind ss (none_behind (tree_misfits (stated_problem above (headed s.form)) (next_place first ss) s.behind) (trees_misfits first behind ss) e))
+    by (stated_problem above s.form) (none_before (tree_misfits (stated_problem above s.form) (next_place first ss) s.behind) (trees_misfits first behind ss) e)
+    (trees_accepted first behind ss (none_behind (tree_misfits (stated_problem above s.form) (next_place first ss) s.behind) (trees_misfits first behind ss) e))
   where
     behind : List Protocol
     behind = protocols_behind (headed s.form) above

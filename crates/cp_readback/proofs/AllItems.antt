@@ -7,7 +7,7 @@ use Rattle.cp_sexpr.specs.Syntax.{Form}
 use Rattle.cp_sexpr.specs.View.{view}
 use Rattle.cp_sexpr.specs.declared.form.Form as program
 use Rattle.cp_language.specs.Faults.{place_of}
-use Rattle.cp_model.specs.Strand.{Declaration}
+use Rattle.cp_model.specs.declared.variable.Declaration.{Declaration}
 use Rattle.cp_language.specs.Problems.{is_known, Problem}
 use Rattle.cp_report.specs.Misfits.{place_before, misfit_unless, unless_misfit, where_fitting, first_or, lacking, each_misfits, number_misfits}
 use Rattle.cp_report.specs.Heads.{forms_after_head, entries_or_none, item_with, optional_misfits, mark_heads, up_to_strands, lines_of_label, order_misfits}

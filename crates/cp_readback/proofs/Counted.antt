@@ -4,7 +4,9 @@ use Rattle.std.specs.Prelude.{Option, Some, None, codes, if◌then◌else◌, co
 use Rattle.std.proofs.lemmas.List.Recursion.{is_count_by}
 use Rattle.cp_base.specs.declared.place.Place.{Place}
 use Rattle.cp_model.specs.Skeleton.{Skeleton}
-use Rattle.cp_model.specs.Tree.{Mark, shape, dead, seen, instance_of, limit_steps, limit_strands, is_expanded, expanded_count, if_shape, shapes_of, Label}
+use Rattle.cp_model.specs.Tree.{is_expanded, expanded_count, if_shape, shapes_of, Label}
+use Rattle.cp_model.specs.declared.tree.Mark.{Mark}
+use Rattle.cp_model.specs.declared.tree.Mark.TheVariants.{Shape as shape, Dead as dead, Seen as seen, InstanceOf as instance_of, LimitSteps as limit_steps, LimitStrands as limit_strands}
 use Rattle.cp_sexpr.specs.Syntax.{Form}
 use Rattle.cp_sexpr.specs.View.{view}
 use Rattle.cp_sexpr.specs.declared.form.Form as program

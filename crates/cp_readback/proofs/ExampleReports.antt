@@ -6,10 +6,11 @@ use Rattle.cp_lists.specs.Lists.{IsIn, here}
 use Rattle.cp_lists.proofs.Members.{of_each}
 use Rattle.cp_model.specs.Term.{AtomTerm, name_variable, key_term, asymmetric_term, pubk_term, atom_term, apply_to_atom}
 use Rattle.cp_model.specs.Homomorphism.{substitution_by}
-use Rattle.cp_model.specs.Strand.{Declaration}
+use Rattle.cp_model.specs.declared.variable.Declaration.{Declaration}
 use Rattle.cp_model.specs.Senders.{ArePaired}
 use Rattle.cp_model.specs.Same.{same_text}
-use Rattle.cp_model.specs.Tree.{Label, complete}
+use Rattle.cp_model.specs.Tree.{Label}
+use Rattle.cp_model.specs.declared.tree.Outcome.TheVariants.{Complete as complete}
 use Rattle.cp_language.specs.Problems.{Problem}
 use Rattle.cp_report.specs.FittingTrees.{TreeFits, problems_in}
 use Rattle.cp_report.specs.ReadBack.{misfits, report_of}

@@ -5,8 +5,9 @@ use Rattle.std.proofs.lemmas.Bool.{and_parts}
 use Rattle.cp_base.specs.declared.place.Place.{Place}
 use Rattle.cp_lists.specs.Lists.{IsIn, here, there}
 use Rattle.cp_lists.proofs.Appended.{none_before, none_behind, some_behind}
-use Rattle.cp_model.specs.Term.{Sort, Variable}
-use Rattle.cp_model.specs.Strand.{Declaration}
+use Rattle.cp_model.specs.declared.sort.Sort.{Sort}
+use Rattle.cp_model.specs.declared.variable.Variable.{Variable}
+use Rattle.cp_model.specs.declared.variable.Declaration.{Declaration}
 use Rattle.cp_model.specs.Same.{same_text}
 use Rattle.cp_model.specs.Senders.{ArePaired}
 use Rattle.cp_model.specs.Skeleton.{SkeletonStrand}

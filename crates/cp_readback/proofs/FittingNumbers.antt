@@ -8,7 +8,9 @@ use Rattle.cp_lists.specs.Lists.{item_at, IsIn, here, there}
 use Rattle.cp_lists.proofs.Appended.{none_before, none_behind}
 use Rattle.cp_lists.proofs.Items.{map_of_item, at_place}
 use Rattle.cp_lists.proofs.Members.{at_head}
-use Rattle.cp_model.specs.Tree.{Label, Mark, shape, dead, seen, instance_of, limit_steps, limit_strands}
+use Rattle.cp_model.specs.Tree.{Label}
+use Rattle.cp_model.specs.declared.tree.Mark.{Mark}
+use Rattle.cp_model.specs.declared.tree.Mark.TheVariants.{Shape as shape, Dead as dead, Seen as seen, InstanceOf as instance_of, LimitSteps as limit_steps, LimitStrands as limit_strands}
 use Rattle.cp_model.specs.Same.{same_text}
 use Rattle.cp_sexpr.specs.Syntax.{Form, symbol, string, number, list}
 use Rattle.cp_language.specs.Words.{is_one_of}

@@ -6,7 +6,7 @@ use Rattle.cp_base.specs.declared.place.Place.{Place}
 use Rattle.cp_lists.specs.Lists.{item_at}
 use Rattle.cp_lists.proofs.Appended.{none_before, none_behind}
 use Rattle.cp_model.specs.Term.{Term}
-use Rattle.cp_model.specs.Strand.{Event}
+use Rattle.cp_model.specs.declared.strand.Event.{Event}
 use Rattle.cp_model.specs.Bundle.{node_at}
 use Rattle.cp_model.specs.Skeleton.{SkeletonStrand, term_event_at, IsNodeOf, Skeleton}
 use Rattle.cp_sexpr.specs.Syntax.{Form, symbol, string, number, list}
@@ -16,7 +16,9 @@ use Rattle.cp_language.specs.Problems.{Problem, is_known, number_of, name_in_fro
 use Rattle.cp_report.specs.Misfits.{misfit_unless, entries_misfits, symbol_misfits, any_number_misfits}
 use Rattle.cp_report.specs.Heads.{forms_after_head, entries_or_none, optional_misfits}
 use Rattle.cp_report.specs.Skeletons.{strand_number_misfits}
-use Rattle.cp_report.specs.Labels.{is_number, number_in_front, OperationWord, problem_word, collapsed_word, contracted_word, displaced_word, added_strand_word, added_listener_word, generalised_word, no_operation_word, operation_word, is_operation, makes_root, block_misfits, block_checks, operation_kinds, operation_misfits, index_misfits, operation_place_misfits, operation_by, parent_misfits, label_of}
+use Rattle.cp_report.specs.declared.operations.OperationWord.{OperationWord}
+use Rattle.cp_report.specs.declared.operations.OperationWord.TheVariants.{Problem as problem_word, Collapsed as collapsed_word, Contracted as contracted_word, Displaced as displaced_word, AddedStrand as added_strand_word, AddedListener as added_listener_word, Generalised as generalised_word, Unknown as no_operation_word}
+use Rattle.cp_report.specs.Labels.{is_number, number_in_front, operation_word, is_operation, makes_root, block_misfits, block_checks, operation_kinds, operation_misfits, index_misfits, operation_place_misfits, operation_by, parent_misfits, label_of}
 use Rattle.cp_report.specs.FittingTrees.{IsOperationOn, IsParentOf}
 use Rattle.cp_stated.proofs.NoMisfits.{none_of_unless, holds}
 use Rattle.cp_readback.proofs.FittingItems.{number_fits}

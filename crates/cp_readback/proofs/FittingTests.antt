@@ -6,7 +6,8 @@ use Rattle.cp_lists.specs.Lists.{IsIn}
 use Rattle.cp_lists.proofs.Appended.{none_before, none_behind, none_of_three}
 use Rattle.cp_lists.proofs.Members.{from_map}
 use Rattle.cp_model.specs.Term.{Term}
-use Rattle.cp_model.specs.Strand.{Event, Declaration}
+use Rattle.cp_model.specs.declared.strand.Event.{Event}
+use Rattle.cp_model.specs.declared.variable.Declaration.{Declaration}
 use Rattle.cp_model.specs.declared.node.Node.{Node}
 use Rattle.cp_model.specs.Pattern.{IsPattern}
 use Rattle.cp_model.specs.Skeleton.{SkeletonStrand, term_event_at, IsNodeOf, Skeleton}

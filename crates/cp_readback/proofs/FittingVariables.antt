@@ -7,8 +7,11 @@ use Rattle.cp_lists.specs.Lists.{item_at, IsIn, here, there}
 use Rattle.cp_lists.proofs.Appended.{none_before, none_behind, none_of_three}
 use Rattle.cp_lists.proofs.Items.{at_place, item_of_map}
 use Rattle.cp_lists.proofs.Members.{at_head}
-use Rattle.cp_model.specs.Term.{Sort, Variable, AtomTerm, Term, variables_of, variables_of_atom, atom_of_variable, apply_to_atom}
-use Rattle.cp_model.specs.Strand.{Declaration, Role, prefix_of, variables_of_trace, variables_of_prefix}
+use Rattle.cp_model.specs.Term.{apply_to, variable_term, AtomTerm, Term, variables_of, variables_of_atom}
+use Rattle.cp_model.specs.declared.sort.Sort.{Sort}
+use Rattle.cp_model.specs.declared.variable.Variable.{Variable}
+use Rattle.cp_model.specs.Strand.{Role, prefix_of, variables_of_trace, variables_of_prefix}
+use Rattle.cp_model.specs.declared.variable.Declaration.{Declaration}
 use Rattle.cp_model.specs.Homomorphism.{substitution_by}
 use Rattle.cp_model.specs.Problem.{IsDeclared, variables_of_strands, variables_of_atoms, variables_of_uniques, variables_of_terms}
 use Rattle.cp_model.specs.Same.{has_variable}
@@ -27,7 +30,7 @@ use Rattle.cp_language.proofs.Strands.{role_listed}
 use Rattle.cp_language.proofs.Terms.{AreDeclared, none_declared, both_declared, named_is_declared}
 use Rattle.cp_report.specs.Misfits.{misfit_unless, lacking, each_misfits, entries_misfits, list_misfits, symbol_misfits}
 use Rattle.cp_report.specs.Heads.{forms_after_head, entries_or_none, optional_misfits}
-use Rattle.cp_report.specs.Spelled.{Scope, plain_scope, Local, term_misfits, term_in, atom_misfits, atom_in, locals_in, locals_onto, clash_misfits, place_of_local, variables_of_locals, pattern_scope, pattern_misfits, pattern_of}
+use Rattle.cp_report.specs.Spelled.{Scope, plain_scope, term_misfits, term_in, atom_misfits, atom_in, locals_in, locals_onto, clash_misfits, place_of_local, variables_of_locals, pattern_scope, pattern_misfits, pattern_of}
 use Rattle.cp_report.specs.Skeletons.{node_misfits, height_misfits, declared_in_prefix, prefix_misfits, instance_misfits, states_instance, strand_misfits, instance_with, instance_of_entries, strand_of, term_or_tag, value_mapped, values_mapped, atoms_misfits, unique_of, unique_misfits, uniques_misfits, problem_variables, values_of_map}
 use Rattle.cp_report.specs.Labels.{test_misfits, test_of}
 use Rattle.cp_report.proofs.ApartIdentifiers.{apart_identifiers, apart_in_prefix}
@@ -80,7 +83,7 @@ module _ (ds : List Declaration) where
       prefix : List Variable
       prefix = variables_of_prefix role height
 
-      gives : (x : Variable) → IsIn x (variables_of_prefix role height) → (y : Variable) → IsIn y (variables_of_atom (apply_to_atom (substitution_by (values_mapped s maplets role.variables)) (atom_of_variable x))) → IsDeclared ds y
+      gives : (x : Variable) → IsIn x (variables_of_prefix role height) → (y : Variable) → IsIn y (variables_of (apply_to (substitution_by (values_mapped s maplets role.variables)) (variable_term x))) → IsDeclared ds y
       gives x m y i =
           let d = declared_there role.variables x (well.trace x (in_front_of_trace height role.trace x m)) in
           let z : 0 + x.number ≡ x.number = omega arith in
@@ -90,7 +93,7 @@ module _ (ds : List Declaration) where
           let wanted = declared_in_prefix prefix 0 role.variables in
           let v = mapping_values ds wanted (apart_in_prefix prefix 0 role.variables (apart_identifiers role.variables well.identifiers)) at maplets e d.0 (prefix_listed prefix 0 role.variables x.number d.0 d.1 there_it) in
           let taken = value_taken (values_mapped s maplets role.variables) x.sort x.number v.atom (value_at maplets role.variables x.number d.0 d.1 ∙ ap (λ (t : Term). Some t) v.is) (v.sort ∙ d.2) in
-          v.declared y (subst (λ (a : AtomTerm). IsIn y (variables_of_atom a)) taken i)
+          v.declared y (subst (λ (t : Term). IsIn y (variables_of t)) taken i)
 
   module _ (roles : List Role) (well : (role : Role) → IsIn role roles → IsWellFormedRole role) where
     -- An instance of a role that is found, if one is.
@@ -183,7 +186,7 @@ module _ (ds : List Declaration) where
   -- ---- patterns
 
   -- The local at a place is the variable at that place.
-  local_listed : (n : ℕ) (ls : List Local) (i : ℕ) (l : Local) → item_at ls i ≡ Some l → IsIn (record { sort = l.sort; number = n + i }) (variables_of_locals n ls)
+  local_listed : (n : ℕ) (ls : List Variable) (i : ℕ) (l : Variable) → item_at ls i ≡ Some l → IsIn (record { sort = l.sort; number = n + i }) (variables_of_locals n ls)
   local_listed n [] i l e = absurd (cc)
   local_listed n (k ∷ ls) zero l e = let same : l ≡ k = cc in let z : n + 0 ≡ n = omega arith in at_head (λ j. record { sort = (same j).sort; number = z j })
   local_listed n (k ∷ ls) (suc i) l e =

@@ -12,12 +12,13 @@ use Rattle.cp_sexpr.specs.View.{view}
 use Rattle.cp_language.specs.Faults.{place_of}
 use Rattle.cp_language.specs.Roles.{headed}
 use Rattle.cp_language.specs.Problems.{Problem}
-use Rattle.cp_language.specs.Input.{headed_top_faults, protocols_behind, faults_from, stated_problem, entries_from}
-use Rattle.cp_language.specs.StatedInput.{protocols_in}
+use Rattle.cp_language.specs.Input.{headed_top_faults, protocols_behind, faults_from, Entry, headed_entry, stated_problem}
 use Rattle.cp_roles.specs.Above.{turned}
 use Rattle.cp_scope.specs.FirstFault as faults
 use Rattle.cp_scope.proofs.Firsts as faults_met
-use Rattle.cp_load.proofs.TopForms.{behind-turned}
+use Rattle.cp_load.specs.UncheckedProblems.{unchecked_entry_view, stated_from}
+use Rattle.cp_load.specs.declared.unchecked_problems.UncheckedEntry.{UncheckedEntry}
+use Rattle.cp_load.proofs.TopForms.{behind-turned, unchecked-pushed, any-form}
 use Rattle.cp_report.specs.ReadBack.{Section, next_place, tree_misfits, trees_misfits, tree_of, tree_onto}
 use Rattle.cp_spelled.specs.FirstMisfit.{first_onto}
 use Rattle.cp_report.specs.Misfits.{place_before}
@@ -25,15 +26,6 @@ use Rattle.cp_scope.proofs.FirstOf.{first_onto-append}
 use Rattle.cp_readback.specs.Sections.{section_view}
 use Rattle.cp_readback.specs.declared.sections.Section as program
 use Rattle.cp_readback.specs.Reports.{forms_in, problem_at, trees_by}
-
--- For each form of the input the problem that it states, where these protocols stand above.
-abbrev pub problems_from : List Protocol → List Section → List (Option Problem)
-problems_from above [] = []
-problems_from above (s ∷ ss) = stated_problem above (headed s.form) ∷ problems_from (protocols_behind (headed s.form) above) ss
-
-problems-entered : (above : List Protocol) (ss : List Section) → problems_from above ss ≡ map (λ e. e.problem) (entries_from above (forms_in ss))
-problems-entered above [] = refl
-problems-entered above (s ∷ ss) = ap (λ ps. stated_problem above (headed s.form) ∷ ps) (problems-entered (protocols_behind (headed s.form) above) ss)
 
 module _ (ss : List program.Section) (k : ℕ) where
   abbrev rest : List Section
@@ -58,29 +50,26 @@ module _ (ss : List program.Section) (k : ℕ) where
           ∙ sym (faults_met.first_onto-append o own (faults_from after (forms_in rest)))
           ∙ sym (ap (λ ts. faults.first_onto o (faults_from (turned ps []) (forms_in ts))) section-read) ∙ i
 
-      pub misfits-taken : (first : Place) (x : Option Problem) (next : Place) (o p all : Option Place) → x ≡ stated_problem (turned ps []) (headed (view s.form.now)) → next ≡ next_place first rest
+      pub misfits-taken : (first : Place) (x : Option Problem) (next : Place) (o p all : Option Place) → x ≡ stated_problem (turned ps []) (view s.form.now) → next ≡ next_place first rest
           → p ≡ first_onto o (tree_misfits x next (map view s.behind.now))
           → first_onto o (trees_misfits first (turned ps []) (map section_view (drop k ss))) ≡ all → first_onto p (trees_misfits first (turned qs []) rest) ≡ all
-      misfits-taken first x next o p all stated is_next e i =
-          let own = tree_misfits (stated_problem (turned ps []) (headed (view s.form.now))) (next_place first rest) (map view s.behind.now) in
+      misfits-taken first x next o p all is_stated is_next e i =
+          let own = tree_misfits (stated_problem (turned ps []) (view s.form.now)) (next_place first rest) (map view s.behind.now) in
           ap (λ y. first_onto p (trees_misfits first y rest)) above-same
           ∙ ap (λ y. first_onto y (trees_misfits first after rest))
-          (e ∙ ap (λ y. first_onto o (tree_misfits y next (map view s.behind.now))) stated
-          ∙ ap (λ y. first_onto o (tree_misfits (stated_problem (turned ps []) (headed (view s.form.now))) y (map view s.behind.now))) is_next)
+          (e ∙ ap (λ y. first_onto o (tree_misfits y next (map view s.behind.now))) is_stated
+          ∙ ap (λ y. first_onto o (tree_misfits (stated_problem (turned ps []) (view s.form.now)) y (map view s.behind.now))) is_next)
           ∙ sym (first_onto-append place_before o own (trees_misfits first after rest))
           ∙ sym (ap (λ ts. first_onto o (trees_misfits first (turned ps []) ts)) section-read) ∙ i
 
-      pub problems-taken : (xs ys all : List (Option Problem)) (x : Option Problem) → x ≡ stated_problem (turned ps []) (headed (view s.form.now)) → ys ≡ xs ++ x ∷ []
-          → xs ++ problems_from (turned ps []) (map section_view (drop k ss)) ≡ all → ys ++ problems_from (turned qs []) rest ≡ all
-      problems-taken xs ys all x e g i =
-          ap (λ y. ys ++ problems_from y rest) above-same ∙ ap (λ zs. zs ++ problems_from after rest) g ∙ append_assoc xs (x ∷ []) (problems_from after rest)
-          ∙ ap (λ y. xs ++ y ∷ problems_from after rest) e
-          ∙ sym (ap (λ ts. xs ++ problems_from (turned ps []) ts) section-read) ∙ i
-
-      pub protocols-taken : (all : List Protocol) → ps ++ protocols_in (forms_in (map section_view (drop k ss))) ≡ all → qs ++ protocols_in (forms_in rest) ≡ all
-      protocols-taken all i =
-          ap (λ xs. xs ++ protocols_in (forms_in rest)) behind ∙ append_assoc ps (protocols_behind (headed (view s.form.now)) []) (protocols_in (forms_in rest))
-          ∙ sym (ap (λ ts. ps ++ protocols_in (forms_in ts)) section-read) ∙ i
+      pub entries-taken : (us vs : List UncheckedEntry) (u : UncheckedEntry) (all : List (Form → Entry)) → unchecked_entry_view u (view s.form.now) ≡ headed_entry (turned ps []) (headed (view s.form.now)) (view s.form.now) → vs ≡ us ++ u ∷ []
+          → map unchecked_entry_view us ++ stated_from (turned ps []) (forms_in (map section_view (drop k ss))) ≡ all → map unchecked_entry_view vs ++ stated_from (turned qs []) (forms_in rest) ≡ all
+      entries-taken us vs u all e g i =
+          let xs = map unchecked_entry_view us in
+          ap (λ y. map unchecked_entry_view vs ++ stated_from y (forms_in rest)) above-same ∙ ap (λ zs. zs ++ stated_from after (forms_in rest)) (unchecked-pushed us vs u g)
+          ∙ append_assoc xs (unchecked_entry_view u ∷ []) (stated_from after (forms_in rest))
+          ∙ ap (λ y. xs ++ y ∷ stated_from after (forms_in rest)) (any-form (turned ps []) (headed (view s.form.now)) u (view s.form.now) e)
+          ∙ sym (ap (λ ts. xs ++ stated_from (turned ps []) (forms_in ts)) section-read) ∙ i
 
     pub form-taken : (fs gs all : List Form) → gs ≡ fs ++ view s.form.now ∷ [] → fs ++ forms_in (map section_view (drop k ss)) ≡ all → gs ++ forms_in rest ≡ all
     form-taken fs gs all g i =
@@ -117,12 +106,10 @@ module _ (ss : List program.Section) (k : ℕ) where
     pub misfits-done : (first : Place) (above : List Protocol) (o all : Option Place) → first_onto o (trees_misfits first above (map section_view (drop k ss))) ≡ all → o ≡ all
     misfits-done first above o all i = sym (ap (λ ts. first_onto o (trees_misfits first above ts)) none-left) ∙ i
 
-    pub problems-done : (above : List Protocol) (xs : List (Option Problem)) → xs ++ problems_from above (map section_view (drop k ss)) ≡ problems_from [] (map section_view ss)
-        → xs ≡ map (λ e. e.problem) (entries_from [] (forms_in (map section_view ss)))
-    problems-done above xs i = sym (append-nil xs) ∙ sym (ap (λ ts. xs ++ problems_from above ts) none-left) ∙ i ∙ problems-entered [] (map section_view ss)
-
-    pub protocols-done : (ps all : List Protocol) → ps ++ protocols_in (forms_in (map section_view (drop k ss))) ≡ all → ps ≡ all
-    protocols-done ps all i = sym (append-nil ps) ∙ sym (ap (λ ts. ps ++ protocols_in (forms_in ts)) none-left) ∙ i
+    pub entries-done : (above : List Protocol) (us : List UncheckedEntry) (all : List (Form → Entry)) → map unchecked_entry_view us ++ stated_from above (forms_in (map section_view (drop k ss))) ≡ all → map unchecked_entry_view us ≡ all
+    entries-done above us all i =
+        let xs = map unchecked_entry_view us in
+        sym (append-nil xs) ∙ sym (ap (λ ts. xs ++ stated_from above (forms_in ts)) none-left) ∙ i
 
     pub forms-done : (fs all : List Form) → fs ++ forms_in (map section_view (drop k ss)) ≡ all → fs ≡ all
     forms-done fs all i = sym (append-nil fs) ∙ sym (ap (λ ts. fs ++ forms_in ts) none-left) ∙ i

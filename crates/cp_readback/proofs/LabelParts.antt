@@ -1,22 +1,21 @@
 -- What a label form denotes, part by part.
 use Rattle.std.proofs.Common.{◌≡◌, List, [], ◌∷◌, false, drop, map, ap, ◌∙◌}
 use Rattle.std.specs.Prelude.{Some, codes}
-use Rattle.cp_model.specs.Strand.{Declaration}
+use Rattle.cp_model.specs.declared.variable.Declaration.{Declaration}
 use Rattle.cp_model.specs.Tree.{Label}
+use Rattle.cp_model.specs.declared.variable.Variable.{Variable}
 use Rattle.cp_sexpr.specs.Syntax.{Form}
 use Rattle.cp_language.specs.Problems.{option_node, number_of, Problem}
 use Rattle.cp_report.specs.Heads.{entries_under, item_with, mark_heads}
 use Rattle.cp_report.specs.Spelled.{Scope, pattern_of}
 use Rattle.cp_report.specs.Skeletons.{declarations_of_label, scope_of, node_or_first, skeleton_stated}
 use Rattle.cp_report.specs.Labels.{number_in_front, operation_by, word_of_label, test_of, label_by}
-use Rattle.cp_spelled.specs.LocalViews.{local_view}
-use Rattle.cp_spelled.specs.declared.locals.Local.{Local}
 use Rattle.cp_readback.specs.Parts.{mark_of_item}
 
 -- The scope of the variables that items declare, without locals.
-pub scope-is : (items : List Form) (ds : List Declaration) (ls : List Local) → ds ≡ declarations_of_label items → ls ≡ []
-    → (let s : Scope = record { variables = ds; in_pattern = false; locals = map local_view ls } in s) ≡ scope_of items
-scope-is items ds ls declared none = λ i. record { variables = declared i; in_pattern = false; locals = map local_view (none i) }
+pub scope-is : (items : List Form) (ds : List Declaration) (ls : List Variable) → ds ≡ declarations_of_label items → ls ≡ []
+    → (let s : Scope = record { variables = ds; in_pattern = false; locals = ls } in s) ≡ scope_of items
+scope-is items ds ls declared none = λ i. record { variables = declared i; in_pattern = false; locals = none i }
 
 -- A label with the parts that items state is the label that they denote.
 pub label-is : (p : Problem) (items all : List Form) (l : Label) → items ≡ all

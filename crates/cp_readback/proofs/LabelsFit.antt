@@ -4,7 +4,8 @@ use Rattle.std.specs.Prelude.{Option, Some}
 use Rattle.cp_base.specs.declared.place.Place.{Place}
 use Rattle.cp_lists.specs.Lists.{IsIn, here, there}
 use Rattle.cp_lists.proofs.Appended.{none_in_both}
-use Rattle.cp_model.specs.Tree.{Outcome, Label, Tree}
+use Rattle.cp_model.specs.Tree.{Label, Tree}
+use Rattle.cp_model.specs.declared.tree.Outcome.{Outcome}
 use Rattle.cp_sexpr.specs.Syntax.{Form}
 use Rattle.cp_language.specs.Faults.{place_of}
 use Rattle.cp_language.specs.Problems.{Problem}

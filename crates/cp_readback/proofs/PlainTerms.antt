@@ -4,17 +4,24 @@ use Rattle.std.specs.Prelude.{Option, Some, None, codes}
 use Rattle.std.proofs.lemmas.Bool.{or_cases}
 use Rattle.cp_base.specs.declared.place.Place.{Place}
 use Rattle.cp_lists.proofs.Appended.{none_before, none_behind, none_of_three, none_of_four, some_behind}
-use Rattle.cp_model.specs.Term.{Sort, text_sort, datum_sort, name_sort, skey_sort, akey_sort, Variable, atom_of_variable, ltk_term, pubk_term, symmetric_term, asymmetric_term, inverse_term, AtomTerm, text_variable, datum_variable, name_variable, key_term, Term, tag_term, atom_term, enc_term, variables_of_key, variables_of_atom, variables_of}
-use Rattle.cp_model.specs.Strand.{Declaration}
+use Rattle.cp_model.specs.Term.{variable_term, ltk_term, pubk_term, symmetric_term, asymmetric_term, inverse_term, AtomTerm, text_variable, datum_variable, name_variable, key_term, Term, tag_term, atom_term, enc_term, variables_of_key, variables_of_atom, variables_of}
+use Rattle.cp_model.specs.declared.sort.Sort.{Sort}
+use Rattle.cp_model.specs.declared.sort.Sort.TheVariants.{Text as text_sort, Datum as datum_sort, Name as name_sort, Skey as skey_sort, Akey as akey_sort}
+use Rattle.cp_model.specs.declared.variable.Variable.{Variable}
+use Rattle.cp_model.specs.declared.variable.Declaration.{Declaration}
 use Rattle.cp_model.specs.Problem.{IsDeclared}
 use Rattle.cp_model.specs.Same.{same_text}
 use Rattle.cp_model.proofs.SameTests.{sort_is}
 use Rattle.cp_sexpr.specs.Syntax.{Form, symbol, string, number, list, Forms, none, more}
-use Rattle.cp_language.specs.Words.{TermHead, cat, encrypt, long_term_key, public_key, private_key, inverse_key, operation_out_of_profile, no_operation, term_head}
+use Rattle.cp_language.specs.declared.words.TermHead.{TermHead}
+use Rattle.cp_language.specs.declared.words.TermHead.TheVariants.{Cat as cat, Enc as encrypt, Ltk as long_term_key, Pubk as public_key, Privk as private_key, Invk as inverse_key, OutOfProfile as operation_out_of_profile, Unknown as no_operation}
+use Rattle.cp_language.specs.Words.{term_head}
 use Rattle.cp_language.specs.Faults.{place_of, items_of}
 use Rattle.cp_language.specs.Roles.{front_of, last_form}
 use Rattle.cp_language.specs.Problems.{is_known}
-use Rattle.cp_language.specs.Terms.{variable_named, TermSort, of_atoms, of_all, sort_of_variable, is_sort, admits_atom, term_of_variable, paired, all_but_last, last_of, as_key, as_name, as_atom, key_as_term, long_term, inverted, key_of_name, applied}
+use Rattle.cp_language.specs.declared.sorts.TermSort.{TermSort}
+use Rattle.cp_language.specs.declared.sorts.TermSort.TheVariants.{Atoms as of_atoms, All as of_all}
+use Rattle.cp_language.specs.Terms.{variable_named, sort_of_variable, is_sort, admits_atom, term_of_variable, paired, all_but_last, last_of, as_key, as_name, as_atom, key_as_term, long_term, inverted, key_of_name, applied}
 use Rattle.cp_report.specs.Misfits.{misfit, misfit_unless, unless_misfit, lacking, all_misfits}
 use Rattle.cp_report.specs.Spelled.{Scope, plain_scope, local_by, variable_of_local, is_found_of_sort, sort_of_head, known_or, sort_in, sort_misfits, atom_misfits, atom_in, variable_misfits, variables_misfits, name_misfits, spread_misfits, last_key_misfits, local_misfits, applied_misfits, term_misfits, each_term_misfits, term_in, terms_in}
 use Rattle.cp_report.specs.FittingTrees.{sort_of_atom}
@@ -40,7 +47,7 @@ module _ (ds : List Declaration) where
     variable : Variable
     declared : IsDeclared ds variable
     sort : variable.sort ≡ r
-    term : term_in s f ≡ atom_term (atom_of_variable variable)
+    term : term_in s f ≡ variable_term variable
 
   -- An identifier that names a variable of the sort.
   named_variable : (r : Sort) (t : List ℕ) (o : Option Variable) → variable_named ds t ≡ o → is_found_of_sort r o ≡ true → (x : Variable) × (o ≡ Some x) × (r ≡ x.sort) × IsDeclared ds x
@@ -71,9 +78,9 @@ module _ (ds : List Declaration) where
       let x = variable_fits name_sort f e in
       subst (λ (t : Term). IsDeclared ds (record { sort = name_sort; number = as_name t })) (sym x.term) (by x.variable x.sort x.declared)
     where
-      by : (x : Variable) → x.sort ≡ name_sort → IsDeclared ds x → IsDeclared ds (record { sort = name_sort; number = as_name (atom_term (atom_of_variable x)) })
+      by : (x : Variable) → x.sort ≡ name_sort → IsDeclared ds x → IsDeclared ds (record { sort = name_sort; number = as_name (variable_term x) })
       by x h d =
-          subst (λ (r : Sort). IsDeclared ds (record { sort = r; number = x.number }) → IsDeclared ds (record { sort = name_sort; number = as_name (atom_term (atom_of_variable (record { sort = r; number = x.number }))) }))
+          subst (λ (r : Sort). IsDeclared ds (record { sort = r; number = x.number }) → IsDeclared ds (record { sort = name_sort; number = as_name (variable_term (record { sort = r; number = x.number })) }))
           (sym h) (λ q. q) d
 
   -- ---- terms that are put together
@@ -159,12 +166,12 @@ module _ (ds : List Declaration) where
       let x = variable_fits akey_sort f (none_before (variable_misfits s akey_sort f) [] e) in
       subst (λ (t : Term). IsSound ds (Some (of_atoms akey_sort)) (key_as_term (inverse_term (as_key t)))) (sym x.term) (by x.variable x.sort x.declared)
     where
-      at_sort : (n : ℕ) → IsDeclared ds (record { sort = akey_sort; number = n }) → IsSound ds (Some (of_atoms akey_sort)) (key_as_term (inverse_term (as_key (atom_term (atom_of_variable (record { sort = akey_sort; number = n }))))))
-      at_sort n d = atom_sound akey_sort (key_as_term (inverse_term (as_key (atom_term (atom_of_variable (record { sort = akey_sort; number = n })))))) (one_declared ds (record { sort = akey_sort; number = n }) d) (true, _, refl)
+      at_sort : (n : ℕ) → IsDeclared ds (record { sort = akey_sort; number = n }) → IsSound ds (Some (of_atoms akey_sort)) (key_as_term (inverse_term (as_key (variable_term (record { sort = akey_sort; number = n })))))
+      at_sort n d = atom_sound akey_sort (key_as_term (inverse_term (as_key (variable_term (record { sort = akey_sort; number = n }))))) (one_declared ds (record { sort = akey_sort; number = n }) d) (true, _, refl)
 
-      by : (x : Variable) → x.sort ≡ akey_sort → IsDeclared ds x → IsSound ds (Some (of_atoms akey_sort)) (key_as_term (inverse_term (as_key (atom_term (atom_of_variable x)))))
+      by : (x : Variable) → x.sort ≡ akey_sort → IsDeclared ds x → IsSound ds (Some (of_atoms akey_sort)) (key_as_term (inverse_term (as_key (variable_term x))))
       by x h d =
-          subst (λ (r : Sort). IsDeclared ds (record { sort = r; number = x.number }) → IsSound ds (Some (of_atoms akey_sort)) (key_as_term (inverse_term (as_key (atom_term (atom_of_variable (record { sort = r; number = x.number })))))))
+          subst (λ (r : Sort). IsDeclared ds (record { sort = r; number = x.number }) → IsSound ds (Some (of_atoms akey_sort)) (key_as_term (inverse_term (as_key (variable_term (record { sort = r; number = x.number }))))))
           (sym h) (at_sort x.number) d
   inverse_sound at (more f (more g gs)) e = absurd (some_behind (variable_misfits s akey_sort f) (place_of g) e)
 
@@ -203,7 +210,7 @@ module _ (ds : List Declaration) where
   -- A declared identifier.
   symbol_sound : (at : Place) (t : List ℕ) (o : Option Variable) → variable_named ds t ≡ o → misfit_unless (is_known o) at ≡ [] → IsSound ds (known_or (sort_of_variable o) None) (term_of_variable o)
   symbol_sound at t None q e = absurd (cc)
-  symbol_sound at t (Some x) q e = atom_sound x.sort (atom_term (atom_of_variable x)) (variable_declared ds x (named_is_declared ds t x q)) (variable_of_sort x)
+  symbol_sound at t (Some x) q e = atom_sound x.sort (variable_term x) (variable_declared ds x (named_is_declared ds t x q)) (variable_of_sort x)
 
   -- A list with a head; outside patterns `any` is a head like others.
   list_sound : (b : Bool) (at : Place) (head : TermHead) (fs : Forms) (inside : List Place) (o : Option Variable) (t : Term) → AreSound fs

@@ -1,6 +1,7 @@
 -- The answer of reading back, from what its parts say.
-use Rattle.std.proofs.Common.{◌≡◌, ℕ, zero, suc, List, [], ◌∷◌, ◌++◌, length, map, refl, sym, ap, ◌∙◌, subst}
+use Rattle.std.proofs.Common.{◌≡◌, ℕ, zero, suc, List, [], ◌∷◌, ◌++◌, length, get_or, drop, map, refl, sym, ap, ap₂, ◌∙◌, subst}
 use Rattle.std.specs.Prelude.{Option, Some, None, option_map, Ok, Err}
+use Rattle.std.specs.List.{filter_map}
 use Rattle.std.proofs.lemmas.List.{length-map}
 use Rattle.cp_lists.specs.Lists.{item_at}
 use Rattle.cp_lists.proofs.Appended.{none_in_both}
@@ -13,15 +14,18 @@ use Rattle.cp_sexpr.specs.View.{view, views}
 use Rattle.cp_sexpr.specs.declared.form.Form as program
 use Rattle.cp_language.specs.Roles.{headed}
 use Rattle.cp_language.specs.Problems.{Problem}
-use Rattle.cp_language.specs.Input.{stated_problem, protocols_behind, faults_from, faults_of, Entry, entries_from, input_of}
+use Rattle.cp_language.specs.Input.{stated_problem, protocols_behind, faults_from, faults_of, Entry, stated, stated_protocol, headed_entry, entries_from, input_of}
+use Rattle.cp_language.specs.StatedInput.{protocols_in}
+use Rattle.cp_language.proofs.Entries.{protocols_entered}
 use Rattle.cp_scope.specs.FirstFault as faults
 use Rattle.cp_scope.proofs.Views.{items_of-forms_of}
-use Rattle.cp_load.specs.UncheckedProblems.{unchecked_view, HaveSoundSkeletons}
-use Rattle.cp_load.specs.Inputs.{problem_view, entries_view}
-use Rattle.cp_load.specs.declared.unchecked_problems.UncheckedProblem.{UncheckedProblem}
-use Rattle.cp_load.specs.declared.input.Problem as loaded
+use Rattle.cp_load.specs.UncheckedProblems.{unchecked_view, unchecked_problem, unchecked_entry_view, stated_from, HaveSoundSkeletons}
+use Rattle.cp_load.specs.Inputs.{entry_view, entries_view}
+use Rattle.cp_load.specs.declared.unchecked_problems.UncheckedEntry.{UncheckedEntry}
+use Rattle.cp_load.specs.declared.input.Entry as loaded
+use Rattle.cp_load.proofs.Entries.{unchecked_viewed}
 use Rattle.cp_load.proofs.SoundUnchecked.{unchecked_sound}
-use Rattle.cp_load.proofs.TopForms.{entries-finished}
+use Rattle.cp_load.proofs.TopForms.{stated-length, entries-finished}
 use Rattle.cp_report.specs.ReadBack.{Section, Sections, sections_of, input_forms, fault_places, first_place, next_place, places_of, tree_misfits, trees_misfits, tree_onto, trees_from, misfits, report_of, IsReadBack}
 use Rattle.cp_spelled.specs.FirstMisfit.{first_onto, merged}
 use Rattle.cp_report.specs.Misfits.{place_before}
@@ -43,37 +47,46 @@ forms-same : (ss : List of_program.Section) → map view (map (λ s. s.form.now)
 forms-same [] = refl
 forms-same (s ∷ ss) = ap (λ fs. view s.form.now ∷ fs) (forms-same ss)
 
-pub sound-unchecked_problems : (ss : List of_program.Section) (ds : List (Option UncheckedProblem)) → faults_from [] (forms_in (map section_view ss)) ≡ [] → all_unchecked_view ds ≡ problems_stated (map section_view ss) → HaveSoundSkeletons ds
-sound-unchecked_problems ss ds none same =
+pub sound-unchecked_problems : (ss : List of_program.Section) (us : List UncheckedEntry) → faults_from [] (forms_in (map section_view ss)) ≡ [] → map unchecked_entry_view us ≡ stated_from [] (forms_in (map section_view ss)) → HaveSoundSkeletons us
+sound-unchecked_problems ss us none same =
     let fs = map (λ s. s.form.now) ss in
-    unchecked_sound fs ds (ap (faults_from []) (items_of-forms_of (map view fs)) ∙ ap (faults_from []) (forms-same ss) ∙ none)
-    (same ∙ ap (λ gs. map (λ e. e.problem) (entries_from [] gs)) (sym (forms-same ss)))
+    unchecked_sound fs us (ap (faults_from []) (items_of-forms_of (map view fs)) ∙ ap (faults_from []) (forms-same ss) ∙ none)
+    (same ∙ ap (stated_from []) (sym (forms-same ss)))
 
-pub unchecked-read : (ds : List (Option UncheckedProblem)) (n : ℕ) (d : Option UncheckedProblem) → Some d ≡ item_at ds n → option_map unchecked_view d ≡ problem_at (all_unchecked_view ds) n
-unchecked-read [] n d e = absurd (cc)
-unchecked-read (x ∷ ds) zero d e = let is : d ≡ x = cc in ap (option_map unchecked_view) is
-unchecked-read (x ∷ ds) (suc n) d e = unchecked-read ds n d e
+pub unchecked-read : (us : List UncheckedEntry) (n : ℕ) (u : UncheckedEntry) → Some u ≡ item_at us n → option_map unchecked_view (unchecked_problem u) ≡ problem_at (all_unchecked_view us) n
+unchecked-read [] n u e = absurd (cc)
+unchecked-read (x ∷ us) zero u e = let is : u ≡ x = cc in ap (λ v. option_map unchecked_view (unchecked_problem v)) is
+unchecked-read (x ∷ us) (suc n) u e = unchecked-read us n u e
 
-pub unchecked-none : (ds : List (Option UncheckedProblem)) (n : ℕ) → None ≡ item_at ds n → None ≡ problem_at (all_unchecked_view ds) n
+pub unchecked-none : (us : List UncheckedEntry) (n : ℕ) → None ≡ item_at us n → None ≡ problem_at (all_unchecked_view us) n
 unchecked-none [] n e = refl
-unchecked-none (x ∷ ds) zero e = absurd (cc)
-unchecked-none (x ∷ ds) (suc n) e = unchecked-none ds n e
+unchecked-none (x ∷ us) zero e = absurd (cc)
+unchecked-none (x ∷ us) (suc n) e = unchecked-none us n e
+
+pub problems-listed : (above : List Protocol) (us : List UncheckedEntry) (fs : List Form) → map unchecked_entry_view us ≡ stated_from above fs → all_unchecked_view us ≡ map stated (entries_from above fs)
+problems-listed above [] [] e = refl
+problems-listed above [] (f ∷ fs) e = absurd (cc)
+problems-listed above (u ∷ us) [] e = absurd (cc)
+problems-listed above (u ∷ us) (f ∷ fs) e =
+    let first : unchecked_entry_view u ≡ headed_entry above (headed f) = ap (λ (hs : List (Form → Entry)). get_or hs 0 (unchecked_entry_view u)) e in
+    let rest : map unchecked_entry_view us ≡ stated_from (protocols_behind (headed f) above) fs = ap (drop 1) e in
+    ap₂ (λ (o : Option Problem) (os : List (Option Problem)). o ∷ os) (sym (unchecked_viewed u f) ∙ ap (λ (h : Form → Entry). stated (h f)) first) (problems-listed (protocols_behind (headed f) above) us fs rest)
 
 -- ---- the trees behind them
 
-have-trees : (first : Place) (above : List Protocol) (ss : List Section) → trees_misfits first above ss ≡ [] → AreFollowedByTrees (map (λ e. e.problem) (entries_from above (forms_in ss))) ss
+have-trees : (first : Place) (above : List Protocol) (ss : List Section) → trees_misfits first above ss ≡ [] → AreFollowedByTrees (map stated (entries_from above (forms_in ss))) ss
 have-trees first above [] e n p s g h = absurd (cc)
 have-trees first above (t ∷ ss) e zero p s g h =
     let is : t ≡ s = cc in
-    let fits = (none_in_both (tree_misfits (stated_problem above (headed t.form)) (next_place first ss) t.behind) (trees_misfits first (protocols_behind (headed t.form) above) ss) e).0 in
+    let fits = (none_in_both (tree_misfits (stated_problem above t.form) (next_place first ss) t.behind) (trees_misfits first (protocols_behind (headed t.form) above) ss) e).0 in
     (next_place first ss, subst (λ u. tree_misfits (Some p) (next_place first ss) u.behind ≡ []) is (sym (ap (λ o. tree_misfits o (next_place first ss) t.behind) g) ∙ fits))
 have-trees first above (t ∷ ss) e (suc n) p s g h =
     have-trees first (protocols_behind (headed t.form) above) ss
-    (none_in_both (tree_misfits (stated_problem above (headed t.form)) (next_place first ss) t.behind) (trees_misfits first (protocols_behind (headed t.form) above) ss) e).1 n p s g h
+    (none_in_both (tree_misfits (stated_problem above t.form) (next_place first ss) t.behind) (trees_misfits first (protocols_behind (headed t.form) above) ss) e).1 n p s g h
 
-trees-same : (above : List Protocol) (ss : List Section) → trees_by (map (λ e. e.problem) (entries_from above (forms_in ss))) ss ≡ trees_from above ss
+trees-same : (above : List Protocol) (ss : List Section) → trees_by (map stated (entries_from above (forms_in ss))) ss ≡ trees_from above ss
 trees-same above [] = refl
-trees-same above (s ∷ ss) = ap (tree_onto (stated_problem above (headed s.form)) s.behind) (trees-same (protocols_behind (headed s.form) above) ss)
+trees-same above (s ∷ ss) = ap (tree_onto (stated_problem above s.form) s.behind) (trees-same (protocols_behind (headed s.form) above) ss)
 
 -- ---- all forms
 
@@ -120,10 +133,10 @@ module _ (fs : List program.Form) (o : Option Place) (found : o ≡ first_onto N
   input-fits = no_faults (faults_from [] (forms_in sections)) (none_in_both (fault_places (faults_from [] (forms_in sections))) (places_of (sections_of (map view fs)).front) none-here.0).0
 
   pub trees-fit : (os : List (Option Problem)) (ss : List Section) → os ≡ problems_stated sections → ss ≡ sections → AreFollowedByTrees os ss
-  trees-fit os ss stated are = subst (λ ts. AreFollowedByTrees os ts) (sym are) (subst (λ qs. AreFollowedByTrees qs sections) (sym stated) (have-trees (first_place (map view fs)) [] sections none-here.1))
+  trees-fit os ss listed are = subst (λ ts. AreFollowedByTrees os ts) (sym are) (subst (λ qs. AreFollowedByTrees qs sections) (sym listed) (have-trees (first_place (map view fs)) [] sections none-here.1))
 
-  pub unchecked_problems-fit : (ss : List of_program.Section) (ds : List (Option UncheckedProblem)) → map section_view ss ≡ sections → all_unchecked_view ds ≡ problems_stated sections → HaveSoundSkeletons ds
-  unchecked_problems-fit ss ds are stated = sound-unchecked_problems ss ds (ap (λ ts. faults_from [] (forms_in ts)) are ∙ input-fits) (stated ∙ ap problems_stated (sym are))
+  pub unchecked_problems-fit : (ss : List of_program.Section) (us : List UncheckedEntry) → map section_view ss ≡ sections → map unchecked_entry_view us ≡ stated_from [] (forms_in sections) → HaveSoundSkeletons us
+  unchecked_problems-fit ss us are listed = sound-unchecked_problems ss us (ap (λ ts. faults_from [] (forms_in ts)) are ∙ input-fits) (listed ∙ ap (λ ts. stated_from [] (forms_in ts)) (sym are))
 
   pub report-read : (entries : List Entry) (trees : List Tree) → entries ≡ entries_from [] (forms_in sections) → trees ≡ trees_from [] sections
       → IsReadBack (views fs) (Ok (record { entries = entries; trees = trees }))
@@ -136,17 +149,16 @@ module _ (fs : List program.Form) (o : Option Place) (found : o ≡ first_onto N
 
 -- the trees of the problems of the input
 pub trees-are : (ss : List Section) (os : List (Option Problem)) (read : List Section) (trees : List Tree) → os ≡ problems_stated ss → read ≡ ss → trees ≡ trees_by os read → trees ≡ trees_from [] ss
-trees-are ss os read trees stated are made = made ∙ ap (λ qs. trees_by qs read) stated ∙ ap (trees_by (problems_stated ss)) are ∙ trees-same [] ss
+trees-are ss os read trees listed are made = made ∙ ap (λ qs. trees_by qs read) listed ∙ ap (trees_by (problems_stated ss)) are ∙ trees-same [] ss
 
--- ---- the forms of the report, with their problems
+-- ---- the forms of the report, with what they state
 
-entries-length : (above : List Protocol) (fs : List Form) → length (map (λ e. e.problem) (entries_from above fs)) ≡ length fs
-entries-length above [] = refl
-entries-length above (f ∷ fs) = ap suc (entries-length (protocols_behind (headed f) above) fs)
+module _ (fs gs : List Form) (us : List UncheckedEntry) (es : List loaded.Entry) (are : gs ≡ fs) (listed : map unchecked_entry_view us ≡ stated_from [] fs) (finished : map entry_view es ≡ map unchecked_entry_view us) where
+  pub entries-are : entries_view gs es ≡ entries_from [] fs
+  entries-are = ap (λ hs. entries_view hs es) are ∙ entries-finished us es finished fs listed
 
-module _ (fs gs : List Form) (ds : List (Option UncheckedProblem)) (ps : List (Option loaded.Problem)) (are : gs ≡ fs) (stated : all_unchecked_view ds ≡ map (λ e. e.problem) (entries_from [] fs)) (finished : map (option_map problem_view) ps ≡ all_unchecked_view ds) where
-  pub entries-are : entries_view gs ps ≡ entries_from [] fs
-  entries-are = ap (λ hs. entries_view hs ps) are ∙ entries-finished ds ps finished fs stated
+  pub protocols-are : filter_map stated_protocol (entries_view gs es) ≡ protocols_in gs
+  protocols-are = ap (filter_map stated_protocol) entries-are ∙ protocols_entered [] fs ∙ ap protocols_in (sym are)
 
-  pub as-many : length ps ≡ length gs
-  as-many = sym (length-map ps (option_map problem_view)) ∙ ap length (finished ∙ stated) ∙ entries-length [] fs ∙ sym (ap length are)
+  pub as-many : length es ≡ length gs
+  as-many = sym (length-map es entry_view) ∙ ap length (finished ∙ listed) ∙ stated-length [] fs ∙ sym (ap length are)

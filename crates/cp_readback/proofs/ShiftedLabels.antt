@@ -6,12 +6,19 @@ use Rattle.cp_lists.specs.Lists.{item_at, IsIn}
 use Rattle.cp_lists.proofs.Items.{map_of_item, item_behind}
 use Rattle.cp_lists.proofs.Members.{in_append, in_append_left, in_append_right, into_map, from_map}
 use Rattle.cp_model.specs.Senders.{ArePaired}
-use Rattle.cp_model.specs.Term.{Variable, AtomTerm, Term, variables_of, variables_of_atom, apply_to, apply_to_atom, apply_to_key}
-use Rattle.cp_model.specs.Strand.{Declaration, Event, variables_of_trace}
+use Rattle.cp_model.specs.Term.{AtomTerm, Term, variables_of, variables_of_atom, apply_to, apply_to_atom, apply_to_key}
+use Rattle.cp_model.specs.declared.variable.Variable.{Variable}
+use Rattle.cp_model.specs.Strand.{variables_of_trace}
+use Rattle.cp_model.specs.declared.variable.Declaration.{Declaration}
+use Rattle.cp_model.specs.declared.strand.Event.{Event}
 use Rattle.cp_model.specs.Pattern.{IsPattern}
 use Rattle.cp_model.specs.Problem.{declared_sort, IsDeclared, variables_of_strands, variables_of_atoms, variables_of_uniques, variables_of_assumptions, variables_of_skeleton, variables_of_terms}
 use Rattle.cp_model.specs.Skeleton.{SkeletonStrand, skeleton_trace, UniqueAt, Skeleton}
-use Rattle.cp_model.specs.Tree.{Operation, by_problem, by_collapse, by_contraction, by_displacement, by_added_strand, by_added_listener, by_generalising, Mark, shape, dead, seen, instance_of, limit_steps, limit_strands, Pattern, Test, Label}
+use Rattle.cp_model.specs.Tree.{Pattern, Test, Label}
+use Rattle.cp_model.specs.declared.tree.Operation.{Operation}
+use Rattle.cp_model.specs.declared.tree.Operation.TheVariants.{Problem as by_problem, Collapsed as by_collapse, Contracted as by_contraction, Displaced as by_displacement, AddedStrand as by_added_strand, AddedListener as by_added_listener, Generalised as by_generalising}
+use Rattle.cp_model.specs.declared.tree.Mark.{Mark}
+use Rattle.cp_model.specs.declared.tree.Mark.TheVariants.{Shape as shape, Dead as dead, Seen as seen, InstanceOf as instance_of, LimitSteps as limit_steps, LimitStrands as limit_strands}
 use Rattle.cp_model.proofs.UnderVariables.{of_trace}
 use Rattle.cp_language.specs.Problems.{Problem}
 use Rattle.cp_language.specs.Report.{variables_of_test, variables_but, variables_of_patterns, occurring}
@@ -186,17 +193,7 @@ module _ (n : ℕ) where
   shifted_is_pattern q is = record {
     encryption = record { body = apply_to (up n) is.encryption.body; key = apply_to_key (up n) is.encryption.key; encrypted = ap (apply_to (up n)) is.encryption.encrypted };
     locals_occur = λ x i. let r = from_map (renamed (above n)) q.locals i in subst (λ (y : Variable). IsIn y (variables_of (apply_to (up n) q.term))) r.2 (term_onto (above n) q.term r.0 (is.locals_occur r.0 r.1));
-    one_sort = one_sort;
   }
-    where
-      one_sort : (x y : Variable) → IsIn x (variables_of (apply_to (up n) q.term)) → IsIn y (variables_of (apply_to (up n) q.term)) → x.number ≡ y.number → x.sort ≡ y.sort
-      one_sort x y i j e =
-          let a = term_from (above n) q.term x i in
-          let b = term_from (above n) q.term y j in
-          let first : a.from.number + n ≡ x.number = ap (λ (z : Variable). z.number) a.is in
-          let second : b.from.number + n ≡ y.number = ap (λ (z : Variable). z.number) b.is in
-          let same : a.from.number ≡ b.from.number = omega (arith, first, second, e) in
-          sym (ap (λ (z : Variable). z.sort) a.is) ∙ is.one_sort a.from b.from a.listed b.listed same ∙ ap (λ (z : Variable). z.sort) b.is
 
   -- The values of the map keep their sorts.
   shifted_values : (ds : List Declaration) (ts : List Term) → ArePaired HasSortOf ds ts → ArePaired HasSortOf ds (map (apply_to (up n)) ts)

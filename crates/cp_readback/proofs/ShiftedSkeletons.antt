@@ -6,8 +6,12 @@ use Rattle.cp_lists.specs.Lists.{IsIn, one_step, more_steps}
 use Rattle.cp_lists.proofs.Members.{into_map, from_map}
 use Rattle.cp_model.specs.Identity.{unchanged}
 use Rattle.cp_model.specs.Senders.{ArePaired}
-use Rattle.cp_model.specs.Term.{Variable, AtomTerm, Term, atom_of_variable, Substitution, apply_to, apply_to_atom, composed}
-use Rattle.cp_model.specs.Strand.{Declaration, Protocol, Event, send, recv, event_map}
+use Rattle.cp_model.specs.Term.{variable_term, AtomTerm, Term, Substitution, apply_to, apply_to_atom, composed}
+use Rattle.cp_model.specs.declared.variable.Variable.{Variable}
+use Rattle.cp_model.specs.Strand.{Protocol, event_map}
+use Rattle.cp_model.specs.declared.variable.Declaration.{Declaration}
+use Rattle.cp_model.specs.declared.strand.Event.{Event}
+use Rattle.cp_model.specs.declared.strand.Event.TheVariants.{Send as send, Receive as recv}
 use Rattle.cp_model.specs.Bundle.{node_at}
 use Rattle.cp_model.specs.declared.node.Node.{Node}
 use Rattle.cp_model.specs.declared.node.OrderPair.{OrderPair}
@@ -19,7 +23,7 @@ use Rattle.cp_model.proofs.LawAgreement.{agree_atom, agree_term}
 use Rattle.cp_model.proofs.LawTerms.{atom_composed, term_composed, atom_unchanged, term_unchanged}
 use Rattle.cp_report.specs.FittingTrees.{HasSortOf}
 use Rattle.cp_report.specs.UpToNames.{renamed, renaming, IsSameStrandUnder, unique_renamed, AreSameAssumptions, IsSameSkeleton}
-use Rattle.cp_report.proofs.Inverses.{renamed_atom}
+use Rattle.cp_report.proofs.Inverses.{renamed_variable}
 use Rattle.cp_report.proofs.OwnStated.{AreOver, assumptions_renamed, atom_image}
 use Rattle.cp_report.proofs.RenamedStrands.{event_renamed}
 use Rattle.cp_printable.proofs.SameMaps.{same_is_skeleton}
@@ -80,9 +84,9 @@ module _ (n : ℕ) where
   returned x = let z : (x.number + n) - n ≡ x.number = omega arith in λ i. record { sort = x.sort; number = z i }
 
   -- A variable under both substitutions is itself;
-  variable_back : (x : Variable) → apply_to_atom (composed up down) (atom_of_variable x) ≡ apply_to_atom unchanged (atom_of_variable x)
+  variable_back : (x : Variable) → apply_to (composed up down) (variable_term x) ≡ apply_to unchanged (variable_term x)
   variable_back x =
-      atom_composed up down (atom_of_variable x) ∙ ap (apply_to_atom down) (renamed_atom above x) ∙ renamed_atom below (renamed above x) ∙ ap atom_of_variable (returned x) ∙ sym (atom_unchanged (atom_of_variable x))
+      term_composed up down (variable_term x) ∙ ap (apply_to down) (renamed_variable above x) ∙ renamed_variable below (renamed above x) ∙ ap variable_term (returned x) ∙ sym (term_unchanged (variable_term x))
 
   -- so is a term,
   pub term_back : (t : Term) → apply_to down (apply_to up t) ≡ t
@@ -109,7 +113,7 @@ module _ (n : ℕ) where
   down_strand (instance role height terms) = (
     refl,
     refl,
-    λ x m. atom_composed (composed terms up) down (atom_of_variable x) ∙ ap (apply_to_atom down) (atom_composed terms up (atom_of_variable x)) ∙ atom_back (apply_to_atom terms (atom_of_variable x)),
+    λ x m. term_composed (composed terms up) down (variable_term x) ∙ ap (apply_to down) (term_composed terms up (variable_term x)) ∙ term_back (apply_to terms (variable_term x)),
   )
   down_strand (listener t) = term_back t
 

@@ -1,7 +1,11 @@
 -- The counts of a tree, and status forms with them.
 use Rattle.std.specs.Prelude.{◌≡◌, ℕ, suc, List, [], ◌∷◌, ◌++◌, length, Bool, true, false, codes, if◌then◌else◌, Option, Some}
 use Rattle.cp_base.specs.declared.place.Place.{Place}
-use Rattle.cp_model.specs.Tree.{Mark, shape, Outcome, complete, Label, expanded_count, shapes_of}
+use Rattle.cp_model.specs.Tree.{Label, expanded_count, shapes_of}
+use Rattle.cp_model.specs.declared.tree.Mark.{Mark}
+use Rattle.cp_model.specs.declared.tree.Mark.TheVariants.{Shape as shape}
+use Rattle.cp_model.specs.declared.tree.Outcome.{Outcome}
+use Rattle.cp_model.specs.declared.tree.Outcome.TheVariants.{Complete as complete}
 use Rattle.cp_sexpr.specs.Syntax.{Form}
 use Rattle.cp_language.specs.Words.{is_one_of}
 use Rattle.cp_language.specs.Faults.{place_of}

@@ -1,9 +1,8 @@
 -- What label forms are judged by, and what has to fit for them to denote labels.
-use Rattle.std.specs.Prelude.{◌≡◌, List, [], map, codes, IfSome}
+use Rattle.std.specs.Prelude.{◌≡◌, List, [], codes, IfSome}
 use Rattle.cp_base.specs.declared.place.Place.{Place}
 use Rattle.cp_sexpr.specs.Syntax.{Form}
 use Rattle.cp_language.specs.Problems.{Problem}
-use Rattle.cp_strand.specs.View.{declaration_view}
 use Rattle.cp_load.specs.UncheckedProblems.{unchecked_view}
 use Rattle.cp_report.specs.Misfits.{each_misfits}
 use Rattle.cp_report.specs.Heads.{entries_under}
@@ -14,7 +13,7 @@ use Rattle.cp_readback.specs.declared.labels.Setting.{Setting}
 
 -- The names are those of the problem's variables in a report, and the family keeps what its label forms state.
 pub record IsSetting (s : Setting) : Type 0 where
-  pub names : map declaration_view s.names.now ≡ problem_variables (unchecked_view s.problem.now)
+  pub names : s.names.now ≡ problem_variables (unchecked_view s.problem.now)
   pub family : IfSome s.tree (λ f. IsFamily f.now)
 
 -- What has to fit for the items to denote a label.

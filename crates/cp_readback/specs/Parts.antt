@@ -1,7 +1,7 @@
 -- Parts of label forms, with what they depend on apart.
 use Rattle.std.specs.Prelude.{ℕ, List, [], ◌∷◌, ◌++◌, drop, Bool, not, codes, Option, Some, None}
 use Rattle.cp_base.specs.declared.place.Place.{Place}
-use Rattle.cp_model.specs.Tree.{Mark}
+use Rattle.cp_model.specs.declared.tree.Mark.{Mark}
 use Rattle.cp_sexpr.specs.Syntax.{Form}
 use Rattle.cp_language.specs.Faults.{place_of}
 use Rattle.cp_language.specs.Roles.{headed}

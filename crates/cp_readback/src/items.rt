@@ -2,14 +2,13 @@
 ghost use Rattle.std.specs.Prelude.{◌≡◌, ◌||◌, ◌++◌, [], ◌∷◌, not, codes, if◌then◌else◌, map, option_map, IfOk, OnOk, IfSome};
 ghost use Rattle.cp_sexpr.specs.View.{view};
 ghost use Rattle.cp_language.specs.Problems.{is_known};
-ghost use Rattle.cp_strand.specs.View.{declaration_view, strand_view};
+ghost use Rattle.cp_strand.specs.View.{strand_view};
 ghost use Rattle.cp_report.specs.Heads.{item_with};
 ghost use Rattle.cp_report.specs.Skeletons.{declarations_of_label, vars_item_misfits};
 ghost use Rattle.cp_report.specs.Labels.{word_of_label, wants_parent, has_children, has_mark, missing_misfits};
 ghost use Rattle.cp_spelled.specs.FirstMisfit.{first_onto};
 ghost use Rattle.cp_readback.specs.Families.{labels_of, IsFamily};
 ghost use Rattle.cp_readback.specs.Parts.{no_parent_item_misfits, parent_item_misfits, operation_of_item_misfits, children_item_misfits};
-ghost use Rattle.cp_items.specs.Words.{word_view};
 
 use crate::parents::{Family, children_misfits, parent_misfits};
 use cp_base::Place;
@@ -31,7 +30,7 @@ pub(crate) fn has_item(items: &[Form], word: &[u8]) -> bool
 
 /// What the word after `by` names.
 pub(crate) fn word_of_label(items: &[Form]) -> OperationWord
-    ensures { word_view result ≡ word_of_label (map view items.now) }
+    ensures { result ≡ word_of_label (map view items.now) }
 {
     word_in_front(entries_under(items, b"by"))
 }
@@ -135,7 +134,7 @@ pub(crate) fn variables_item(
     first: &mut FirstMisfit,
 ) -> Result<Variables, AllocError>
     ensures misfits { OnOk result (first.new ≡ first_onto first.old (vars_item_misfits (map view items.now))) }
-    ensures declared { IfOk result (λ v. map declaration_view v ≡ declarations_of_label (map view items.now)) }
+    ensures declared { IfOk result (λ v. v ≡ declarations_of_label (map view items.now)) }
 {
     let Some(item) = item_with(items, b"vars") else {
         return Ok(Variables::new(alloc));

@@ -6,7 +6,6 @@ ghost use Rattle.cp_language.specs.Faults.{place_of};
 ghost use Rattle.cp_language.specs.Roles.{headed};
 ghost use Rattle.cp_report.specs.Misfits.{entries_misfits, number_misfits, symbol_misfits};
 ghost use Rattle.cp_report.specs.Labels.{is_label_in, mark_kinds, mark_named, mark_of, headed_mark_misfits};
-ghost use Rattle.cp_skel.specs.Trees.{mark_view};
 ghost use Rattle.cp_spelled.specs.FirstMisfit.{first_onto};
 ghost use Rattle.cp_readback.specs.Families.{labels_of};
 ghost use Rattle.cp_readback.specs.Parts.{mark_item_misfits, mark_of_item};
@@ -126,7 +125,7 @@ pub(crate) fn mark_misfits(
 
 /// The mark named by a head and what follows it.
 fn mark_by(head: &[u8], items: &[Form]) -> Mark
-    ensures { mark_view result ≡ mark_named head.now (map view items.now) }
+    ensures { result ≡ mark_named head.now (map view items.now) }
 {
     if is_word(head, b"shape") {
         Mark::Shape
@@ -145,7 +144,7 @@ fn mark_by(head: &[u8], items: &[Form]) -> Mark
 
 /// The mark that a form states, if it is a list with a head.
 fn mark_of_form(form: &Form) -> Option<Mark>
-    ensures { option_map mark_view result ≡ mark_of (headed (view form.now)) }
+    ensures { result ≡ mark_of (headed (view form.now)) }
 {
     match headed(form) {
         Some(list) => Some(mark_by(list.head, list.items)),
@@ -155,7 +154,7 @@ fn mark_of_form(form: &Form) -> Option<Mark>
 
 /// The mark that an item states, if there is an item and it states one.
 pub(crate) fn mark_of(item: Option<&Form>) -> Option<Mark>
-    ensures { option_map mark_view result ≡ mark_of_item (option_map (λ f. view f.now) item.entry) }
+    ensures { result ≡ mark_of_item (option_map (λ f. view f.now) item.entry) }
 {
     match item {
         Some(item) => mark_of_form(item),

@@ -1,46 +1,36 @@
 // From forms to the report that they are.
 ghost use Rattle.std.specs.Prelude.{◌≡◌, [], length, map, option_map, None, Ok, Err, IfOk, IfErr, OnOk};
+ghost use Rattle.std.specs.List.{filter_map};
 ghost use Rattle.cp_base.specs.declared.place.Place.{Place as Where};
 ghost use Rattle.cp_sexpr.specs.View.{view, views};
-ghost use Rattle.cp_language.specs.Input.{faults_from};
+ghost use Rattle.cp_language.specs.Input.{faults_from, stated_protocol};
 ghost use Rattle.cp_language.specs.StatedInput.{protocols_in};
 ghost use Rattle.cp_scope.specs.FirstFault as fault;
-ghost use Rattle.cp_roles.specs.Above.{protocols_view};
 ghost use Rattle.cp_skel.specs.Trees.{tree_view};
-ghost use Rattle.cp_load.specs.UncheckedProblems.{unchecked_view};
+ghost use Rattle.cp_load.specs.UncheckedProblems.{unchecked_view, unchecked_entry_view, stated_from};
 ghost use Rattle.cp_report.specs.ReadBack.{IsReadBack, sections_of, next_place, first_place, trees_misfits, misfits};
 ghost use Rattle.cp_spelled.specs.FirstMisfit.{first_onto, merged};
 ghost use Rattle.cp_readback.specs.Sections.{section_view};
-ghost use Rattle.cp_readback.specs.Reports.{report_view, forms_in, problems_stated, all_unchecked_view, problem_at, trees_by, AreFollowedByTrees};
+ghost use Rattle.cp_readback.specs.Reports.{report_view, forms_in, all_unchecked_view, problem_at, trees_by, AreFollowedByTrees};
 ghost use Rattle.cp_readback.specs.declared.error.ReadBackError.TheVariants.{NotReport};
 
 use crate::error::ReadBackError;
 use crate::sections::{Section, Sections, sections_of};
 use crate::{behind_misfits, none_may_stand, tree_of};
 use cp_base::Place;
-use cp_load::{Problem, UncheckedProblem, all_finished, top_form};
+use cp_load::{Entry, UncheckedEntry, UncheckedProblem, all_finished, top_form};
 use cp_scope::{FirstFault, NameSet, place_of};
 use cp_sexpr::Form;
-use cp_skel::{Protocol, Tree};
+use cp_skel::Tree;
 use cp_spelled::FirstMisfit;
 use std::alloc::{AllocError, Global};
-use std::rc::Rc;
 
-/// A report: the forms of its input, its protocols in order, for each form the problem that it states, if any, and a
-/// tree for each problem, in their order.
+/// A report: the forms of its input, for each form what it states, and a tree for each problem, in their order.
 #[derive(Drop)]
 pub struct Report<'a> {
     pub forms: Vec<&'a Form>,
-    pub protocols: Vec<Rc<Protocol>>,
-    pub problems: Vec<Option<Problem>>,
+    pub entries: Vec<Entry>,
     pub trees: Vec<Tree>,
-}
-
-/// What the forms of the input state: their protocols in order, and for each form its unchecked problem.
-#[derive(Drop)]
-struct Stated {
-    protocols: Vec<Rc<Protocol>>,
-    unchecked_problems: Vec<Option<UncheckedProblem>>,
 }
 
 /// The forms of the input with the forms after each, what they state, and the first place, if any, at which the forms
@@ -48,8 +38,7 @@ struct Stated {
 #[derive(Drop)]
 struct Judged<'a> {
     sections: Vec<Section<'a>>,
-    protocols: Vec<Rc<Protocol>>,
-    unchecked_problems: Vec<Option<UncheckedProblem>>,
+    unchecked_entries: Vec<UncheckedEntry>,
     misfit: Option<Place>,
 }
 
@@ -81,26 +70,22 @@ fn stated_in(
     sections: &[Section<'_>],
     faults: &mut FirstFault,
     first: &mut FirstMisfit,
-) -> Result<Stated, AllocError>
+) -> Result<Vec<UncheckedEntry>, AllocError>
     ensures faults { OnOk result (faults.new ≡ fault.first_onto faults.old (faults_from [] (forms_in (map section_view sections.now)))) }
     ensures misfits { OnOk result (first.new ≡ first_onto first.old (trees_misfits start [] (map section_view sections.now))) }
-    ensures problems { IfOk result (λ s. all_unchecked_view s.unchecked_problems.items ≡ problems_stated (map section_view sections.now)) }
-    ensures protocols { IfOk result (λ s. protocols_view s.protocols.items ≡ protocols_in (forms_in (map section_view sections.now))) }
+    ensures entries { IfOk result (λ us. map unchecked_entry_view us.items ≡ stated_from [] (forms_in (map section_view sections.now))) }
 {
     let mut protocols = Vec::new(alloc);
     let mut names = NameSet::new(alloc);
-    let mut unchecked_problems = Vec::new(alloc);
+    let mut unchecked_entries = Vec::new(alloc);
     for (place, section) in sections.iter().enumerate() {
         let unchecked = top_form(alloc, &mut protocols, &mut names, section.form, faults)?;
         let (_, following) = sections.split_at(place + 1);
         let next = next_place(start, following);
-        behind_misfits(alloc, unchecked.as_ref(), next, section.behind, first)?;
-        unchecked_problems.push(unchecked)?;
+        behind_misfits(alloc, unchecked.problem(), next, section.behind, first)?;
+        unchecked_entries.push(unchecked)?;
     }
-    Ok(Stated {
-        protocols,
-        unchecked_problems,
-    })
+    Ok(unchecked_entries)
 }
 
 /// Notes the place of the first fault, if there is one, as a misfit.
@@ -115,8 +100,7 @@ fn note_fault(faults: FirstFault, first: &mut FirstMisfit)
 /// Splits forms by those of the input, with what these state, and the first place at which they are no report.
 fn judge(alloc: Global, forms: &[Form]) -> Result<Judged<'_>, AllocError>
     ensures sections { IfOk result (λ j. map section_view j.sections.items ≡ (sections_of (map view forms.now)).sections) }
-    ensures problems { IfOk result (λ j. all_unchecked_view j.unchecked_problems.items ≡ problems_stated (sections_of (map view forms.now)).sections) }
-    ensures protocols { IfOk result (λ j. protocols_view j.protocols.items ≡ protocols_in (forms_in (sections_of (map view forms.now)).sections)) }
+    ensures entries { IfOk result (λ j. map unchecked_entry_view j.unchecked_entries.items ≡ stated_from [] (forms_in (sections_of (map view forms.now)).sections)) }
     ensures misfit { IfOk result (λ j. j.misfit ≡ first_onto None (misfits (views forms.now))) }
 {
     let Sections { front, sections } = sections_of(alloc, forms)?;
@@ -124,45 +108,38 @@ fn judge(alloc: Global, forms: &[Form]) -> Result<Judged<'_>, AllocError>
     let mut first = FirstMisfit::new();
     none_may_stand(front, &mut first);
     let start = first_place(forms);
-    let Stated {
-        protocols,
-        unchecked_problems,
-    } = stated_in(alloc, start, &sections, &mut faults, &mut first)?;
+    let unchecked_entries = stated_in(alloc, start, &sections, &mut faults, &mut first)?;
     note_fault(faults, &mut first);
     let misfit = first.found();
     Ok(Judged {
         sections,
-        protocols,
-        unchecked_problems,
+        unchecked_entries,
         misfit,
     })
 }
 
-/// The unchecked problem at this place in the list, if there is one.
-fn unchecked_at(
-    unchecked_problems: &[Option<UncheckedProblem>],
-    place: usize,
-) -> Option<&UncheckedProblem>
-    ensures { option_map (λ d. unchecked_view d.now) result ≡ problem_at (all_unchecked_view unchecked_problems.now) place }
+/// The unchecked problem of the entry at this place in the list, if there is one.
+fn unchecked_at(unchecked_entries: &[UncheckedEntry], place: usize) -> Option<&UncheckedProblem>
+    ensures { option_map (λ d. unchecked_view d.now) result ≡ problem_at (all_unchecked_view unchecked_entries.now) place }
 {
-    match unchecked_problems.get(place) {
-        Some(unchecked) => unchecked.as_ref(),
+    match unchecked_entries.get(place) {
+        Some(unchecked) => unchecked.problem(),
         None => None,
     }
 }
 
-/// The trees after the forms that state these unchecked problems.
+/// The trees after the forms that state the unchecked problems of these entries.
 fn trees_of(
     alloc: Global,
     sections: &[Section<'_>],
-    unchecked_problems: &[Option<UncheckedProblem>],
+    unchecked_entries: &[UncheckedEntry],
 ) -> Result<Vec<Tree>, AllocError>
-    requires trees { AreFollowedByTrees (all_unchecked_view unchecked_problems.now) (map section_view sections.now) }
-    ensures { IfOk result (λ ts. map tree_view ts.items ≡ trees_by (all_unchecked_view unchecked_problems.now) (map section_view sections.now)) }
+    requires trees { AreFollowedByTrees (all_unchecked_view unchecked_entries.now) (map section_view sections.now) }
+    ensures { IfOk result (λ ts. map tree_view ts.items ≡ trees_by (all_unchecked_view unchecked_entries.now) (map section_view sections.now)) }
 {
     let mut trees = Vec::new(alloc);
     for (place, section) in sections.iter().enumerate() {
-        let Some(problem) = unchecked_at(unchecked_problems, place) else {
+        let Some(problem) = unchecked_at(unchecked_entries, place) else {
             continue;
         };
         let tree = tree_of(alloc, problem, section.behind)?;
@@ -188,26 +165,24 @@ fn forms_of<'a>(alloc: Global, sections: &[Section<'a>]) -> Result<Vec<&'a Form>
 /// fit none. The other error is `Memory`.
 pub fn read_back<'a>(alloc: Global, forms: &'a [Form]) -> Result<Report<'a>, ReadBackError>
     ensures read { IfOk result (λ r. IsReadBack (views forms.now) (Ok (report_view r))) }
-    ensures problems { IfOk result (λ r. length r.problems.items ≡ length r.forms.items) }
-    ensures protocols { IfOk result (λ r. protocols_view r.protocols.items ≡ protocols_in (map (λ f. view f.now) r.forms.items)) }
+    ensures entries { IfOk result (λ r. length r.entries.items ≡ length r.forms.items) }
+    ensures protocols { IfOk result (λ r. filter_map stated_protocol (report_view r).entries ≡ protocols_in (map (λ f. view f.now) r.forms.items)) }
     ensures refused { IfErr result (λ e. (p : Where) → e ≡ NotReport p → IsReadBack (views forms.now) (Err p)) }
 {
     let Judged {
         sections,
-        protocols,
-        unchecked_problems,
+        unchecked_entries,
         misfit,
     } = judge(alloc, forms)?;
     if let Some(place) = misfit {
         return Err(ReadBackError::NotReport(place));
     }
-    let trees = trees_of(alloc, &sections, &unchecked_problems)?;
+    let trees = trees_of(alloc, &sections, &unchecked_entries)?;
     let forms = forms_of(alloc, &sections)?;
-    let problems = all_finished(alloc, unchecked_problems)?;
+    let entries = all_finished(alloc, unchecked_entries)?;
     Ok(Report {
         forms,
-        protocols,
-        problems,
+        entries,
         trees,
     })
 }

@@ -1,17 +1,16 @@
 // The labels that label forms state.
-ghost use Rattle.std.specs.Prelude.{◌≡◌, [], ◌∷◌, map, option_map, drop, codes, Some, IfOk};
+ghost use Rattle.std.specs.Prelude.{◌≡◌, [], ◌∷◌, map, drop, codes, Some, IfOk};
 ghost use Rattle.cp_lists.specs.Lists.{IsIn};
 ghost use Rattle.cp_sexpr.specs.Syntax.{Form as Syntax};
 ghost use Rattle.cp_sexpr.specs.View.{view};
 ghost use Rattle.cp_language.specs.Problems.{option_node, number_of};
 ghost use Rattle.cp_load.specs.UncheckedProblems.{unchecked_view};
-ghost use Rattle.cp_strand.specs.View.{declaration_view};
 ghost use Rattle.cp_report.specs.Misfits.{each_misfits};
 ghost use Rattle.cp_report.specs.Heads.{item_with, entries_under, mark_heads};
 ghost use Rattle.cp_report.specs.Spelled.{pattern_misfits, pattern_of};
 ghost use Rattle.cp_report.specs.Skeletons.{declarations_of_label, scope_of, node_or_first, problem_variables, skeleton_stated};
 ghost use Rattle.cp_report.specs.Labels.{items_of_label, word_of_label, operation_by, number_in_front, test_of, label_by, label_of};
-ghost use Rattle.cp_skel.specs.Trees.{variables_view, operation_view, test_view, mark_view, label_view};
+ghost use Rattle.cp_skel.specs.Trees.{label_view};
 ghost use Rattle.cp_skel.specs.View.{skeleton_view};
 ghost use Rattle.cp_spelled.specs.Views.{scope_view};
 ghost use Rattle.cp_readback.specs.Items.{HasFitting};
@@ -26,15 +25,15 @@ use cp_items::{
 use cp_load::UncheckedProblem;
 use cp_scope::later_items;
 use cp_sexpr::Form;
-use cp_skel::{Node, Operation, Skeleton, Test, TreeNode};
+use cp_skel::{Nodes, Numbers, Operation, Skeleton, Test, TreeNode};
 use cp_spelled::{Locals, Scope, Variables, declarations_of_label, entries_under};
 use cp_stated::{item_with, skeleton_stated, strands_of};
-use cp_term::Pattern;
+use cp_term::Patterns;
 use std::alloc::{AllocError, Global};
 
 /// The operation that the items of a label form state.
 fn operation_stated(alloc: Global, items: &[Form]) -> Result<Operation, AllocError>
-    ensures { IfOk result (λ o. operation_view o ≡ operation_by (word_of_label (map view items.now)) (drop 1 (entries_under (codes "by") (map view items.now)))) }
+    ensures { IfOk result (λ o. o ≡ operation_by (word_of_label (map view items.now)) (drop 1 (entries_under (codes "by") (map view items.now)))) }
 {
     let behind = later_items(entries_under(items, b"by"), 1);
     operation_by(alloc, word_of_label(items), behind)
@@ -43,10 +42,10 @@ fn operation_stated(alloc: Global, items: &[Form]) -> Result<Operation, AllocErr
 /// How a label is expanded: its unrealised nodes, its test, the escape set of the test, and its children.
 #[derive(Drop)]
 struct Expansion {
-    unrealised: Vec<Node>,
+    unrealised: Nodes,
     test: Option<Test>,
-    patterns: Vec<Pattern>,
-    children: Vec<usize>,
+    patterns: Patterns,
+    children: Numbers,
 }
 
 /// How the label is expanded according to the items of its form. The patterns must fit the scope's variables.
@@ -56,20 +55,20 @@ fn expansion_stated(
     items: &[Form],
 ) -> Result<Expansion, AllocError>
     requires { each_misfits (pattern_misfits (scope_view scope).variables) (entries_under (codes "escape") (map view items.now)) ≡ [] }
-    ensures unrealised { IfOk result (λ e. e.unrealised.items ≡ map (λ f. node_or_first (option_node (Some f))) (entries_under (codes "unrealised") (map view items.now))) }
-    ensures test { IfOk result (λ e. option_map test_view e.test ≡ test_of (scope_view scope.entry) (item_with (codes "test" ∷ []) (map view items.now))) }
-    ensures patterns { IfOk result (λ e. e.patterns.items ≡ map (pattern_of (scope_view scope.entry).variables) (entries_under (codes "escape") (map view items.now))) }
-    ensures children { IfOk result (λ e. e.children.items ≡ map number_of (entries_under (codes "children") (map view items.now))) }
+    ensures unrealised { IfOk result (λ e. e.unrealised ≡ map (λ f. node_or_first (option_node (Some f))) (entries_under (codes "unrealised") (map view items.now))) }
+    ensures test { IfOk result (λ e. e.test ≡ test_of (scope_view scope.entry) (item_with (codes "test" ∷ []) (map view items.now))) }
+    ensures patterns { IfOk result (λ e. e.patterns ≡ map (pattern_of (scope_view scope.entry).variables) (entries_under (codes "escape") (map view items.now))) }
+    ensures children { IfOk result (λ e. e.children ≡ map number_of (entries_under (codes "children") (map view items.now))) }
 {
     let unrealised = nodes_of(alloc, entries_under(items, b"unrealised"))?;
     let children = numbers_of(alloc, entries_under(items, b"children"))?;
     let patterns = patterns_of(alloc, scope.variables, entries_under(items, b"escape"))?;
     let test = test_of(alloc, scope, item_with(items, b"test"))?;
     Ok(Expansion {
-        unrealised,
+        unrealised: Nodes::of(unrealised),
         test,
-        patterns,
-        children,
+        patterns: Patterns::of(patterns),
+        children: Numbers::of(children),
     })
 }
 
@@ -82,11 +81,11 @@ fn skeleton_of(
     scope: Scope<'_>,
     items: &[Form],
 ) -> Result<Skeleton, AllocError>
-    requires names { map declaration_view names.now ≡ problem_variables (unchecked_view problem.now) }
+    requires names { names.now ≡ problem_variables (unchecked_view problem.now) }
     requires scope { scope_view scope ≡ scope_of (map view items.now) }
     requires fits { HasFitting (unchecked_view problem.now) (map view items.now) }
     ensures skeleton { IfOk result (λ k. skeleton_view k ≡ skeleton_stated (unchecked_view problem.now) (map view items.now)) }
-    ensures variables { IfOk result (λ k. variables_view k.variables ≡ declarations_of_label (map view items.now)) }
+    ensures variables { IfOk result (λ k. k.variables ≡ declarations_of_label (map view items.now)) }
 {
     let strands = strands_of(alloc, problem.protocol.roles(), scope, items)?;
     skeleton_stated(alloc, problem, names, scope, strands, items)
@@ -106,7 +105,7 @@ fn label_with(
     ensures test { result.test ≡ expansion.test }
     ensures patterns { result.patterns ≡ expansion.patterns }
     ensures children { result.children ≡ expansion.children }
-    ensures mark { option_map mark_view result.mark ≡ mark_of_item (item_with mark_heads (map view items.now)) }
+    ensures mark { result.mark ≡ mark_of_item (item_with mark_heads (map view items.now)) }
 {
     let Expansion {
         unrealised,
@@ -135,7 +134,7 @@ fn label_by(
     scope: Scope<'_>,
     items: &[Form],
 ) -> Result<TreeNode, AllocError>
-    requires names { map declaration_view names.now ≡ problem_variables (unchecked_view problem.now) }
+    requires names { names.now ≡ problem_variables (unchecked_view problem.now) }
     requires scope { scope_view scope ≡ scope_of (map view items.now) }
     requires fits { HasFitting (unchecked_view problem.now) (map view items.now) }
     ensures { IfOk result (λ l. label_view l ≡ label_by (unchecked_view problem.now) (map view items.now)) }
@@ -154,7 +153,7 @@ fn label_of(
     names: &Variables,
     form: &Form,
 ) -> Result<TreeNode, AllocError>
-    requires names { map declaration_view names.now ≡ problem_variables (unchecked_view problem.now) }
+    requires names { names.now ≡ problem_variables (unchecked_view problem.now) }
     requires fits { HasFitting (unchecked_view problem.now) (items_of_label (view form.now)) }
     ensures { IfOk result (λ l. label_view l ≡ label_of (unchecked_view problem.now) (view form.now)) }
 {
@@ -177,7 +176,7 @@ pub(crate) fn labels_stated(
     names: &Variables,
     labels: &[Form],
 ) -> Result<Vec<TreeNode>, AllocError>
-    requires names { map declaration_view names.now ≡ problem_variables (unchecked_view problem.now) }
+    requires names { names.now ≡ problem_variables (unchecked_view problem.now) }
     requires fit { (f : Syntax) → IsIn f (map view labels.now) → HasFitting (unchecked_view problem.now) (items_of_label f) }
     ensures { IfOk result (λ v. map label_view v.items ≡ map (label_of (unchecked_view problem.now)) (map view labels.now)) }
 {

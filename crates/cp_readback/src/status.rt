@@ -4,7 +4,6 @@ ghost use Rattle.cp_sexpr.specs.View.{view};
 ghost use Rattle.cp_language.specs.Words.{is_one_of};
 ghost use Rattle.cp_report.specs.Misfits.{symbol_misfits, entries_misfits};
 ghost use Rattle.cp_report.specs.ReadBack.{word_misfits, count_misfits, behind_outcome, outcome_of};
-ghost use Rattle.cp_skel.specs.Trees.{outcome_view};
 ghost use Rattle.cp_spelled.specs.FirstMisfit.{first_onto};
 ghost use Rattle.cp_items.specs.Parts.{is_fitting};
 ghost use Rattle.cp_readback.specs.Kinds.{kind_misfits};
@@ -201,7 +200,7 @@ pub(crate) fn status_misfits(counts: Counts, form: &Form, first: &mut FirstMisfi
 
 /// The outcome that the entries of a status form state.
 fn outcome_of(items: &[Form]) -> Outcome
-    ensures { outcome_view result ≡ outcome_of (map view items.now) }
+    ensures { result ≡ outcome_of (map view items.now) }
 {
     let Some((word, rest)) = items.split_first() else {
         return Outcome::Complete;
@@ -217,7 +216,7 @@ fn outcome_of(items: &[Form]) -> Outcome
 
 /// The outcome that the first of these forms states; complete if there is none.
 pub(crate) fn outcome_in(behind: &[Form]) -> Outcome
-    ensures { outcome_view result ≡ outcome_in (map view behind.now) }
+    ensures { result ≡ outcome_in (map view behind.now) }
 {
     match behind {
         [] => Outcome::Complete,

@@ -1,7 +1,7 @@
 // Items of label forms that refer to the strands, and the patterns: where they do not fit.
 ghost use Rattle.std.specs.Prelude.{◌≡◌, [], ◌∷◌, codes, drop, map, OnOk};
 ghost use Rattle.cp_sexpr.specs.View.{view};
-ghost use Rattle.cp_strand.specs.View.{declaration_view, strand_view};
+ghost use Rattle.cp_strand.specs.View.{strand_view};
 ghost use Rattle.cp_report.specs.Heads.{item_with, entries_under, optional_misfits};
 ghost use Rattle.cp_report.specs.Skeletons.{declarations_of_label, scope_of};
 ghost use Rattle.cp_report.specs.Labels.{word_of_label, operation_place_misfits, unrealised_misfits, test_misfits};
@@ -69,7 +69,7 @@ pub(crate) fn escape_item_misfits(
     items: &[Form],
     first: &mut FirstMisfit,
 ) -> Result<(), AllocError>
-    requires { map declaration_view variables.now ≡ declarations_of_label (map view items.now) }
+    requires { variables.now ≡ declarations_of_label (map view items.now) }
     ensures { OnOk result (first.new ≡ first_onto first.old (escape_of_items_misfits (map view items.now))) }
 {
     let Some(item) = item_with(items, b"escape") else {

@@ -2,13 +2,15 @@
 use Rattle.std.specs.Prelude.{◌≡◌, ℕ, List, [], ◌∷◌, map, false, refl, option_map, Option, Some, None}
 use Rattle.std.specs.Fmt.{digits}
 use Rattle.cp_lists.specs.Lists.{item_at}
-use Rattle.cp_model.specs.Term.{text_sort, text_variable, name_variable, key_term, asymmetric_term, symmetric_term, ltk_term, pubk_term, Term, atom_term, pair_term, enc_term}
+use Rattle.cp_model.specs.Term.{text_variable, name_variable, key_term, asymmetric_term, symmetric_term, ltk_term, pubk_term, Term, atom_term, pair_term, enc_term}
+use Rattle.cp_model.specs.declared.sort.Sort.TheVariants.{Text as text_sort}
 use Rattle.cp_model.specs.Bundle.{node_at}
-use Rattle.cp_model.specs.Tree.{by_added_listener, Label, Tree}
+use Rattle.cp_model.specs.Tree.{Label, Tree}
+use Rattle.cp_model.specs.declared.tree.Operation.TheVariants.{AddedListener as by_added_listener}
 use Rattle.cp_sexpr.specs.Syntax.{Forms, forms_of}
 use Rattle.cp_sexpr.specs.ReadBack.{all_unplaced}
 use Rattle.cp_language.specs.Problems.{Problem}
-use Rattle.cp_language.specs.Input.{Entry}
+use Rattle.cp_language.specs.Input.{Entry, stated}
 use Rattle.cp_language.specs.Report.{report_forms}
 use Rattle.cp_report.specs.ReadBack.{Report, report_of}
 use Rattle.cp_report.proofs.Texts.{text_single, text_exchange, text_twice, text_keys}
@@ -45,7 +47,7 @@ name_of n = atom_term (name_variable n)
 -- The problem of the last form.
 abbrev last_problem : List Entry → Option Problem
 last_problem [] = None
-last_problem (e ∷ []) = e.problem
+last_problem (e ∷ []) = stated e
 last_problem (e ∷ f ∷ es) = last_problem (f ∷ es)
 
 -- Label 0 is the problem.

@@ -9,8 +9,8 @@ use Rattle.cp_lists.specs.Lists.{item_at, IsIn, here, there}
 use Rattle.cp_lists.proofs.Items.{at_place, item_in_front, place_of as place_in, item_behind, some_same}
 use Rattle.cp_lists.proofs.Members.{in_append, in_append_left, in_last}
 use Rattle.cp_lists.proofs.Without.{too_many}
-use Rattle.cp_model.specs.Term.{Variable}
-use Rattle.cp_model.specs.Strand.{Declaration}
+use Rattle.cp_model.specs.declared.variable.Variable.{Variable}
+use Rattle.cp_model.specs.declared.variable.Declaration.{Declaration}
 use Rattle.cp_language.specs.Words.{is_one_of}
 use Rattle.cp_language.specs.Names.{numbered_name, first_numbered, free_name, identifiers_in, names_onto, first_of, behind, problem_names, has_number, later_names, label_names}
 use Rattle.cp_language.proofs.ValidTests.{one_of, is_one}

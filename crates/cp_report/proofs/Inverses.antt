@@ -4,14 +4,17 @@ use Rattle.std.specs.Prelude.{◌&&◌, ◌==◌}
 use Rattle.std.proofs.lemmas.Bool.{eq-eqb}
 use Rattle.cp_lists.specs.Lists.{IsIn, here, there}
 use Rattle.cp_lists.proofs.Members.{only_item, in_append, in_append_left}
-use Rattle.cp_model.specs.Term.{Sort, text_sort, datum_sort, name_sort, skey_sort, akey_sort, Variable, atom_of_variable, AtomTerm, Term, atom_term, variables_of_atom, variables_of, Substitution, apply_to, apply_to_atom, composed}
+use Rattle.cp_model.specs.Term.{variable_term, AtomTerm, Term, atom_term, variables_of_atom, variables_of, Substitution, apply_to, apply_to_atom, composed}
+use Rattle.cp_model.specs.declared.sort.Sort.{Sort}
+use Rattle.cp_model.specs.declared.sort.Sort.TheVariants.{Text as text_sort, Datum as datum_sort, Name as name_sort, Skey as skey_sort, Akey as akey_sort}
+use Rattle.cp_model.specs.declared.variable.Variable.{Variable}
 use Rattle.cp_model.specs.Identity.{unchanged}
 use Rattle.cp_model.specs.Stated.{IsImageOfOne, AreImages}
 use Rattle.cp_model.specs.Same.{same_sort}
 use Rattle.cp_model.proofs.SameTests.{variable_is, same_sort_itself}
 use Rattle.cp_model.proofs.LawTerms.{atom_composed, term_composed, atom_unchanged, term_unchanged}
 use Rattle.cp_model.proofs.LawAgreement.{agree_atom, agree_term}
-use Rattle.cp_model.specs.Strand.{send}
+use Rattle.cp_model.specs.declared.strand.Event.TheVariants.{Send as send}
 use Rattle.cp_model.proofs.OccurringVariables.{in_trace_under}
 use Rattle.cp_model.proofs.UnderVariables.{of_trace}
 use Rattle.cp_report.specs.UpToNames.{variable_numbered, renamed, renaming, IsOneToOne}
@@ -21,44 +24,44 @@ use Rattle.cp_report.specs.UpToNames.{variable_numbered, renamed, renaming, IsOn
 in_sent : (t : Term) (x : Variable) → IsIn x (variables_of t ++ []) → IsIn x (variables_of t)
 in_sent t x m = ⊎_elim (λ i. i) (λ i. elim i [ ]) (in_append (variables_of t) [] m)
 
-of_term : (P : Variable → Type 0) (s : Substitution) (t : Term) → ((x : Variable) → IsIn x (variables_of t) → (y : Variable) → IsIn y (variables_of_atom (apply_to_atom s (atom_of_variable x))) → P y) → (y : Variable) → IsIn y (variables_of (apply_to s t)) → P y
+of_term : (P : Variable → Type 0) (s : Substitution) (t : Term) → ((x : Variable) → IsIn x (variables_of t) → (y : Variable) → IsIn y (variables_of (apply_to s (variable_term x))) → P y) → (y : Variable) → IsIn y (variables_of (apply_to s t)) → P y
 of_term P s t h y i = of_trace P s (send t ∷ []) (λ x m. h x (in_sent t x m)) y (in_append_left [] i)
 
-in_term : (s : Substitution) (x y : Variable) → IsIn y (variables_of_atom (apply_to_atom s (atom_of_variable x))) → (t : Term) → IsIn x (variables_of t) → IsIn y (variables_of (apply_to s t))
+in_term : (s : Substitution) (x y : Variable) → IsIn y (variables_of (apply_to s (variable_term x))) → (t : Term) → IsIn x (variables_of t) → IsIn y (variables_of (apply_to s t))
 in_term s x y given t i = in_sent (apply_to s t) y (in_trace_under s (send t ∷ []) x y (in_append_left [] i) given)
 
-of_atom : (P : Variable → Type 0) (s : Substitution) (v : AtomTerm) → ((x : Variable) → IsIn x (variables_of_atom v) → (y : Variable) → IsIn y (variables_of_atom (apply_to_atom s (atom_of_variable x))) → P y) → (y : Variable) → IsIn y (variables_of_atom (apply_to_atom s v)) → P y
+of_atom : (P : Variable → Type 0) (s : Substitution) (v : AtomTerm) → ((x : Variable) → IsIn x (variables_of_atom v) → (y : Variable) → IsIn y (variables_of (apply_to s (variable_term x))) → P y) → (y : Variable) → IsIn y (variables_of_atom (apply_to_atom s v)) → P y
 of_atom P s v h y i = of_term P s (atom_term v) h y i
 
-in_atom : (s : Substitution) (x y : Variable) → IsIn y (variables_of_atom (apply_to_atom s (atom_of_variable x))) → (v : AtomTerm) → IsIn x (variables_of_atom v) → IsIn y (variables_of_atom (apply_to_atom s v))
+in_atom : (s : Substitution) (x y : Variable) → IsIn y (variables_of (apply_to s (variable_term x))) → (v : AtomTerm) → IsIn x (variables_of_atom v) → IsIn y (variables_of_atom (apply_to_atom s v))
 in_atom s x y given v i = in_term s x y given (atom_term v) i
 
 -- ---- renamed variables
 
-by_sort : (number : Variable → ℕ) (s : Sort) (n : ℕ) → apply_to_atom (renaming number) (atom_of_variable (variable_numbered s n)) ≡ atom_of_variable (variable_numbered s (number (variable_numbered s n)))
+by_sort : (number : Variable → ℕ) (s : Sort) (n : ℕ) → apply_to (renaming number) (variable_term (variable_numbered s n)) ≡ variable_term (variable_numbered s (number (variable_numbered s n)))
 by_sort number text_sort n = refl
 by_sort number datum_sort n = refl
 by_sort number name_sort n = refl
 by_sort number skey_sort n = refl
 by_sort number akey_sort n = refl
 
-pub renamed_atom : (number : Variable → ℕ) (x : Variable) → apply_to_atom (renaming number) (atom_of_variable x) ≡ atom_of_variable (renamed number x)
-renamed_atom number x = by_sort number x.sort x.number
+pub renamed_variable : (number : Variable → ℕ) (x : Variable) → apply_to (renaming number) (variable_term x) ≡ variable_term (renamed number x)
+renamed_variable number x = by_sort number x.sort x.number
 
-pub only_variable : (s : Sort) (n : ℕ) → variables_of_atom (atom_of_variable (variable_numbered s n)) ≡ variable_numbered s n ∷ []
+pub only_variable : (s : Sort) (n : ℕ) → variables_of (variable_term (variable_numbered s n)) ≡ variable_numbered s n ∷ []
 only_variable text_sort n = refl
 only_variable datum_sort n = refl
 only_variable name_sort n = refl
 only_variable skey_sort n = refl
 only_variable akey_sort n = refl
 
-its_variable : (number : Variable → ℕ) (x : Variable) → variables_of_atom (apply_to_atom (renaming number) (atom_of_variable x)) ≡ renamed number x ∷ []
-its_variable number x = ap variables_of_atom (renamed_atom number x) ∙ only_variable x.sort (number x)
+its_variable : (number : Variable → ℕ) (x : Variable) → variables_of (apply_to (renaming number) (variable_term x)) ≡ renamed number x ∷ []
+its_variable number x = ap variables_of (renamed_variable number x) ∙ only_variable x.sort (number x)
 
-pub renamed_in : (number : Variable → ℕ) (x : Variable) → IsIn (renamed number x) (variables_of_atom (apply_to_atom (renaming number) (atom_of_variable x)))
+pub renamed_in : (number : Variable → ℕ) (x : Variable) → IsIn (renamed number x) (variables_of (apply_to (renaming number) (variable_term x)))
 renamed_in number x = subst (λ (xs : List Variable). IsIn (renamed number x) xs) (sym (its_variable number x)) here
 
-pub is_renamed : (number : Variable → ℕ) (x w : Variable) → IsIn w (variables_of_atom (apply_to_atom (renaming number) (atom_of_variable x))) → renamed number x ≡ w
+pub is_renamed : (number : Variable → ℕ) (x w : Variable) → IsIn w (variables_of (apply_to (renaming number) (variable_term x))) → renamed number x ≡ w
 is_renamed number x w i = sym (only_item (subst (λ (xs : List Variable). IsIn w xs) (its_variable number x) i))
 
 -- A variable among these that is renamed to w.
@@ -117,10 +120,10 @@ module _ (a b : Variable → ℕ) (ys : List Variable) (one : IsOneToOne b ys) w
   abbrev pub back : Variable → ℕ
   back w = inverse b ys w
 
-  returned : (y : Variable) → IsIn y ys → apply_to_atom (composed (renaming b) (renaming back)) (atom_of_variable y) ≡ apply_to_atom unchanged (atom_of_variable y)
+  returned : (y : Variable) → IsIn y ys → apply_to (composed (renaming b) (renaming back)) (variable_term y) ≡ apply_to unchanged (variable_term y)
   returned y m =
-      atom_composed (renaming b) (renaming back) (atom_of_variable y) ∙ ap (apply_to_atom (renaming back)) (renamed_atom b y) ∙ renamed_atom back (renamed b y)
-      ∙ ap (λ (n : ℕ). atom_of_variable (variable_numbered y.sort n)) (inverse_back b ys one y m) ∙ sym (atom_unchanged (atom_of_variable y))
+      term_composed (renaming b) (renaming back) (variable_term y) ∙ ap (apply_to (renaming back)) (renamed_variable b y) ∙ renamed_variable back (renamed b y)
+      ∙ ap (λ (n : ℕ). variable_term (variable_numbered y.sort n)) (inverse_back b ys one y m) ∙ sym (term_unchanged (variable_term y))
 
   pub term_returned : (t : Term) → ((y : Variable) → IsIn y (variables_of t) → IsIn y ys) → apply_to (renaming back) (apply_to (renaming b) t) ≡ t
   term_returned t within =

@@ -1,7 +1,7 @@
 -- Each item of a label form as it is printed is found by its head, with what it lists.
 use Rattle.std.proofs.Common.{◌≡◌, ℕ, List, [], ◌∷◌, true, refl, ap, ◌∙◌}
 use Rattle.std.specs.Prelude.{Option, Some, None, map, codes}
-use Rattle.cp_model.specs.Term.{Variable}
+use Rattle.cp_model.specs.declared.variable.Variable.{Variable}
 use Rattle.cp_model.specs.Tree.{Label}
 use Rattle.cp_sexpr.specs.Syntax.{Form}
 use Rattle.cp_language.specs.Names.{label_names}

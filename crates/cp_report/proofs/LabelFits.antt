@@ -8,9 +8,13 @@ use Rattle.cp_lists.specs.Lists.{item_at, IsIn, here, there}
 use Rattle.cp_lists.proofs.Items.{place_of}
 use Rattle.cp_lists.proofs.Appended.{none_and}
 use Rattle.cp_lists.proofs.Mapped.{nothing_mapped}
-use Rattle.cp_model.specs.Term.{Variable}
+use Rattle.cp_model.specs.declared.variable.Variable.{Variable}
 use Rattle.cp_model.specs.Skeleton.{SkeletonStrand, term_event_at, IsNodeOf, Skeleton}
-use Rattle.cp_model.specs.Tree.{Operation, by_problem, by_collapse, by_contraction, by_displacement, by_added_strand, by_added_listener, by_generalising, Mark, shape, dead, seen, instance_of, limit_steps, limit_strands, Test, Label}
+use Rattle.cp_model.specs.Tree.{Test, Label}
+use Rattle.cp_model.specs.declared.tree.Operation.{Operation}
+use Rattle.cp_model.specs.declared.tree.Operation.TheVariants.{Problem as by_problem, Collapsed as by_collapse, Contracted as by_contraction, Displaced as by_displacement, AddedStrand as by_added_strand, AddedListener as by_added_listener, Generalised as by_generalising}
+use Rattle.cp_model.specs.declared.tree.Mark.{Mark}
+use Rattle.cp_model.specs.declared.tree.Mark.TheVariants.{Shape as shape, Dead as dead, Seen as seen, InstanceOf as instance_of, LimitSteps as limit_steps, LimitStrands as limit_strands}
 use Rattle.cp_model.specs.declared.node.Node.{Node}
 use Rattle.cp_sexpr.specs.Syntax.{Form, forms_of}
 use Rattle.cp_language.specs.Faults.{items_of}

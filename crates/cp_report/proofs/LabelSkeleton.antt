@@ -4,7 +4,8 @@ use Rattle.std.specs.Prelude.{map, codes}
 use Rattle.cp_lists.specs.Lists.{IsIn}
 use Rattle.cp_lists.proofs.Members.{in_append_left, in_append_right}
 use Rattle.cp_model.specs.Senders.{ArePaired}
-use Rattle.cp_model.specs.Term.{Variable, AtomTerm, variables_of_atom, Substitution, apply_to, apply_to_atom}
+use Rattle.cp_model.specs.Term.{AtomTerm, variables_of_atom, Substitution, apply_to, apply_to_atom}
+use Rattle.cp_model.specs.declared.variable.Variable.{Variable}
 use Rattle.cp_model.specs.Strand.{Role}
 use Rattle.cp_model.specs.Problem.{variables_of_strands, variables_of_atoms, variables_of_uniques, variables_of_assumptions, variables_of_skeleton}
 use Rattle.cp_model.specs.Skeleton.{term_event_at, UniqueAt, Assumptions, FromProblem, Skeleton, IsSkeleton}

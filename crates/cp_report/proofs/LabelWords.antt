@@ -1,6 +1,6 @@
 -- What a label is printed with: the names of the problem's variables and of its own, their numbers, and its items.
 use Rattle.std.specs.Prelude.{ℕ, List}
-use Rattle.cp_model.specs.Term.{Variable}
+use Rattle.cp_model.specs.declared.variable.Variable.{Variable}
 use Rattle.cp_model.specs.Tree.{Label}
 use Rattle.cp_sexpr.specs.Syntax.{Form}
 use Rattle.cp_language.specs.Names.{problem_names, label_names}

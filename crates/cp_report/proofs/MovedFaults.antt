@@ -8,12 +8,16 @@ use Rattle.cp_base.specs.declared.place.Place.{Place}
 use Rattle.cp_base.specs.declared.place.Code.{Code}
 use Rattle.cp_base.specs.declared.place.Code.TheVariants.{BadShape, NotAtom, IllSorted, KeySort}
 use Rattle.cp_base.specs.declared.place.Refusal.{Refusal}
-use Rattle.cp_model.specs.Term.{Sort, name_sort, skey_sort, akey_sort, Variable}
-use Rattle.cp_model.specs.Strand.{Declaration}
+use Rattle.cp_model.specs.declared.sort.Sort.{Sort}
+use Rattle.cp_model.specs.declared.sort.Sort.TheVariants.{Name as name_sort, Skey as skey_sort, Akey as akey_sort}
+use Rattle.cp_model.specs.declared.variable.Variable.{Variable}
+use Rattle.cp_model.specs.declared.variable.Declaration.{Declaration}
 use Rattle.cp_sexpr.specs.Syntax.{Form, symbol, string, number, list, Forms, none, more}
 use Rattle.cp_sexpr.specs.Pieces.{start}
 use Rattle.cp_sexpr.specs.ReadBack.{unplaced, all_unplaced}
-use Rattle.cp_language.specs.Words.{TermHead, cat, encrypt, long_term_key, public_key, private_key, inverse_key, operation_out_of_profile, no_operation, term_head}
+use Rattle.cp_language.specs.declared.words.TermHead.{TermHead}
+use Rattle.cp_language.specs.declared.words.TermHead.TheVariants.{Cat as cat, Enc as encrypt, Ltk as long_term_key, Pubk as public_key, Privk as private_key, Invk as inverse_key, OutOfProfile as operation_out_of_profile, Unknown as no_operation}
+use Rattle.cp_language.specs.Words.{term_head}
 use Rattle.cp_language.specs.Faults.{fault, fault_unless, place_of, items_of}
 use Rattle.cp_language.specs.Terms.{variable_named, sort_by_head, sort_of, sorts_of, is_sort, admits_atom, sort_faults, key_faults, lacks, exceeds, first_faults, all_faults, sorts_faults, last_key_faults, operation_faults, name_faults, applied_faults, undeclared, term_faults, each_term_faults, atom_faults, as_atom, applied, term_of, terms_of}
 use Rattle.cp_report.proofs.Moved.{all_moved, place_moved, items_moved}

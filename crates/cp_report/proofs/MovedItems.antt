@@ -2,7 +2,7 @@
 -- maplets are the same and fit as well.
 use Rattle.std.proofs.Common.{◌≡◌, ℕ, List, [], ◌∷◌, true, false, refl, ◌∙◌, ap}
 use Rattle.std.specs.Prelude.{Bool, Option, Some, None, map, not, codes, option_map, ◌&&◌, if◌then◌else◌}
-use Rattle.cp_model.specs.Strand.{Declaration}
+use Rattle.cp_model.specs.declared.variable.Declaration.{Declaration}
 use Rattle.cp_model.specs.Same.{same_text}
 use Rattle.cp_sexpr.specs.Syntax.{Form, symbol, string, number, list}
 use Rattle.cp_sexpr.specs.Pieces.{start}

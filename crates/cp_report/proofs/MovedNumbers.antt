@@ -5,7 +5,7 @@ use Rattle.cp_base.specs.declared.place.Place.{Place}
 use Rattle.cp_lists.specs.Lists.{item_at}
 use Rattle.cp_model.specs.Bundle.{node_at}
 use Rattle.cp_model.specs.Skeleton.{SkeletonStrand, term_event_at}
-use Rattle.cp_model.specs.Tree.{by_collapse, by_contraction, by_displacement, by_added_strand, by_added_listener}
+use Rattle.cp_model.specs.declared.tree.Operation.TheVariants.{Collapsed as by_collapse, Contracted as by_contraction, Displaced as by_displacement, AddedStrand as by_added_strand, AddedListener as by_added_listener}
 use Rattle.cp_sexpr.specs.Syntax.{Form, symbol, string, number, list}
 use Rattle.cp_sexpr.specs.Pieces.{start}
 use Rattle.cp_sexpr.specs.ReadBack.{unplaced}
@@ -14,7 +14,9 @@ use Rattle.cp_language.specs.Problems.{is_known, number_of, name_in_front, Probl
 use Rattle.cp_report.specs.Misfits.{entries_misfits, number_misfits}
 use Rattle.cp_report.specs.Heads.{forms_after_head, entries_under}
 use Rattle.cp_report.specs.Skeletons.{strand_number_misfits}
-use Rattle.cp_report.specs.Labels.{is_among, is_number, stated_number, number_in_front, numbers_onto, numbers_in, behind_number, items_of_label, stated_parent, stated_children, has_parent, has_child, has_parent_in, has_child_in, is_label_in, parent_misfits, children_misfits, OperationWord, problem_word, collapsed_word, contracted_word, displaced_word, added_strand_word, added_listener_word, generalised_word, no_operation_word, operation_word, is_operation, block_checks, operation_kinds, operation_misfits, index_misfits, operation_place_misfits, number_stated, node_stated, operation_by, word_of_label}
+use Rattle.cp_report.specs.declared.operations.OperationWord.{OperationWord}
+use Rattle.cp_report.specs.declared.operations.OperationWord.TheVariants.{Problem as problem_word, Collapsed as collapsed_word, Contracted as contracted_word, Displaced as displaced_word, AddedStrand as added_strand_word, AddedListener as added_listener_word, Generalised as generalised_word, Unknown as no_operation_word}
+use Rattle.cp_report.specs.Labels.{is_among, is_number, stated_number, number_in_front, numbers_onto, numbers_in, behind_number, items_of_label, stated_parent, stated_children, has_parent, has_child, has_parent_in, has_child_in, is_label_in, parent_misfits, children_misfits, operation_word, is_operation, block_checks, operation_kinds, operation_misfits, index_misfits, operation_place_misfits, number_stated, node_stated, operation_by, word_of_label}
 use Rattle.cp_report.proofs.Moved.{at_start, all_moved, IsMoved, IsMovedInside, both, unless_moved, entries_moved, AreMoved, entries_misfits_moved, symbol_moved, number_moved, any_number_moved}
 use Rattle.cp_report.proofs.MovedItems.{map_moved, text_moved, number_of_moved, name_in_front_moved, entries_under_moved}
 

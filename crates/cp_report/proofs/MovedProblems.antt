@@ -4,8 +4,10 @@ use Rattle.std.specs.Prelude.{Bool, Option, Some, None, length, not, option_map,
 use Rattle.cp_base.specs.declared.place.Place.{Place}
 use Rattle.cp_base.specs.declared.place.Code.TheVariants.{BadShape, UnknownProtocol, UnknownRole, DuplicateVar, BadHeight, NotInPrefix, UniqNowhere, BadNode, CyclicOrder}
 use Rattle.cp_base.specs.declared.place.Refusal.{Refusal}
-use Rattle.cp_model.specs.Term.{Variable, Term, tag_term}
-use Rattle.cp_model.specs.Strand.{Declaration, Role, Protocol, variables_of_prefix}
+use Rattle.cp_model.specs.Term.{Term, tag_term}
+use Rattle.cp_model.specs.declared.variable.Variable.{Variable}
+use Rattle.cp_model.specs.Strand.{Role, Protocol, variables_of_prefix}
+use Rattle.cp_model.specs.declared.variable.Declaration.{Declaration}
 use Rattle.cp_model.specs.declared.node.Node.{Node}
 use Rattle.cp_model.specs.declared.node.OrderPair.{OrderPair}
 use Rattle.cp_model.specs.Skeleton.{SkeletonStrand, instance, listener, term_event_at, Assumptions}
@@ -16,7 +18,9 @@ use Rattle.cp_model.specs.Same.{has_variable}
 use Rattle.cp_sexpr.specs.Syntax.{Form, symbol, string, number, list}
 use Rattle.cp_sexpr.specs.Pieces.{start}
 use Rattle.cp_sexpr.specs.ReadBack.{unplaced}
-use Rattle.cp_language.specs.Words.{is_one_of, ItemHead, non_item, penetrator_non_item, unique_item, strand_item, listener_item, precedes_item}
+use Rattle.cp_language.specs.declared.words.ItemHead.{ItemHead}
+use Rattle.cp_language.specs.declared.words.ItemHead.TheVariants.{Non as non_item, PenetratorNon as penetrator_non_item, Unique as unique_item, Strand as strand_item, Listener as listener_item, Precedes as precedes_item}
+use Rattle.cp_language.specs.Words.{is_one_of}
 use Rattle.cp_language.specs.Faults.{fault, items_of}
 use Rattle.cp_language.specs.Terms.{variable_named, lacks, exceeds, atom_faults, as_atom, term_of}
 use Rattle.cp_language.specs.Roles.{headed, text_of_symbol, list_items, items_behind, declarations_of, item_or_none, forms_under, is_non_item, is_penetrator_non_item, is_unique_item}

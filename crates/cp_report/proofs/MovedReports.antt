@@ -4,16 +4,20 @@ use Rattle.std.specs.Prelude.{Bool, Option, Some, None, map, length, option_map,
 use Rattle.cp_base.specs.declared.place.Place.{Place}
 use Rattle.cp_base.specs.declared.place.Refusal.{Refusal}
 use Rattle.cp_model.specs.Strand.{Protocol}
-use Rattle.cp_model.specs.Tree.{Outcome, complete, at_step_limit, at_strand_limit, Label, Tree, expanded_count, shapes_of}
+use Rattle.cp_model.specs.Tree.{Label, Tree, expanded_count, shapes_of}
+use Rattle.cp_model.specs.declared.tree.Outcome.{Outcome}
+use Rattle.cp_model.specs.declared.tree.Outcome.TheVariants.{Complete as complete, LimitSteps as at_step_limit, LimitStrands as at_strand_limit}
 use Rattle.cp_model.specs.Same.{same_text}
 use Rattle.cp_sexpr.specs.Syntax.{Form, Forms}
 use Rattle.cp_sexpr.specs.Pieces.{start}
 use Rattle.cp_sexpr.specs.ReadBack.{unplaced, all_unplaced}
-use Rattle.cp_language.specs.Words.{is_one_of, TopHead, protocol_form, problem_form, free_form, top_out_of_profile, no_top, top_head}
+use Rattle.cp_language.specs.declared.words.TopHead.{TopHead}
+use Rattle.cp_language.specs.declared.words.TopHead.TheVariants.{Protocol as protocol_form, Problem as problem_form, Free as free_form, OutOfProfile as top_out_of_profile, Unknown as no_top}
+use Rattle.cp_language.specs.Words.{is_one_of, top_head}
 use Rattle.cp_language.specs.Faults.{place_of, items_of}
 use Rattle.cp_language.specs.Roles.{Headed, headed, text_of_symbol}
 use Rattle.cp_language.specs.Problems.{name_in_front, Problem}
-use Rattle.cp_language.specs.Input.{protocol_names, top_faults, headed_top_faults, protocols_onto, protocols_behind, faults_from, faults_of, Entry, problem_by, stated_problem, entries_from, input_of}
+use Rattle.cp_language.specs.Input.{protocol_names, top_faults, headed_top_faults, protocols_onto, protocols_behind, faults_from, faults_of, Entry, plain_entry, protocol_entry, problem_entry, form_of, stated, entry_of_head, headed_entry, stated_problem, entries_from, input_of}
 use Rattle.cp_report.specs.Misfits.{entries_misfits, symbol_misfits}
 use Rattle.cp_report.specs.Heads.{forms_after_head, is_of_tree, is_label}
 use Rattle.cp_report.specs.Labels.{label_of}
@@ -61,30 +65,45 @@ faults_from_moved above (f ∷ fs) =
     (ap (λ p. headed_top_faults above p (headed (unplaced f))) (place_moved f) ∙ ap (headed_top_faults above start) (headed_moved f) ∙ headed_top_moved above (place_of f) (headed f))
     (ap (λ ps. faults_from ps (all_moved fs)) (protocols_moved f above) ∙ faults_from_moved (protocols_behind (headed f) above) fs)
 
-by_moved : (above : List Protocol) (h : TopHead) (fs : List Form) → problem_by above h (all_moved fs) ≡ problem_by above h fs
-by_moved above problem_form fs = ap Some (problem_of_moved above fs)
-by_moved above protocol_form fs = refl
-by_moved above free_form fs = refl
-by_moved above top_out_of_profile fs = refl
-by_moved above no_top fs = refl
-
-headed_stated_moved : (above : List Protocol) (o : Option Headed) → stated_problem above (option_map headed_at_start o) ≡ stated_problem above o
-headed_stated_moved above None = refl
-headed_stated_moved above (Some h) = by_moved above (top_head h.head) h.items
-
-pub problem_moved : (above : List Protocol) (f : Form) → stated_problem above (headed (unplaced f)) ≡ stated_problem above (headed f)
-problem_moved above f = ap (stated_problem above) (headed_moved f) ∙ headed_stated_moved above (headed f)
-
 -- The same entry, with its form at one place.
 abbrev pub bare : Entry → Entry
-bare e = record { form = unplaced e.form; problem = e.problem }
+bare (plain_entry f) = plain_entry (unplaced f)
+bare (protocol_entry f p) = protocol_entry (unplaced f) p
+bare (problem_entry f p) = problem_entry (unplaced f) p
+
+pub bare_form : (e : Entry) → form_of (bare e) ≡ unplaced (form_of e)
+bare_form (plain_entry f) = refl
+bare_form (protocol_entry f p) = refl
+bare_form (problem_entry f p) = refl
+
+pub bare_stated : (e : Entry) → stated (bare e) ≡ stated e
+bare_stated (plain_entry f) = refl
+bare_stated (protocol_entry f p) = refl
+bare_stated (problem_entry f p) = refl
+
+by_moved : (above : List Protocol) (h : TopHead) (fs : List Form) (f : Form) → entry_of_head above h (all_moved fs) (unplaced f) ≡ bare (entry_of_head above h fs f)
+by_moved above protocol_form fs f = ap (protocol_entry (unplaced f)) (protocol_of_moved fs)
+by_moved above problem_form fs f = ap (problem_entry (unplaced f)) (problem_of_moved above fs)
+by_moved above free_form fs f = refl
+by_moved above top_out_of_profile fs f = refl
+by_moved above no_top fs f = refl
+
+headed_entry_moved : (above : List Protocol) (o : Option Headed) (f : Form) → headed_entry above (option_map headed_at_start o) (unplaced f) ≡ bare (headed_entry above o f)
+headed_entry_moved above None f = refl
+headed_entry_moved above (Some h) f = by_moved above (top_head h.head) h.items f
+
+entry_moved : (above : List Protocol) (f : Form) → headed_entry above (headed (unplaced f)) (unplaced f) ≡ bare (headed_entry above (headed f) f)
+entry_moved above f = ap (λ o. headed_entry above o (unplaced f)) (headed_moved f) ∙ headed_entry_moved above (headed f) f
+
+pub problem_moved : (above : List Protocol) (f : Form) → stated_problem above (unplaced f) ≡ stated_problem above f
+problem_moved above f = ap stated (entry_moved above f) ∙ bare_stated (headed_entry above (headed f) f)
 
 entries_from_moved : (above : List Protocol) (fs : List Form) → entries_from above (all_moved fs) ≡ map bare (entries_from above fs)
 entries_from_moved above [] = refl
 entries_from_moved above (f ∷ fs) =
-    ap (λ o. record { form = unplaced f; problem = o } ∷ entries_from (protocols_behind (headed (unplaced f)) above) (all_moved fs)) (problem_moved above f)
-    ∙ ap (λ ps. record { form = unplaced f; problem = stated_problem above (headed f) } ∷ entries_from ps (all_moved fs)) (protocols_moved f above)
-    ∙ ap (λ es. record { form = unplaced f; problem = stated_problem above (headed f) } ∷ es) (entries_from_moved (protocols_behind (headed f) above) fs)
+    ap (λ e. e ∷ entries_from (protocols_behind (headed (unplaced f)) above) (all_moved fs)) (entry_moved above f)
+    ∙ ap (λ ps. bare (headed_entry above (headed f) f) ∷ entries_from ps (all_moved fs)) (protocols_moved f above)
+    ∙ ap (λ es. bare (headed_entry above (headed f) f) ∷ es) (entries_from_moved (protocols_behind (headed f) above) fs)
 
 -- ---- sections
 
@@ -214,8 +233,8 @@ trees_misfits_moved first above [] = refl
 trees_misfits_moved first above (s ∷ ss) =
     both _ _ _ _
     (ap (λ o. tree_misfits o (next_place start (map section_at_start ss)) (all_moved s.behind)) (problem_moved above s.form)
-    ∙ ap (λ p. tree_misfits (stated_problem above (headed s.form)) p (all_moved s.behind)) (next_moved ss)
-    ∙ tree_misfits_moved (stated_problem above (headed s.form)) (next_place first ss) s.behind)
+    ∙ ap (λ p. tree_misfits (stated_problem above s.form) p (all_moved s.behind)) (next_moved ss)
+    ∙ tree_misfits_moved (stated_problem above s.form) (next_place first ss) s.behind)
     (ap (λ ps. trees_misfits start ps (map section_at_start ss)) (protocols_moved s.form above) ∙ trees_misfits_moved first (protocols_behind (headed s.form) above) ss)
 
 -- ---- the whole
@@ -267,9 +286,9 @@ trees_same : (above : List Protocol) (ss : List Section) → trees_from above (m
 trees_same above [] = refl
 trees_same above (s ∷ ss) =
     ap (λ o. tree_onto o (all_moved s.behind) (trees_from (protocols_behind (headed (unplaced s.form)) above) (map section_at_start ss))) (problem_moved above s.form)
-    ∙ ap (λ ps. tree_onto (stated_problem above (headed s.form)) (all_moved s.behind) (trees_from ps (map section_at_start ss))) (protocols_moved s.form above)
-    ∙ ap (tree_onto (stated_problem above (headed s.form)) (all_moved s.behind)) (trees_same (protocols_behind (headed s.form) above) ss)
-    ∙ onto_same (stated_problem above (headed s.form)) s.behind (trees_from (protocols_behind (headed s.form) above) ss)
+    ∙ ap (λ ps. tree_onto (stated_problem above s.form) (all_moved s.behind) (trees_from ps (map section_at_start ss))) (protocols_moved s.form above)
+    ∙ ap (tree_onto (stated_problem above s.form) (all_moved s.behind)) (trees_same (protocols_behind (headed s.form) above) ss)
+    ∙ onto_same (stated_problem above s.form) s.behind (trees_from (protocols_behind (headed s.form) above) ss)
 
 -- and are the same report, with its forms at one place.
 pub report_moved : (fs : Forms) → report_of (all_unplaced fs) ≡ record { entries = map bare (report_of fs).entries; trees = (report_of fs).trees }

@@ -6,13 +6,23 @@ use Rattle.std.proofs.lemmas.List.{map-append}
 use Rattle.cp_base.specs.declared.place.Place.{Place}
 use Rattle.cp_base.specs.declared.place.Code.TheVariants.{OutOfProfile, BadShape, DuplicateProtocol, DuplicateRole, MesgVar, DuplicateVar, RoleUniqNoOrigin}
 use Rattle.cp_base.specs.declared.place.Refusal.{Refusal}
-use Rattle.cp_model.specs.Term.{Sort, AtomTerm, Term}
-use Rattle.cp_model.specs.Strand.{Event, send, recv, Declaration, Role}
+use Rattle.cp_model.specs.Term.{AtomTerm, Term}
+use Rattle.cp_model.specs.declared.sort.Sort.{Sort}
+use Rattle.cp_model.specs.Strand.{Role}
+use Rattle.cp_model.specs.declared.strand.Event.{Event}
+use Rattle.cp_model.specs.declared.strand.Event.TheVariants.{Send as send, Receive as recv}
+use Rattle.cp_model.specs.declared.variable.Declaration.{Declaration}
 use Rattle.cp_model.specs.Same.{same_text, origin_in}
 use Rattle.cp_sexpr.specs.Syntax.{Form, symbol, string, number, list}
 use Rattle.cp_sexpr.specs.Pieces.{start}
 use Rattle.cp_sexpr.specs.ReadBack.{unplaced}
-use Rattle.cp_language.specs.Words.{is_one_of, heads_out_of_profile, SortWord, of_sort, of_messages, sort_out_of_profile, no_sort, sort_word, EventHead, sending, receiving, event_out_of_profile, no_event, event_head, ItemHead, role_item, non_item, penetrator_non_item, unique_item, item_head}
+use Rattle.cp_language.specs.declared.words.SortWord.{SortWord}
+use Rattle.cp_language.specs.declared.words.SortWord.TheVariants.{Atoms as of_sort, Messages as of_messages, OutOfProfile as sort_out_of_profile, Unknown as no_sort}
+use Rattle.cp_language.specs.declared.words.EventHead.{EventHead}
+use Rattle.cp_language.specs.declared.words.EventHead.TheVariants.{Send as sending, Recv as receiving, OutOfProfile as event_out_of_profile, Unknown as no_event}
+use Rattle.cp_language.specs.declared.words.ItemHead.{ItemHead}
+use Rattle.cp_language.specs.declared.words.ItemHead.TheVariants.{Role as role_item, Non as non_item, PenetratorNon as penetrator_non_item, Unique as unique_item}
+use Rattle.cp_language.specs.Words.{is_one_of, heads_out_of_profile, sort_word, event_head, item_head}
 use Rattle.cp_language.specs.Faults.{fault, place_of, items_of}
 use Rattle.cp_language.specs.Terms.{lacks, term_faults, atom_faults, as_atom, term_of}
 use Rattle.cp_language.specs.Roles.{Headed, headed, text_of_symbol, fixed_head_faults, fixed_faults, items_behind, front_of, last_form, sort_named, is_of_messages, sort_or_text, sort_word_faults, last_sort_faults, identifier_faults, identifiers_faults, declared_identifiers, list_items, declaration_faults, declarations_faults, vars_faults, declared_of, declarations_in, declarations_of, message_faults, event_head_faults, headed_event_faults, event_faults, events_faults, trace_faults, where_faultless, message_of, is_sending, event_of, events_in, events_stated, is_somewhere, unless_faulty, role_unique_faults, each_faults, role_item_faults, headed_item_faults, item_faults, name_faults_at, role_faults, atoms_in, item_or_none, forms_under, is_non_item, is_penetrator_non_item, is_unique_item, role_of, is_role_item, protocol_item_faults, role_name_onto, roles_faults, algebra_faults, protocol_faults, roles_in, protocol_of}

@@ -7,14 +7,16 @@ use Rattle.cp_lists.specs.Lists.{item_at, IsIn, here, there}
 use Rattle.cp_lists.proofs.Items.{item_below}
 use Rattle.cp_lists.proofs.Appended.{none_and}
 use Rattle.cp_model.specs.Skeleton.{SkeletonStrand, skeleton_trace_or_none, term_event_at, IsNodeOf, Skeleton}
-use Rattle.cp_model.specs.Tree.{Operation, by_problem, by_collapse, by_contraction, by_displacement, by_added_strand, by_added_listener, by_generalising}
+use Rattle.cp_model.specs.declared.tree.Operation.{Operation}
+use Rattle.cp_model.specs.declared.tree.Operation.TheVariants.{Problem as by_problem, Collapsed as by_collapse, Contracted as by_contraction, Displaced as by_displacement, AddedStrand as by_added_strand, AddedListener as by_added_listener, Generalised as by_generalising}
 use Rattle.cp_model.specs.declared.node.Node.{Node}
 use Rattle.cp_language.specs.Printed.{numeral, no_place}
 use Rattle.cp_language.specs.Report.{node_form, operation_words}
 use Rattle.cp_language.specs.Problems.{is_known, name_in_front, Problem}
 use Rattle.cp_report.specs.Misfits.{misfit_unless, each_misfits, entries_misfits}
 use Rattle.cp_report.specs.Skeletons.{node_misfits}
-use Rattle.cp_report.specs.Labels.{is_number, OperationWord, operation_word, block_checks, operation_misfits, operation_place_misfits}
+use Rattle.cp_report.specs.declared.operations.OperationWord.{OperationWord}
+use Rattle.cp_report.specs.Labels.{is_number, operation_word, block_checks, operation_misfits, operation_place_misfits}
 use Rattle.cp_report.specs.FittingTrees.{IsOperationOn}
 use Rattle.cp_report.proofs.PrintedMaps.{numbers_same}
 

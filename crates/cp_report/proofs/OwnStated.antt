@@ -7,8 +7,9 @@ use Rattle.cp_lists.specs.Lists.{item_at, IsIn}
 use Rattle.cp_lists.proofs.Items.{map_of_item}
 use Rattle.cp_lists.proofs.Members.{into_map, from_map, into_filter, from_filter}
 use Rattle.cp_model.specs.Senders.{ArePaired}
-use Rattle.cp_model.specs.Term.{Variable, atom_of_variable, AtomTerm, Term, atom_term, variables_of_atom, Substitution, apply_to, apply_to_atom, composed}
-use Rattle.cp_model.specs.Strand.{Declaration}
+use Rattle.cp_model.specs.Term.{variable_term, AtomTerm, Term, atom_term, variables_of_atom, Substitution, apply_to, apply_to_atom, composed}
+use Rattle.cp_model.specs.declared.variable.Variable.{Variable}
+use Rattle.cp_model.specs.declared.variable.Declaration.{Declaration}
 use Rattle.cp_model.specs.Homomorphism.{substitution_by, map_from_problem}
 use Rattle.cp_model.specs.Problem.{IsDeclared}
 use Rattle.cp_model.specs.Skeleton.{SkeletonStrand, term_event_at, UniqueAt, Assumptions, Skeleton}
@@ -17,7 +18,7 @@ use Rattle.cp_model.specs.declared.node.OrderPair.{OrderPair}
 use Rattle.cp_model.specs.Given.{has_atom, has_unique}
 use Rattle.cp_model.specs.Order.{ReachesAlong}
 use Rattle.cp_model.specs.OrderTests.{reaches_within}
-use Rattle.cp_model.proofs.LawTerms.{atom_composed}
+use Rattle.cp_model.proofs.LawTerms.{term_composed, atom_composed}
 use Rattle.cp_model.proofs.LawAgreement.{agree_atom}
 use Rattle.cp_model.proofs.Gathered.{atoms, uniques}
 use Rattle.cp_language.proofs.BoundedSearch.{reaches_all}
@@ -61,13 +62,13 @@ paired_at (c ∷ ds) (t ∷ ts) p (suc i) d e = paired_at ds ts p.1 i d e
 
 module _ (f : Substitution) (ds : List Declaration) (ts : List Term) (paired : ArePaired HasSortOf ds ts) where
   -- the map's terms under the renaming give what its terms give, under the renaming
-  variable_image : (x : Variable) → IsDeclared ds x → apply_to_atom (composed (substitution_by ts) f) (atom_of_variable x) ≡ apply_to_atom (substitution_by (map (apply_to f) ts)) (atom_of_variable x)
+  variable_image : (x : Variable) → IsDeclared ds x → apply_to (composed (substitution_by ts) f) (variable_term x) ≡ apply_to (substitution_by (map (apply_to f) ts)) (variable_term x)
   variable_image x h =
       let d = declared_there ds x h in
       let v = paired_at ds ts paired x.number d.0 d.1 in
       let sorted : sort_of_atom v.0 ≡ x.sort = v.2 ∙ d.2 in
-      atom_composed (substitution_by ts) f (atom_of_variable x)
-      ∙ ap (apply_to_atom f) (value_taken ts x.sort x.number v.0 v.1 sorted)
+      term_composed (substitution_by ts) f (variable_term x)
+      ∙ ap (apply_to f) (value_taken ts x.sort x.number v.0 v.1 sorted)
       ∙ sym (value_taken (map (apply_to f) ts) x.sort x.number (apply_to_atom f v.0) (map_of_item (apply_to f) ts x.number (atom_term v.0) v.1) (sort_kept f v.0 ∙ sorted))
 
   pub atom_image : (v : AtomTerm) → ((x : Variable) → IsIn x (variables_of_atom v) → IsDeclared ds x) → apply_to_atom (substitution_by (map (apply_to f) ts)) v ≡ apply_to_atom f (apply_to_atom (substitution_by ts) v)

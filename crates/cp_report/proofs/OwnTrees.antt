@@ -5,25 +5,26 @@ use Rattle.std.proofs.lemmas.List.{append-nil}
 use Rattle.cp_lists.specs.Lists.{item_at, IsIn, here, there}
 use Rattle.cp_lists.proofs.Members.{in_append, only_item}
 use Rattle.cp_model.specs.Senders.{ArePaired}
-use Rattle.cp_model.specs.Term.{Variable, atom_of_variable, variables_of_atom}
-use Rattle.cp_model.specs.Strand.{Declaration}
+use Rattle.cp_model.specs.Term.{variables_of, variable_term}
+use Rattle.cp_model.specs.declared.variable.Variable.{Variable}
+use Rattle.cp_model.specs.declared.variable.Declaration.{Declaration}
 use Rattle.cp_model.specs.Problem.{variable_terms, declared_sort, IsDeclared, variables_of_skeleton}
 use Rattle.cp_model.specs.PointOfView.{IsPointOfView}
 use Rattle.cp_model.specs.Tree.{Label}
 use Rattle.cp_model.proofs.SingleMaps.{states_itself}
 use Rattle.cp_model.proofs.StatedItself.{keeps_its_own}
-use Rattle.cp_model.proofs.Numbers.{numbers_length}
+use Rattle.cp_model.proofs.NumbersFrom.{numbers_length}
 use Rattle.cp_sexpr.specs.Syntax.{Forms}
 use Rattle.cp_language.specs.Report.{variables_of_terms, occurring}
 use Rattle.cp_language.specs.Problems.{Problem}
-use Rattle.cp_language.specs.Input.{faults_of, Entry, input_of}
+use Rattle.cp_language.specs.Input.{faults_of, Entry, stated, input_of}
 use Rattle.cp_language.specs.Example.{example_input}
 use Rattle.cp_language.proofs.Problems.{are_skeletons, map_to_themselves}
 use Rattle.cp_language.proofs.Example.{is_well_formed}
 use Rattle.cp_report.specs.FittingTrees.{HasSortOf, FitsIn, TreeFits, problems_in}
 use Rattle.cp_report.specs.Laws.{CanBeStated}
 use Rattle.cp_report.specs.Example.{own_label, own_tree, own_trees}
-use Rattle.cp_report.proofs.SpelledTerms.{sort_of_named}
+use Rattle.cp_report.proofs.PrintedStrands.{variable_sorted}
 use Rattle.cp_report.proofs.LabelRead.{paired_map}
 use Rattle.cp_report.proofs.Premises.{problem_listed}
 use Rattle.cp_report.proofs.Inverses.{only_variable}
@@ -32,14 +33,14 @@ use Rattle.cp_report.proofs.Inverses.{only_variable}
 
 their_sorts : (n : ℕ) (ds : List Declaration) → ArePaired HasSortOf ds (variable_terms n ds)
 their_sorts n [] = tt
-their_sorts n (d ∷ ds) = ((atom_of_variable (record { sort = d.sort; number = n }), refl, sort_of_named d.sort n), their_sorts (suc n) ds)
+their_sorts n (d ∷ ds) = (variable_sorted d.sort n, their_sorts (suc n) ds)
 
 -- Variables of these terms are declared.
 declared_from : (n : ℕ) (ds : List Declaration) (x : Variable) → IsIn x (variables_of_terms (variable_terms n ds)) → (i : ℕ) × (x.number ≡ n + i) × (declared_sort (item_at ds i) ≡ Some x.sort)
 declared_from n [] x m = elim m [ ]
-declared_from n (d ∷ ds) x m = ⊎_elim first (λ i. let r = declared_from (suc n) ds x i in (suc r.0, omega (arith, r.1), r.2)) (in_append (variables_of_atom (atom_of_variable (record { sort = d.sort; number = n }))) (variables_of_terms (variable_terms (suc n) ds)) m)
+declared_from n (d ∷ ds) x m = ⊎_elim first (λ i. let r = declared_from (suc n) ds x i in (suc r.0, omega (arith, r.1), r.2)) (in_append (variables_of (variable_term (record { sort = d.sort; number = n }))) (variables_of_terms (variable_terms (suc n) ds)) m)
   where
-    first : IsIn x (variables_of_atom (atom_of_variable (record { sort = d.sort; number = n }))) → (i : ℕ) × (x.number ≡ n + i) × (declared_sort (item_at (d ∷ ds) i) ≡ Some x.sort)
+    first : IsIn x (variables_of (variable_term (record { sort = d.sort; number = n }))) → (i : ℕ) × (x.number ≡ n + i) × (declared_sort (item_at (d ∷ ds) i) ≡ Some x.sort)
     first i =
         let same = only_item (subst (λ (xs : List Variable). IsIn x xs) (only_variable d.sort n) i) in
         let at : x.number ≡ n = ap (λ (y : Variable). y.number) same in
@@ -53,7 +54,7 @@ terms_declared ds x m =
 
 -- ---- one problem
 
-module _ (input : Forms) (well_formed : faults_of input ≡ []) (e : Entry) (listed : IsIn e (input_of input)) (p : Problem) (at : e.problem ≡ Some p) (few : length p.variables < 2 ^ 64) where
+module _ (input : Forms) (well_formed : faults_of input ≡ []) (e : Entry) (listed : IsIn e (input_of input)) (p : Problem) (at : stated e ≡ Some p) (few : length p.variables < 2 ^ 64) where
   own : IsPointOfView p.variables p.skeleton
   own = map_to_themselves input e p well_formed listed at
 
@@ -74,7 +75,7 @@ module _ (input : Forms) (well_formed : faults_of input ≡ []) (e : Entry) (lis
       strands = ap length own.strands ∙ numbers_length 0 p.skeleton.strands;
       values = subst (λ ts. ArePaired HasSortOf p.variables ts) (sym own.values) (their_sorts 0 p.variables);
     };
-    stated = keeps_its_own p.protocol p.variables p.skeleton (are_skeletons input e p well_formed listed at) (states_itself own);
+    stated = keeps_its_own p.variables p.skeleton (states_itself own);
     operation = tt;
     parent = refl;
     unrealised = λ n i. elim i [ ];

@@ -6,14 +6,18 @@ use Rattle.std.proofs.Math.Bool.{or-false, or_assoc}
 use Rattle.cp_lists.specs.Lists.{item_at, IsIn, here, there}
 use Rattle.cp_lists.proofs.Items.{at_place, place_of as place_in}
 use Rattle.cp_lists.proofs.Members.{head_or_behind, at_head, in_either}
-use Rattle.cp_model.specs.Term.{Sort, text_sort, datum_sort, name_sort, skey_sort, akey_sort, Variable, SymmetricTerm, skey_variable, ltk_term, PairTerm, akey_variable, pubk_term, KeyTerm, symmetric_term, asymmetric_term, AtomTerm, text_variable, datum_variable, name_variable, key_term, Term, tag_term, atom_term, pair_term, enc_term, variables_of_symmetric, variables_of_pair, variables_of_key, variables_of_atom, variables_of}
+use Rattle.cp_model.specs.Term.{SymmetricTerm, skey_variable, ltk_term, PairTerm, akey_variable, pubk_term, KeyTerm, symmetric_term, asymmetric_term, AtomTerm, text_variable, datum_variable, name_variable, key_term, Term, tag_term, atom_term, pair_term, enc_term, variables_of_symmetric, variables_of_pair, variables_of_key, variables_of_atom, variables_of}
+use Rattle.cp_model.specs.declared.sort.Sort.{Sort}
+use Rattle.cp_model.specs.declared.sort.Sort.TheVariants.{Text as text_sort, Datum as datum_sort, Name as name_sort, Skey as skey_sort, Akey as akey_sort}
+use Rattle.cp_model.specs.declared.variable.Variable.{Variable}
 use Rattle.cp_model.specs.Same.{same_sort, has_variable}
 use Rattle.cp_model.proofs.SameTests.{same_sort_itself, variable_is, variable_in, in_has_variable}
 use Rattle.cp_sexpr.specs.Syntax.{Form, Forms, none, more, append}
 use Rattle.cp_language.specs.Names.{sort_text}
 use Rattle.cp_language.specs.Printed.{word, numeral, headed_list, no_place, variable, symmetric_form, asymmetric_form, key_form, atom_form, gathered, spine, term_form, locals_in_order, place_among, local_or_name}
+use Rattle.cp_report.specs.declared.locals.LocalAt.{LocalAt}
 use Rattle.cp_report.specs.Misfits.{misfit_unless}
-use Rattle.cp_report.specs.Spelled.{Local, place_of_local, LocalAt, locals_in, locals_in_each, keeps_sort, clash_misfits, has_local, locals_onto, variables_of_locals}
+use Rattle.cp_report.specs.Spelled.{place_of_local, locals_in, locals_in_each, keeps_sort, clash_misfits, has_local, locals_onto, variables_of_locals}
 use Rattle.cp_report.proofs.CoveringPairs.{AreApart}
 
 -- ---- where the locals of a term stand
@@ -83,9 +87,9 @@ module _ (named : Variable → Form) (piece : Variable → List LocalAt) (whole 
 
 abbrev pub piece_of : Variable → Option ℕ → List LocalAt
 piece_of x None = []
-piece_of x (Some i) = record { at = no_place; local = record { sort = x.sort; number = i } } ∷ []
+piece_of x (Some i) = record { place = no_place; local = record { sort = x.sort; number = i } } ∷ []
 
-any_local : (r : Sort) (i : ℕ) → locals_in (headed_list (codes "any") (word (sort_text r) ∷ numeral i ∷ [])) ≡ record { at = no_place; local = record { sort = r; number = i } } ∷ []
+any_local : (r : Sort) (i : ℕ) → locals_in (headed_list (codes "any") (word (sort_text r) ∷ numeral i ∷ [])) ≡ record { place = no_place; local = record { sort = r; number = i } } ∷ []
 any_local text_sort i = refl
 any_local datum_sort i = refl
 any_local name_sort i = refl
@@ -197,7 +201,7 @@ module _ (locals : List Variable) where
 -- ---- reading them back
 
 -- These variables as locals, the first of them having number n.
-abbrev pub numbered_locals : ℕ → List Variable → List Local
+abbrev pub numbered_locals : ℕ → List Variable → List Variable
 numbered_locals n [] = []
 numbered_locals n (x ∷ xs) = record { sort = x.sort; number = n } ∷ numbered_locals (suc n) xs
 
@@ -205,7 +209,7 @@ numbered_push : (n : ℕ) (xs : List Variable) (x : Variable) → numbered_local
 numbered_push n [] x = let z : n ≡ n + 0 = omega arith in ap (λ (k : ℕ). record { sort = x.sort; number = k } ∷ []) z
 numbered_push n (y ∷ xs) x =
     let z : suc n + length xs ≡ n + suc (length xs) = omega arith in
-    ap (λ (ls : List Local). record { sort = y.sort; number = n } ∷ ls) (numbered_push (suc n) xs x ∙ ap (λ (k : ℕ). numbered_locals (suc n) xs ++ record { sort = x.sort; number = k } ∷ []) z)
+    ap (λ (ls : List Variable). record { sort = y.sort; number = n } ∷ ls) (numbered_push (suc n) xs x ∙ ap (λ (k : ℕ). numbered_locals (suc n) xs ++ record { sort = x.sort; number = k } ∷ []) z)
 
 has_below : (n : ℕ) (xs : List Variable) (j : ℕ) → j < length xs → has_local (numbered_locals n xs) (n + j) ≡ true
 has_below n [] j l = absurd (omega (arith, l))
@@ -309,7 +313,7 @@ module _ (locals order : List Variable) (apart : AreApart order) (within : (y : 
           ap (λ (o : Option ℕ). locals_onto (numbered_locals 0 front) (piece_of x o ++ all_pieces placed_piece xs)) placed
           ∙ ap (λ (b : Bool). locals_onto (if b then numbered_locals 0 front else numbered_locals 0 front ++ record { sort = x.sort; number = 0 + length front } ∷ []) (all_pieces placed_piece xs))
           (has_not_past 0 front (0 + length front) (omega arith))
-          ∙ ap (λ (ls : List Local). locals_onto ls (all_pieces placed_piece xs)) (sym (numbered_push 0 front x))
+          ∙ ap (λ (ls : List Variable). locals_onto ls (all_pieces placed_piece xs)) (sym (numbered_push 0 front x))
           ∙ rest (front ++ x ∷ []) (x ∷ seen) agree_more (q ∙ sym (append_assoc front (x ∷ []) (locals_in_order locals (x ∷ seen) xs)))
 
       by : (b : Bool) → has_variable locals x ≡ b → (c : Bool) → has_variable seen x ≡ c
@@ -320,21 +324,21 @@ module _ (locals order : List Variable) (apart : AreApart order) (within : (y : 
 
   -- ---- one number is one local
 
-  abbrev IsOfOrder : Local → Type 0
+  abbrev IsOfOrder : Variable → Type 0
   IsOfOrder l = (y : Variable) × (item_at order l.number ≡ Some y) × (y.sort ≡ l.sort)
 
   piece_of_order : (x : Variable) (o : Option ℕ) → place_among 0 order x ≡ o → (l : LocalAt) → IsIn l (piece_of x o) → IsOfOrder l.local
   piece_of_order x None e l m = elim m [ ]
   piece_of_order x (Some i) e l m = by (head_or_behind m)
     where
-      by : (l ≡ record { at = no_place; local = record { sort = x.sort; number = i } }) ⊎ IsIn l [] → IsOfOrder l.local
+      by : (l ≡ record { place = no_place; local = record { sort = x.sort; number = i } }) ⊎ IsIn l [] → IsOfOrder l.local
       by (inl same) =
           let r = place_holds 0 order x i e in
           let z : r.0 ≡ i = sym (r.1 ∙ omega arith) in
           subst (λ (k : LocalAt). IsOfOrder k.local) (sym same) (x, subst (λ (j : ℕ). item_at order j ≡ Some x) z r.2, refl)
       by (inr i) = elim i [ ]
 
-  keeps : (before : List Local) (l : Local) → ((k : Local) → IsIn k before → IsOfOrder k) → IsOfOrder l → keeps_sort before l ≡ true
+  keeps : (before : List Variable) (l : Variable) → ((k : Variable) → IsIn k before → IsOfOrder k) → IsOfOrder l → keeps_sort before l ≡ true
   keeps [] l all one = refl
   keeps (k ∷ before) l all one = by (k.number == l.number) refl (keeps before l (λ j m. all j (there m)) one)
     where
@@ -347,13 +351,13 @@ module _ (locals order : List Variable) (apart : AreApart order) (within : (y : 
           ap (λ (s : Sort). same_sort s l.sort) r ∙ same_sort_itself l.sort
       by false e rest = rest
 
-  no_clash : (before : List Local) (ls : List LocalAt) → ((k : Local) → IsIn k before → IsOfOrder k) → ((l : LocalAt) → IsIn l ls → IsOfOrder l.local) → clash_misfits before ls ≡ []
+  no_clash : (before : List Variable) (ls : List LocalAt) → ((k : Variable) → IsIn k before → IsOfOrder k) → ((l : LocalAt) → IsIn l ls → IsOfOrder l.local) → clash_misfits before ls ≡ []
   no_clash before [] all others = refl
   no_clash before (l ∷ ls) all others =
-      ap (λ (b : Bool). misfit_unless b l.at ++ clash_misfits (before ++ l.local ∷ []) ls) (keeps before l.local all (others l here))
+      ap (λ (b : Bool). misfit_unless b l.place ++ clash_misfits (before ++ l.local ∷ []) ls) (keeps before l.local all (others l here))
       ∙ no_clash (before ++ l.local ∷ []) ls pushed (λ k m. others k (there m))
     where
-      pushed : (k : Local) → IsIn k (before ++ l.local ∷ []) → IsOfOrder k
+      pushed : (k : Variable) → IsIn k (before ++ l.local ∷ []) → IsOfOrder k
       pushed k m = by (in_either before m)
         where
           by : IsIn k before ⊎ (k ≡ l.local) → IsOfOrder k

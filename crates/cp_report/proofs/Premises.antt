@@ -5,8 +5,9 @@ use Rattle.std.proofs.lemmas.List.{length-append}
 use Rattle.cp_lists.specs.Lists.{item_at, IsIn, here, there}
 use Rattle.cp_lists.proofs.Members.{in_append_left, in_append_right}
 use Rattle.cp_model.specs.Senders.{ArePaired}
-use Rattle.cp_model.specs.Term.{Variable}
-use Rattle.cp_model.specs.Strand.{Declaration, Role}
+use Rattle.cp_model.specs.declared.variable.Variable.{Variable}
+use Rattle.cp_model.specs.Strand.{Role}
+use Rattle.cp_model.specs.declared.variable.Declaration.{Declaration}
 use Rattle.cp_model.specs.Problem.{variables_of_strands, variables_of_atoms, variables_of_uniques}
 use Rattle.cp_model.specs.PointOfView.{IsPointOfView}
 use Rattle.cp_model.specs.Skeleton.{Skeleton}
@@ -18,7 +19,7 @@ use Rattle.cp_sexpr.specs.Syntax.{Forms}
 use Rattle.cp_language.specs.Names.{identifiers_in, first_of, problem_names}
 use Rattle.cp_language.specs.Terms.{variable_named}
 use Rattle.cp_language.specs.Problems.{Problem}
-use Rattle.cp_language.specs.Input.{faults_of, Entry, input_of}
+use Rattle.cp_language.specs.Input.{faults_of, Entry, stated, input_of}
 use Rattle.cp_language.proofs.Problems.{map_to_themselves, roles_are_well_formed, roles_found, variables_found}
 use Rattle.cp_report.specs.UpToNames.{IsReport}
 use Rattle.cp_report.specs.FittingTrees.{FitsIn, TreeFits, problem_onto, problems_in}
@@ -75,7 +76,7 @@ module _ (p : Problem) (own : IsPointOfView p.variables p.skeleton) where
         (in_append_right (variables_of_atoms k.assumptions.non_originating ++ variables_of_atoms k.assumptions.penetrator_non_originating) (in_uniques k.assumptions.uniquely_originating u x (own.assumed.unique u m) i)));
   }
 
-module _ (input : Forms) (well_formed : faults_of input ≡ []) (e : Entry) (listed : IsIn e (input_of input)) (p : Problem) (at : e.problem ≡ Some p) where
+module _ (input : Forms) (well_formed : faults_of input ≡ []) (e : Entry) (listed : IsIn e (input_of input)) (p : Problem) (at : stated e ≡ Some p) where
   role_is_found : (role : Role) (height : ℕ) → IsIn role p.protocol.roles → IsFound p.protocol.roles role height
   role_is_found role height m =
       let r = roles_are_well_formed input e p role well_formed listed at m in
@@ -112,18 +113,18 @@ module _ (input : Forms) (well_formed : faults_of input ≡ []) (e : Entry) (lis
 
 -- ---- all problems
 
-pub problem_listed : (es : List Entry) (p : Problem) → IsIn p (problems_in es) → (e : Entry) × IsIn e es × (e.problem ≡ Some p)
+pub problem_listed : (es : List Entry) (p : Problem) → IsIn p (problems_in es) → (e : Entry) × IsIn e es × (stated e ≡ Some p)
 problem_listed [] p m = elim m [ ]
-problem_listed (e ∷ es) p m = by e.problem refl m (problem_listed es p)
+problem_listed (e ∷ es) p m = by (stated e) refl m (problem_listed es p)
   where
     first : {q : Problem} {qs : List Problem} {A : Type 0} → IsIn p (q ∷ qs) → (p ≡ q → A) → (IsIn p qs → A) → A
     first here f g = f refl
     first (there i) f g = g i
 
-    behind : (f : Entry) × IsIn f es × (f.problem ≡ Some p) → (f : Entry) × IsIn f (e ∷ es) × (f.problem ≡ Some p)
+    behind : (f : Entry) × IsIn f es × (stated f ≡ Some p) → (f : Entry) × IsIn f (e ∷ es) × (stated f ≡ Some p)
     behind r = (r.0, there r.1, r.2)
 
-    by : (o : Option Problem) → e.problem ≡ o → IsIn p (problem_onto o (problems_in es)) → (IsIn p (problems_in es) → (f : Entry) × IsIn f es × (f.problem ≡ Some p)) → (f : Entry) × IsIn f (e ∷ es) × (f.problem ≡ Some p)
+    by : (o : Option Problem) → stated e ≡ o → IsIn p (problem_onto o (problems_in es)) → (IsIn p (problems_in es) → (f : Entry) × IsIn f es × (stated f ≡ Some p)) → (f : Entry) × IsIn f (e ∷ es) × (stated f ≡ Some p)
     by None q i rest = behind (rest i)
     by (Some r) q i rest = first i (λ same. (e, here, q ∙ ap Some (sym same))) (λ j. behind (rest j))
 

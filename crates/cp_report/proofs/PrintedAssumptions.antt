@@ -7,7 +7,10 @@ use Rattle.std.proofs.lemmas.Bool.{both_ways, false_from_ne_true, and_from}
 use Rattle.cp_base.specs.declared.place.Place.{Place}
 use Rattle.cp_lists.specs.Lists.{IsIn, here, there}
 use Rattle.cp_lists.proofs.Members.{in_append, in_append_right, in_pushed, from_map, from_filter}
-use Rattle.cp_model.specs.Term.{Sort, text_sort, datum_sort, name_sort, skey_sort, akey_sort, Variable, SymmetricTerm, skey_variable, ltk_term, PairTerm, akey_variable, pubk_term, symmetric_term, asymmetric_term, AtomTerm, text_variable, datum_variable, name_variable, key_term, variables_of_symmetric, variables_of_pair, variables_of_atom, apply_to_atom}
+use Rattle.cp_model.specs.Term.{SymmetricTerm, skey_variable, ltk_term, PairTerm, akey_variable, pubk_term, symmetric_term, asymmetric_term, AtomTerm, text_variable, datum_variable, name_variable, key_term, variables_of_symmetric, variables_of_pair, variables_of_atom, apply_to_atom}
+use Rattle.cp_model.specs.declared.sort.Sort.{Sort}
+use Rattle.cp_model.specs.declared.sort.Sort.TheVariants.{Text as text_sort, Datum as datum_sort, Name as name_sort, Skey as skey_sort, Akey as akey_sort}
+use Rattle.cp_model.specs.declared.variable.Variable.{Variable}
 use Rattle.cp_model.specs.Given.{has_atom}
 use Rattle.cp_model.proofs.Gathered.{IsGathering, atoms, onto-takes, onto-only}
 use Rattle.cp_sexpr.specs.Syntax.{Form}

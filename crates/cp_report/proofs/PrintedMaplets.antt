@@ -6,8 +6,9 @@ use Rattle.cp_base.specs.declared.place.Place.{Place}
 use Rattle.cp_lists.specs.Lists.{item_at, IsIn, here, there}
 use Rattle.cp_lists.proofs.Items.{at_place}
 use Rattle.cp_lists.proofs.Members.{head_or_behind}
-use Rattle.cp_model.specs.Term.{Variable, Term}
-use Rattle.cp_model.specs.Strand.{Declaration}
+use Rattle.cp_model.specs.Term.{Term}
+use Rattle.cp_model.specs.declared.variable.Variable.{Variable}
+use Rattle.cp_model.specs.declared.variable.Declaration.{Declaration}
 use Rattle.cp_model.specs.Same.{same_text}
 use Rattle.cp_model.proofs.SameTests.{text_is, same_text_itself}
 use Rattle.cp_sexpr.specs.Syntax.{Form}

@@ -1,32 +1,30 @@
 -- The map item as a report prints it fits, and gives strands and terms back.
-use Rattle.std.proofs.Common.{◌≡◌, ℕ, ◌<◌, List, [], ◌∷◌, ◌++◌, length, Bool, true, refl, sym, ap, ◌∙◌, subst, arith, lt-ltb}
+use Rattle.std.proofs.Common.{◌≡◌, ℕ, ◌<◌, List, [], ◌∷◌, ◌++◌, length, Bool, refl, ap, ◌∙◌, arith, lt-ltb}
 use Rattle.std.specs.Prelude.{map}
 use Rattle.cp_base.specs.declared.place.Place.{Place}
 use Rattle.cp_lists.specs.Lists.{IsIn, here, there}
 use Rattle.cp_lists.proofs.Members.{in_append_left, in_append_right}
 use Rattle.cp_model.specs.Senders.{ArePaired}
-use Rattle.cp_model.specs.Term.{Sort, Variable, AtomTerm, Term, atom_term, variables_of, apply_to}
-use Rattle.cp_model.specs.Strand.{Declaration}
+use Rattle.cp_model.specs.Term.{Term, variables_of, apply_to}
+use Rattle.cp_model.specs.declared.variable.Variable.{Variable}
+use Rattle.cp_model.specs.declared.variable.Declaration.{Declaration}
 use Rattle.cp_model.specs.Skeleton.{SkeletonStrand}
-use Rattle.cp_model.specs.Same.{same_sort}
-use Rattle.cp_model.proofs.SameTests.{same_sort_itself}
 use Rattle.cp_sexpr.specs.Syntax.{Form, forms_of}
 use Rattle.cp_language.specs.Faults.{items_of}
-use Rattle.cp_language.specs.Terms.{is_sort}
 use Rattle.cp_language.specs.Problems.{number_of}
 use Rattle.cp_language.specs.Names.{identifiers_in}
 use Rattle.cp_language.specs.Printed.{word, numeral, plain_list, no_place, term_form}
 use Rattle.cp_language.specs.Report.{variables_of_terms, value_forms}
 use Rattle.cp_report.specs.Misfits.{misfit_unless, list_misfits, entries_misfits}
-use Rattle.cp_report.specs.Spelled.{Scope, sort_in, term_in}
+use Rattle.cp_report.specs.Spelled.{Scope, term_in}
 use Rattle.cp_report.specs.Skeletons.{mapping_misfits, values_mapped, named_declarations, strand_number_misfits}
-use Rattle.cp_report.specs.FittingTrees.{sort_of_atom, HasSortOf}
+use Rattle.cp_report.specs.FittingTrees.{HasSortOf}
 use Rattle.cp_report.specs.UpToNames.{renamed, renaming}
-use Rattle.cp_report.proofs.SpelledTerms.{StandsFor, atom_fits, printed_term_fits}
+use Rattle.cp_report.proofs.SpelledTerms.{StandsFor, printed_term_fits}
 use Rattle.cp_report.proofs.CoveringPairs.{AreApart}
 use Rattle.cp_report.proofs.PrintedMaplets.{maplets_of, ValuesFit, mapping_fits, values_back}
 use Rattle.cp_report.proofs.ApartIdentifiers.{all_found}
-use Rattle.cp_report.proofs.PrintedStrands.{items_back, sort_kept}
+use Rattle.cp_report.proofs.PrintedStrands.{items_back, sorted_value}
 
 -- ---- strands
 
@@ -71,13 +69,6 @@ module _ (s : Scope) (named : Variable → Form) (number : Variable → ℕ) whe
       let less : length xs ≡ length ds = omega (arith, e) in
       ap (λ (fs : List Form). plain_list (word x ∷ term_form named t ∷ []) ∷ fs) (maplets_are xs ds ts less)
 
-  one_value : (r : Sort) (v : AtomTerm) → Stand (variables_of (atom_term v)) → sort_of_atom v ≡ r → is_sort r (sort_in s (term_form named (atom_term v))) ≡ true
-  one_value r v h e = ap (is_sort r) (atom_fits s named number v h).sort ∙ ap (same_sort r) (sort_kept (renaming number) v ∙ e) ∙ same_sort_itself r
-
-  sorted_value : (d : Declaration) (t : Term) → Stand (variables_of t) → HasSortOf d t → is_sort d.sort (sort_in s (term_form named t)) ≡ true
-  sorted_value d t h (v, same, sorted) =
-      ap (λ (u : Term). is_sort d.sort (sort_in s (term_form named u))) same ∙ one_value d.sort v (λ x m. h x (subst (λ (u : Term). IsIn x (variables_of u)) (sym same) m)) sorted
-
   terms_fit : (names : List (List ℕ)) (ds : List Declaration) (ts : List Term) → length names ≡ length ds → ArePaired HasSortOf ds ts → Stand (variables_of_terms ts)
       → ValuesFit s (named_declarations names ds) (map (term_form named) ts)
   terms_fit [] [] [] e paired h = tt
@@ -88,7 +79,7 @@ module _ (s : Scope) (named : Variable → Form) (number : Variable → ℕ) whe
   terms_fit (x ∷ xs) (d ∷ ds) (t ∷ ts) e paired h =
       let less : length xs ≡ length ds = omega (arith, e) in
       let first : Stand (variables_of t) = λ y m. h y (in_append_left (variables_of_terms ts) m) in
-      (((printed_term_fits s named number t first).0, sorted_value d t first paired.0), terms_fit xs ds ts less paired.1 (λ y m. h y (in_append_right (variables_of t) m)))
+      (((printed_term_fits s named number t first).0, sorted_value s named number d.sort t first paired.0), terms_fit xs ds ts less paired.1 (λ y m. h y (in_append_right (variables_of t) m)))
 
   -- The maplets of the problem's variables fit,
   pub values_fit : (at : Place) (names : List (List ℕ)) (ds : List Declaration) (ts : List Term) → length names ≡ length ds → AreApart (identifiers_in (named_declarations names ds)) → ArePaired HasSortOf ds ts

@@ -4,8 +4,9 @@ use Rattle.std.specs.Prelude.{Option, Some, None, codes}
 use Rattle.cp_base.specs.declared.place.Place.{Place}
 use Rattle.cp_lists.specs.Lists.{item_at, IsIn}
 use Rattle.cp_lists.proofs.Items.{at_place, item_below, place_of as place_in}
-use Rattle.cp_model.specs.Term.{Variable, Term, variables_of, apply_to}
-use Rattle.cp_model.specs.Strand.{Declaration}
+use Rattle.cp_model.specs.Term.{Term, variables_of, apply_to}
+use Rattle.cp_model.specs.declared.variable.Variable.{Variable}
+use Rattle.cp_model.specs.declared.variable.Declaration.{Declaration}
 use Rattle.cp_model.specs.Pattern.{IsEncryption, IsPattern}
 use Rattle.cp_model.specs.Stated.{IsImageOfOne, AreImages}
 use Rattle.cp_model.specs.Tree.{Pattern}

@@ -4,26 +4,30 @@ use Rattle.std.specs.Prelude.{Option, Some, nat_lt, nat_le, ◌&&◌}
 use Rattle.std.proofs.lemmas.Bool.Decides.{nat_tests}
 use Rattle.cp_base.specs.declared.place.Place.{Place}
 use Rattle.cp_lists.specs.Lists.{item_at, IsIn}
-use Rattle.cp_model.specs.Term.{Sort, text_sort, datum_sort, name_sort, skey_sort, akey_sort, Variable, atom_of_variable, symmetric_term, asymmetric_term, AtomTerm, text_variable, datum_variable, name_variable, key_term, Term, atom_term, variables_of_atom, variables_of, Substitution, apply_to_atom, composed, AgreeOnTerms}
-use Rattle.cp_model.specs.Strand.{Declaration, Role, variables_of_prefix, IsHeight}
+use Rattle.cp_model.specs.Term.{skey_variable, akey_variable, apply_to, variable_term, symmetric_term, asymmetric_term, AtomTerm, text_variable, datum_variable, name_variable, key_term, Term, atom_term, variables_of, Substitution, apply_to_atom, composed, AgreeOnTerms}
+use Rattle.cp_model.specs.declared.sort.Sort.{Sort}
+use Rattle.cp_model.specs.declared.sort.Sort.TheVariants.{Text as text_sort, Datum as datum_sort, Name as name_sort, Skey as skey_sort, Akey as akey_sort}
+use Rattle.cp_model.specs.declared.variable.Variable.{Variable}
+use Rattle.cp_model.specs.Strand.{Role, variables_of_prefix, IsHeight}
+use Rattle.cp_model.specs.declared.variable.Declaration.{Declaration}
 use Rattle.cp_model.specs.Homomorphism.{text_in, datum_in, name_in, skey_in, akey_in, substitution_by}
 use Rattle.cp_model.specs.Problem.{IsDeclared}
 use Rattle.cp_model.specs.Skeleton.{SkeletonStrand, instance, listener}
 use Rattle.cp_model.specs.Same.{same_sort, has_variable}
-use Rattle.cp_model.proofs.LawTerms.{atom_composed}
+use Rattle.cp_model.proofs.LawTerms.{term_composed}
 use Rattle.cp_model.proofs.SameTests.{same_sort_itself, variable_in, in_has_variable}
 use Rattle.cp_sexpr.specs.Syntax.{Form, forms_of}
 use Rattle.cp_language.specs.Faults.{items_of}
 use Rattle.cp_language.specs.Terms.{is_sort}
 use Rattle.cp_language.specs.Problems.{is_known, role_named}
-use Rattle.cp_language.specs.Printed.{word, numeral, plain_list, variable, no_place, atom_form}
+use Rattle.cp_language.specs.Printed.{term_form, word, numeral, plain_list, variable, no_place}
 use Rattle.cp_language.specs.Report.{maplets_from, strand_form}
 use Rattle.cp_report.specs.Misfits.{misfit_unless, unless_misfit}
 use Rattle.cp_report.specs.Spelled.{Scope, term_misfits, sort_in, term_in}
 use Rattle.cp_report.specs.Skeletons.{declared_in_prefix, mapping_misfits, value_mapped, values_mapped, height_misfits, prefix_misfits, strand_misfits, instance_with, strand_of}
 use Rattle.cp_report.specs.FittingTrees.{sort_of_atom}
 use Rattle.cp_report.specs.UpToNames.{renamed, renaming, IsSameStrandUnder}
-use Rattle.cp_report.proofs.SpelledTerms.{StandsFor, sort_of_named, atom_fits, printed_term_fits}
+use Rattle.cp_report.proofs.SpelledTerms.{StandsFor, atom_fits, printed_term_fits}
 use Rattle.cp_report.proofs.PrintedVariables.{declared_there}
 use Rattle.cp_report.proofs.ApartIdentifiers.{NamesOwn, apart_identifiers, all_found, apart_in_prefix}
 use Rattle.cp_report.proofs.PrintedMaplets.{maplets_of, ValuesFit, mapping_fits, value_back}
@@ -40,12 +44,12 @@ sort_kept t (key_term (asymmetric_term flag k)) = refl
 sort_kept t _ = refl
 
 -- An atom of the variable's sort at its number is what the substitution gives it.
-pub value_taken : (ts : List Term) (r : Sort) (n : ℕ) (v : AtomTerm) → item_at ts n ≡ Some (atom_term v) → sort_of_atom v ≡ r → apply_to_atom (substitution_by ts) (atom_of_variable (variable r n)) ≡ v
-value_taken ts text_sort n (text_variable m) e s = ap (λ o. text_variable (text_in n o)) e
-value_taken ts datum_sort n (datum_variable m) e s = ap (λ o. datum_variable (datum_in n o)) e
-value_taken ts name_sort n (name_variable m) e s = ap (λ o. name_variable (name_in n o)) e
-value_taken ts skey_sort n (key_term (symmetric_term k)) e s = ap (λ o. key_term (symmetric_term (skey_in n o))) e
-value_taken ts akey_sort n (key_term (asymmetric_term flag k)) e s = ap (λ o. key_term (asymmetric_term (akey_in n o).0 (akey_in n o).1)) e
+pub value_taken : (ts : List Term) (r : Sort) (n : ℕ) (v : AtomTerm) → item_at ts n ≡ Some (atom_term v) → sort_of_atom v ≡ r → apply_to (substitution_by ts) (variable_term (variable r n)) ≡ atom_term v
+value_taken ts text_sort n (text_variable m) e s = ap (λ o. atom_term (text_variable (text_in n o))) e
+value_taken ts datum_sort n (datum_variable m) e s = ap (λ o. atom_term (datum_variable (datum_in n o))) e
+value_taken ts name_sort n (name_variable m) e s = ap (λ o. atom_term (name_variable (name_in n o))) e
+value_taken ts skey_sort n (key_term (symmetric_term k)) e s = ap (λ o. atom_term (key_term (symmetric_term (skey_in n o)))) e
+value_taken ts akey_sort n (key_term (asymmetric_term flag k)) e s = ap (λ o. atom_term (key_term (asymmetric_term (akey_in n o).0 (akey_in n o).1))) e
 value_taken ts text_sort n (key_term (symmetric_term k)) e s = absurd (cc)
 value_taken ts text_sort n (key_term (asymmetric_term flag k)) e s = absurd (cc)
 value_taken ts datum_sort n (key_term (symmetric_term k)) e s = absurd (cc)
@@ -54,17 +58,47 @@ value_taken ts name_sort n (key_term (symmetric_term k)) e s = absurd (cc)
 value_taken ts name_sort n (key_term (asymmetric_term flag k)) e s = absurd (cc)
 value_taken _ _ _ _ _ s = absurd (cc)
 
+-- The term is an atom of this sort.
+abbrev pub HasSort : Sort → Term → Type 0
+HasSort r t = (v : AtomTerm) × (t ≡ atom_term v) × (sort_of_atom v ≡ r)
+
+-- A variable has its sort.
+pub variable_sorted : (r : Sort) (n : ℕ) → HasSort r (variable_term (variable r n))
+variable_sorted text_sort n = (text_variable n, refl, refl)
+variable_sorted datum_sort n = (datum_variable n, refl, refl)
+variable_sorted name_sort n = (name_variable n, refl, refl)
+variable_sorted skey_sort n = (key_term (symmetric_term (skey_variable n)), refl, refl)
+variable_sorted akey_sort n = (key_term (asymmetric_term false (akey_variable n)), refl, refl)
+
+-- A substitution keeps sorts.
+pub sorted_under : (f : Substitution) (r : Sort) (t : Term) → HasSort r t → HasSort r (apply_to f t)
+sorted_under f r t (v, same, sorted) = (apply_to_atom f v, ap (apply_to f) same, sort_kept f v ∙ sorted)
+
+-- A term of the variable's sort at its number is what the substitution gives it.
+sorted_taken : (ts : List Term) (r : Sort) (n : ℕ) (t : Term) → item_at ts n ≡ Some t → HasSort r t → apply_to (substitution_by ts) (variable_term (variable r n)) ≡ t
+sorted_taken ts r n t e (v, same, sorted) = value_taken ts r n v (e ∙ ap (λ (u : Term). Some u) same) sorted ∙ sym same
+
 values_at : (s : Scope) (fs : List Form) (ds : List Declaration) (i : ℕ) (d : Declaration) → item_at ds i ≡ Some d → item_at (values_mapped s fs ds) i ≡ Some (value_mapped s d.identifier fs)
 values_at s fs [] i d e = absurd (cc)
 values_at s fs (c ∷ ds) zero d e = let p : c ≡ d = cc in ap (λ (x : Declaration). Some (value_mapped s x.identifier fs)) p
 values_at s fs (c ∷ ds) (suc i) d e = values_at s fs ds i d e
 
+-- ---- terms of a sort
+
+module _ (s : Scope) (named : Variable → Form) (number : Variable → ℕ) where
+  -- A term of a sort, as it is printed, has that sort.
+  pub sorted_value : (r : Sort) (t : Term) → ((x : Variable) → IsIn x (variables_of t) → StandsFor s (named x) (renamed number x)) → HasSort r t → is_sort r (sort_in s (term_form named t)) ≡ true
+  sorted_value r t h (v, same, sorted) =
+      ap (λ (u : Term). is_sort r (sort_in s (term_form named u))) same
+      ∙ ap (is_sort r) (atom_fits s named number v (λ x m. h x (subst (λ (u : Term). IsIn x (variables_of u)) (sym same) m))).sort
+      ∙ ap (same_sort r) (sort_kept (renaming number) v ∙ sorted) ∙ same_sort_itself r
+
 -- ---- maplets of a prefix
 
 module _ (s : Scope) (named : Variable → Form) (number : Variable → ℕ) (prefix : List Variable) (terms : Substitution)
-    (stands : (x : Variable) → IsIn x prefix → (y : Variable) → IsIn y (variables_of_atom (apply_to_atom terms (atom_of_variable x))) → StandsFor s (named y) (renamed number y)) where
+    (stands : (x : Variable) → IsIn x prefix → (y : Variable) → IsIn y (variables_of (apply_to terms (variable_term x))) → StandsFor s (named y) (renamed number y)) where
   abbrev value_form : Sort → ℕ → Form
-  value_form r n = atom_form named (apply_to_atom terms (atom_of_variable (variable r n)))
+  value_form r n = term_form named (apply_to terms (variable_term (variable r n)))
 
   abbrev prefix_values : ℕ → List Declaration → List Form
   prefix_values n [] = []
@@ -82,10 +116,10 @@ module _ (s : Scope) (named : Variable → Form) (number : Variable → ℕ) (pr
 
   value_fits : (r : Sort) (n : ℕ) → has_variable prefix (variable r n) ≡ true → (term_misfits s (value_form r n) ≡ []) × (is_sort r (sort_in s (value_form r n)) ≡ true)
   value_fits r n h =
-      let a = atom_fits s named number (apply_to_atom terms (atom_of_variable (variable r n))) (stands (variable r n) (variable_in prefix (variable r n) h)) in
-      let sorted : sort_of_atom (apply_to_atom (renaming number) (apply_to_atom terms (atom_of_variable (variable r n)))) ≡ r
-      = sort_kept (renaming number) (apply_to_atom terms (atom_of_variable (variable r n))) ∙ sort_kept terms (atom_of_variable (variable r n)) ∙ sort_of_named r n in
-      (a.fits, ap (is_sort r) a.sort ∙ ap (same_sort r) sorted ∙ same_sort_itself r)
+      let x = variable r n in
+      let t = apply_to terms (variable_term x) in
+      let stand = stands x (variable_in prefix x h) in
+      ((printed_term_fits s named number t stand).0, sorted_value s named number r t stand (sorted_under terms r (variable_term x) (variable_sorted r n)))
 
   values_fit : (n : ℕ) (ds : List Declaration) → ValuesFit s (declared_in_prefix prefix n ds) (prefix_values n ds)
   values_fit n [] = tt
@@ -138,7 +172,7 @@ module _ (s : Scope) (named : Variable → Form) (number : Variable → ℕ) (pr
 
     -- and the terms of its variables are given back
     pub prefix_agrees : AgreeOnTerms prefix (composed terms (renaming number)) (substitution_by (values_mapped s (maplets_from named prefix terms 0 ds) ds))
-    prefix_agrees x m = atom_composed terms (renaming number) (atom_of_variable x) ∙ sym taken
+    prefix_agrees x m = term_composed terms (renaming number) (variable_term x) ∙ sym taken
       where
         d : (c : Declaration) × (item_at ds x.number ≡ Some c) × (c.sort ≡ x.sort)
         d = declared_there ds x (declared x m)
@@ -157,18 +191,18 @@ module _ (s : Scope) (named : Variable → Form) (number : Variable → ℕ) (pr
             ap (value_mapped s d.0.identifier) (maplets_are 0 ds)
             ∙ value_back s (declared_in_prefix prefix 0 ds) (prefix_values 0 ds) place.0 d.0 (value_form d.0.sort (0 + x.number)) (apart_in_prefix prefix 0 ds (apart_identifiers ds own)) place.1 place.2
 
-        term : term_in s (value_form x.sort x.number) ≡ atom_term (apply_to_atom (renaming number) (apply_to_atom terms (atom_of_variable x)))
-        term = (atom_fits s named number (apply_to_atom terms (atom_of_variable x)) (stands x m)).term
+        term : term_in s (value_form x.sort x.number) ≡ apply_to (renaming number) (apply_to terms (variable_term x))
+        term = (printed_term_fits s named number (apply_to terms (variable_term x)) (stands x m)).1
 
-        at : item_at (values_mapped s (maplets_from named prefix terms 0 ds) ds) x.number ≡ Some (atom_term (apply_to_atom (renaming number) (apply_to_atom terms (atom_of_variable x))))
+        at : item_at (values_mapped s (maplets_from named prefix terms 0 ds) ds) x.number ≡ Some (apply_to (renaming number) (apply_to terms (variable_term x)))
         at =
             values_at s (maplets_from named prefix terms 0 ds) ds x.number d.0 d.1
             ∙ ap (λ (t : Term). Some t) (mapped ∙ ap (λ (k : ℕ). term_in s (value_form d.0.sort k)) z ∙ ap (λ (r : Sort). term_in s (value_form r x.number)) d.2 ∙ term)
 
-        taken : apply_to_atom (substitution_by (values_mapped s (maplets_from named prefix terms 0 ds) ds)) (atom_of_variable x) ≡ apply_to_atom (renaming number) (apply_to_atom terms (atom_of_variable x))
+        taken : apply_to (substitution_by (values_mapped s (maplets_from named prefix terms 0 ds) ds)) (variable_term x) ≡ apply_to (renaming number) (apply_to terms (variable_term x))
         taken =
-            value_taken (values_mapped s (maplets_from named prefix terms 0 ds) ds) x.sort x.number (apply_to_atom (renaming number) (apply_to_atom terms (atom_of_variable x))) at
-            (sort_kept (renaming number) (apply_to_atom terms (atom_of_variable x)) ∙ sort_kept terms (atom_of_variable x) ∙ sort_of_named x.sort x.number)
+            sorted_taken (values_mapped s (maplets_from named prefix terms 0 ds) ds) x.sort x.number (apply_to (renaming number) (apply_to terms (variable_term x))) at
+            (sorted_under (renaming number) x.sort (apply_to terms (variable_term x)) (sorted_under terms x.sort (variable_term x) (variable_sorted x.sort x.number)))
 
 -- ---- strands
 
@@ -184,7 +218,7 @@ pub record IsFound (roles : List Role) (role : Role) (height : ℕ) : Type 0 whe
 -- What stands for the variables of a strand.
 abbrev pub StandIn : Scope → (Variable → Form) → (Variable → ℕ) → SkeletonStrand → Type 0
 StandIn s named number (instance role height terms) =
-    (x : Variable) → IsIn x (variables_of_prefix role height) → (y : Variable) → IsIn y (variables_of_atom (apply_to_atom terms (atom_of_variable x))) → StandsFor s (named y) (renamed number y)
+    (x : Variable) → IsIn x (variables_of_prefix role height) → (y : Variable) → IsIn y (variables_of (apply_to terms (variable_term x))) → StandsFor s (named y) (renamed number y)
 StandIn s named number (listener t) = (x : Variable) → IsIn x (variables_of t) → StandsFor s (named x) (renamed number x)
 
 abbrev pub RoleFits : List Role → SkeletonStrand → Type 0

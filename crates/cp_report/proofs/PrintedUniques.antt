@@ -6,8 +6,10 @@ use Rattle.std.proofs.lemmas.Bool.{and_from}
 use Rattle.cp_base.specs.declared.place.Place.{Place}
 use Rattle.cp_lists.specs.Lists.{item_at, IsIn, here, there}
 use Rattle.cp_model.specs.Senders.{ArePaired}
-use Rattle.cp_model.specs.Term.{Variable, AtomTerm, atom_term, variables_of_atom, apply_to, apply_to_atom}
-use Rattle.cp_model.specs.Strand.{send, event_map}
+use Rattle.cp_model.specs.Term.{AtomTerm, atom_term, variables_of_atom, apply_to, apply_to_atom}
+use Rattle.cp_model.specs.declared.variable.Variable.{Variable}
+use Rattle.cp_model.specs.Strand.{event_map}
+use Rattle.cp_model.specs.declared.strand.Event.TheVariants.{Send as send}
 use Rattle.cp_model.specs.declared.node.Node.{Node}
 use Rattle.cp_model.specs.Skeleton.{SkeletonStrand, term_event_at, UniqueAt, Skeleton, IsOrigin}
 use Rattle.cp_model.specs.Given.{has_unique}

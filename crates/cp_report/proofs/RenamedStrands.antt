@@ -6,7 +6,9 @@ use Rattle.cp_lists.proofs.Members.{in_append, in_append_left, in_append_right, 
 use Rattle.cp_lists.proofs.Items.{mapped_item}
 use Rattle.cp_model.specs.Senders.{ArePaired}
 use Rattle.cp_model.specs.Term.{AtomTerm, Term, atom_term, variables_of, variables_of_atom, Substitution, apply_to, apply_to_atom, composed, AgreeOnTerms}
-use Rattle.cp_model.specs.Strand.{Event, send, recv, payload, event_map, Role, prefix_of, variables_of_trace, variables_of_prefix, Applies, AppliesAt}
+use Rattle.cp_model.specs.Strand.{payload, event_map, Role, prefix_of, variables_of_trace, variables_of_prefix, Applies, AppliesAt}
+use Rattle.cp_model.specs.declared.strand.Event.{Event}
+use Rattle.cp_model.specs.declared.strand.Event.TheVariants.{Send as send, Receive as recv}
 use Rattle.cp_model.specs.Bundle.{node_at}
 use Rattle.cp_model.specs.declared.node.Node.{Node}
 use Rattle.cp_model.specs.Skeleton.{SkeletonStrand, instance, listener, skeleton_trace, skeleton_trace_or_none, term_event_at, UniqueAt}

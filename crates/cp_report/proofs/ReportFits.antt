@@ -14,9 +14,10 @@ use Rattle.cp_language.specs.Words.{is_one_of, top_head}
 use Rattle.cp_language.specs.Faults.{place_of, items_of}
 use Rattle.cp_language.specs.Roles.{Headed, headed}
 use Rattle.cp_language.specs.Problems.{Problem}
-use Rattle.cp_language.specs.Input.{top_faults, headed_top_faults, protocols_behind, faults_from, faults_of, Entry, stated_problem, entries_from, input_of}
+use Rattle.cp_language.specs.Input.{top_faults, headed_top_faults, protocols_behind, faults_from, faults_of, Entry, form_of, stated, stated_problem, entries_from, input_of}
 use Rattle.cp_language.specs.Report.{labels_from, status_form, tree_forms, report_from, report_forms}
 use Rattle.cp_language.specs.Names.{problem_names}
+use Rattle.cp_language.proofs.Entries.{headed_form}
 use Rattle.cp_language.proofs.ValidTests.{one_of}
 use Rattle.cp_report.specs.Heads.{is_headed_by, is_of_tree}
 use Rattle.cp_report.specs.ReadBack.{Section, Sections, with_form, sections_of, input_forms, places_of, tree_misfits, next_place, trees_misfits, fault_places, first_place, misfits, tree_of, tree_onto, trees_from, Report, report_of}
@@ -25,7 +26,7 @@ use Rattle.cp_report.specs.UpToNames.{IsSameTree, IsSameEntry, IsReport}
 use Rattle.cp_report.specs.Laws.{ArePrinted}
 use Rattle.cp_report.proofs.Moved.{at_start}
 use Rattle.cp_report.proofs.PrintedStrands.{items_back}
-use Rattle.cp_report.proofs.MovedReports.{bare, misfits_in, misfits_moved, report_moved}
+use Rattle.cp_report.proofs.MovedReports.{bare, bare_form, bare_stated, misfits_in, misfits_moved, report_moved}
 
 -- ---- forms of the input are none of a tree
 
@@ -93,7 +94,7 @@ record IsReadFrom (first : Place) (above : List Protocol) (fs : List Form) (tree
   fits : trees_misfits first above s.sections ≡ []
   trees_read : ArePaired IsSameTree trees (trees_from above s.sections)
 
-one_more : (first : Place) (above : List Protocol) (f : Form) (fs behind : List Form) (trees rest : List Tree) (s : Sections) (o : Option Problem) → stated_problem above (headed f) ≡ o
+one_more : (first : Place) (above : List Protocol) (f : Form) (fs behind : List Form) (trees rest : List Tree) (s : Sections) (o : Option Problem) → stated_problem above f ≡ o
     → IsReadFrom first (protocols_behind (headed f) above) fs rest s → tree_misfits o (next_place first s.sections) behind ≡ []
     → ArePaired IsSameTree trees (tree_onto o behind (trees_from (protocols_behind (headed f) above) s.sections))
     → IsReadFrom first above (f ∷ fs) trees (record { front = []; sections = record { form = f; behind = behind } ∷ s.sections })
@@ -108,12 +109,14 @@ read_from : (first : Place) (above : List Protocol) (fs : List Form) (trees : Li
     → IsReadFrom first above fs trees (sections_of (report_forms (entries_from above fs) trees))
 read_from first above [] [] input h = record { front = refl; forms = refl; fits = refl; trees_read = tt }
 read_from first above [] (t ∷ ts) input h = absurd h
-read_from first above (f ∷ fs) trees input h = by (stated_problem above (headed f)) refl trees h (λ ts g. read_from first (protocols_behind (headed f) above) fs ts input.1 g)
+read_from first above (f ∷ fs) trees input h =
+    subst (λ (g : Form). IsReadFrom first above (f ∷ fs) trees (sections_of (report_from g (stated_problem above f) trees (report_forms behind)))) (sym (headed_form above (headed f) f))
+    (by (stated_problem above f) refl trees h (λ ts g. read_from first (protocols_behind (headed f) above) fs ts input.1 g))
   where
     behind : List Entry
     behind = entries_from (protocols_behind (headed f) above) fs
 
-    by : (o : Option Problem) → stated_problem above (headed f) ≡ o → (ts : List Tree) → ArePaired Reads (problem_onto o (problems_in behind)) ts
+    by : (o : Option Problem) → stated_problem above f ≡ o → (ts : List Tree) → ArePaired Reads (problem_onto o (problems_in behind)) ts
         → ((us : List Tree) → ArePaired Reads (problems_in behind) us → IsReadFrom first (protocols_behind (headed f) above) fs us (sections_of (report_forms behind us)))
         → IsReadFrom first above (f ∷ fs) ts (sections_of (report_from f o ts (report_forms behind)))
     by None e ts g rest =
@@ -139,14 +142,14 @@ no_places : (ps : List Place) → at_start ps ≡ [] → ps ≡ []
 no_places [] e = refl
 no_places (p ∷ ps) e = absurd (cc)
 
-same_entry : {d e : Entry} → bare d ≡ bare e → IsSameEntry d e
-same_entry q = record { form = ap (λ (x : Entry). x.form) q; problem = ap (λ (x : Entry). x.problem) q }
+same_entry : (d e : Entry) → bare d ≡ bare e → IsSameEntry d e
+same_entry d e q = record { form = sym (bare_form d) ∙ ap form_of q ∙ bare_form e; problem = sym (bare_stated d) ∙ ap stated q ∙ bare_stated e }
 
 same_entries : (ds es : List Entry) → map bare ds ≡ map bare es → ArePaired IsSameEntry ds es
 same_entries [] [] q = tt
 same_entries [] (e ∷ es) q = absurd (cc)
 same_entries (d ∷ ds) [] q = absurd (cc)
-same_entries (d ∷ ds) (e ∷ es) q = let first : bare d ≡ bare e = cc in (same_entry first, same_entries ds es (ap (drop 1) q))
+same_entries (d ∷ ds) (e ∷ es) q = let first : bare d ≡ bare e = cc in (same_entry d e first, same_entries ds es (ap (drop 1) q))
 
 module _ (input : Forms) (trees : List Tree) (well_formed : faults_of input ≡ []) (reads : ArePaired Reads (problems_in (input_of input)) trees) where
   abbrev printed : List Form

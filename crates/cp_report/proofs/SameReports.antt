@@ -5,7 +5,8 @@ use Rattle.cp_lists.specs.Lists.{IsIn, here, there}
 use Rattle.cp_lists.proofs.Items.{place_of}
 use Rattle.cp_lists.proofs.Members.{in_append_left, in_append_right}
 use Rattle.cp_model.specs.Senders.{ArePaired}
-use Rattle.cp_model.specs.Term.{Variable, variables_of}
+use Rattle.cp_model.specs.Term.{variables_of}
+use Rattle.cp_model.specs.declared.variable.Variable.{Variable}
 use Rattle.cp_model.specs.Problem.{variables_of_skeleton}
 use Rattle.cp_model.specs.Pattern.{IsPattern}
 use Rattle.cp_model.specs.Stated.{HasOwnAssumptions}

@@ -6,7 +6,8 @@ use Rattle.cp_lists.specs.Lists.{IsIn, here}
 use Rattle.cp_lists.proofs.Members.{in_append_left}
 use Rattle.cp_lists.proofs.Appended.{none_and}
 use Rattle.cp_model.specs.Senders.{ArePaired}
-use Rattle.cp_model.specs.Term.{Variable, AtomTerm, Substitution, apply_to_atom}
+use Rattle.cp_model.specs.Term.{AtomTerm, Substitution, apply_to_atom}
+use Rattle.cp_model.specs.declared.variable.Variable.{Variable}
 use Rattle.cp_model.specs.Strand.{Role, Applies, AppliesAt}
 use Rattle.cp_model.specs.Problem.{variables_of_atoms, variables_of_assumptions}
 use Rattle.cp_model.specs.Skeleton.{SkeletonStrand, UniqueAt, Assumptions, Skeleton}

@@ -6,8 +6,12 @@ use Rattle.cp_base.specs.declared.place.Place.{Place}
 use Rattle.cp_lists.specs.Lists.{item_at, IsIn}
 use Rattle.cp_lists.proofs.Members.{in_append_left, in_append_right}
 use Rattle.cp_model.specs.Senders.{ArePaired}
-use Rattle.cp_model.specs.Term.{Variable, atom_of_variable, Term, variables_of_atom, Substitution, apply_to, apply_to_atom}
-use Rattle.cp_model.specs.Strand.{Event, send, event_map, Declaration, Role, prefix_of, variables_of_trace, IsHeight}
+use Rattle.cp_model.specs.Term.{variables_of, variable_term, Term, Substitution, apply_to}
+use Rattle.cp_model.specs.declared.variable.Variable.{Variable}
+use Rattle.cp_model.specs.Strand.{event_map, Role, prefix_of, variables_of_trace, IsHeight}
+use Rattle.cp_model.specs.declared.strand.Event.{Event}
+use Rattle.cp_model.specs.declared.strand.Event.TheVariants.{Send as send}
+use Rattle.cp_model.specs.declared.variable.Declaration.{Declaration}
 use Rattle.cp_model.specs.Problem.{variables_of_strands}
 use Rattle.cp_model.specs.Skeleton.{SkeletonStrand, instance, listener, skeleton_trace}
 use Rattle.cp_model.specs.Tree.{Label}
@@ -75,7 +79,7 @@ module _ (p : Problem) (l : Label) (has : HasItsVariables p l) (of_problem : Lis
 
 -- The variables of what a substitution gives a variable of a trace occur in the trace under it.
 abbrev pub IsUnder : Type 0
-IsUnder = (terms : Substitution) (x y : Variable) → IsIn y (variables_of_atom (apply_to_atom terms (atom_of_variable x))) → (es : List (Event Term)) → IsIn x (variables_of_trace es) → IsIn y (variables_of_trace (map (event_map (apply_to terms)) es))
+IsUnder = (terms : Substitution) (x y : Variable) → IsIn y (variables_of (apply_to terms (variable_term x))) → (es : List (Event Term)) → IsIn x (variables_of_trace es) → IsIn y (variables_of_trace (map (event_map (apply_to terms)) es))
 
 module _ (under : IsUnder) (roles : List Role) (s : Scope) (named : Variable → Form) (number : Variable → ℕ) where
   stand_in : (k : SkeletonStrand) → ((x : Variable) → IsIn x (variables_of_trace (skeleton_trace k)) → StandsFor s (named x) (renamed number x)) → StandIn s named number k

@@ -6,26 +6,30 @@ use Rattle.cp_lists.specs.Lists.{IsIn, here, there}
 use Rattle.cp_lists.proofs.Members.{in_append_left, in_append_right}
 use Rattle.cp_lists.proofs.Appended.{none_in_both, none_before, none_and}
 use Rattle.cp_model.proofs.SameTests.{same_sort_itself}
-use Rattle.cp_model.specs.Term.{Sort, name_sort, skey_sort, akey_sort, text_sort, datum_sort, Variable, atom_of_variable, SymmetricTerm, skey_variable, ltk_term, PairTerm, akey_variable, pubk_term, KeyTerm, symmetric_term, asymmetric_term, AtomTerm, text_variable, datum_variable, name_variable, key_term, Term, tag_term, atom_term, pair_term, enc_term, variables_of_symmetric, variables_of_pair, variables_of_key, variables_of_atom, variables_of, inverse_term, apply_to, apply_to_atom, apply_to_key}
-use Rattle.cp_model.specs.Strand.{Declaration}
+use Rattle.cp_model.specs.Term.{variable_term, SymmetricTerm, skey_variable, ltk_term, PairTerm, akey_variable, pubk_term, KeyTerm, symmetric_term, asymmetric_term, AtomTerm, text_variable, datum_variable, name_variable, key_term, Term, tag_term, atom_term, pair_term, enc_term, variables_of_symmetric, variables_of_pair, variables_of_key, variables_of_atom, variables_of, inverse_term, apply_to, apply_to_atom, apply_to_key}
+use Rattle.cp_model.specs.declared.sort.Sort.{Sort}
+use Rattle.cp_model.specs.declared.sort.Sort.TheVariants.{Name as name_sort, Skey as skey_sort, Akey as akey_sort, Text as text_sort, Datum as datum_sort}
+use Rattle.cp_model.specs.declared.variable.Variable.{Variable}
+use Rattle.cp_model.specs.declared.variable.Declaration.{Declaration}
 use Rattle.cp_model.specs.Same.{same_sort}
 use Rattle.cp_sexpr.specs.Syntax.{Form, symbol, string, list, Forms, none, more, append}
 use Rattle.cp_language.specs.Problems.{is_known}
-use Rattle.cp_language.specs.Terms.{variable_named, sort_of_variable, of_atoms, is_sort, admits_atom, as_atom, key_of_name, paired, as_key, as_name, key_as_term, term_of_variable, all_but_last, last_of}
+use Rattle.cp_language.specs.declared.sorts.TermSort.TheVariants.{Atoms as of_atoms}
+use Rattle.cp_language.specs.Terms.{variable_named, sort_of_variable, is_sort, admits_atom, as_atom, key_of_name, paired, as_key, as_name, key_as_term, term_of_variable, all_but_last, last_of}
 use Rattle.cp_language.specs.Roles.{front_of, last_form}
 use Rattle.cp_language.specs.Faults.{place_of, items_of}
 use Rattle.cp_language.specs.Names.{sort_text}
 use Rattle.cp_language.specs.Printed.{word, numeral, headed_list, no_place, variable, symmetric_form, asymmetric_form, key_form, atom_form, gathered, spine, term_form}
 use Rattle.cp_report.specs.Misfits.{misfit_unless, lacking, all_misfits}
 use Rattle.cp_report.specs.Heads.{has_head}
-use Rattle.cp_report.specs.Spelled.{Local, Scope, place_of_local, value_misfits, atom_misfits, atom_in, term_misfits, each_term_misfits, variable_misfits, name_misfits, spread_misfits, key_misfits, last_key_misfits, is_found_of_sort, known_or, sort_in, term_in, terms_in}
+use Rattle.cp_report.specs.Spelled.{Scope, place_of_local, value_misfits, atom_misfits, atom_in, term_misfits, each_term_misfits, variable_misfits, name_misfits, spread_misfits, key_misfits, last_key_misfits, is_found_of_sort, known_or, sort_in, term_in, terms_in}
 use Rattle.cp_report.specs.FittingTrees.{sort_of_atom}
 use Rattle.cp_report.specs.UpToNames.{renamed, renaming}
 
 -- What is used of a form that stands for a variable.
 pub record StandsFor (s : Scope) (f : Form) (y : Variable) : Type 0 where
   pub fits : term_misfits s f ≡ []
-  pub term : term_in s f ≡ atom_term (atom_of_variable y)
+  pub term : term_in s f ≡ variable_term y
   pub as_variable : variable_misfits s y.sort f ≡ []
   pub sort : sort_in s f ≡ Some (of_atoms y.sort)
   pub no_cat : has_head (codes "cat" ∷ []) f ≡ false
@@ -118,26 +122,19 @@ pub record KeyFits (s : Scope) (f : Form) (k : KeyTerm) : Type 0 where
   pub atom : AtomFits s f (key_term k)
   pub key : key_misfits s f ≡ []
 
--- A variable as an atom has its sort.
-pub sort_of_named : (r : Sort) (n : ℕ) → sort_of_atom (atom_of_variable (variable r n)) ≡ r
-sort_of_named text_sort n = refl
-sort_of_named datum_sort n = refl
-sort_of_named name_sort n = refl
-sort_of_named skey_sort n = refl
-sort_of_named akey_sort n = refl
-
-of_variable : (s : Scope) (f : Form) (y : Variable) → StandsFor s f y → AtomFits s f (atom_of_variable y)
-of_variable s f y h = record { fits = h.fits; term = h.term; sort = h.sort ∙ ap (λ r. Some (of_atoms r)) (sym (sort_of_named y.sort y.number)); no_cat = h.no_cat }
+-- A variable that is an atom.
+of_variable : (s : Scope) (f : Form) (y : Variable) (v : AtomTerm) → variable_term y ≡ atom_term v → sort_of_atom v ≡ y.sort → StandsFor s f y → AtomFits s f v
+of_variable s f y v is sorted h = record { fits = h.fits; term = h.term ∙ is; sort = h.sort ∙ ap (λ r. Some (of_atoms r)) (sym sorted); no_cat = h.no_cat }
 
 -- A key of its own head, part by part.
 own_key : {s : Scope} {f : Form} {k : KeyTerm} → term_misfits s f ≡ [] → term_in s f ≡ atom_term (key_term k) → sort_in s f ≡ Some (of_atoms (sort_of_atom (key_term k))) → has_head (codes "cat" ∷ []) f ≡ false → key_misfits s f ≡ [] → KeyFits s f k
 own_key fits term sort no_cat key = record { atom = record { fits = fits; term = term; sort = sort; no_cat = no_cat }; key = key }
 
 key_of_skey : (s : Scope) (f : Form) (n : ℕ) → StandsFor s f (variable skey_sort n) → KeyFits s f (symmetric_term (skey_variable n))
-key_of_skey s f n h = record { atom = of_variable s f (variable skey_sort n) h; key = rw h.sort refl }
+key_of_skey s f n h = record { atom = of_variable s f (variable skey_sort n) (key_term (symmetric_term (skey_variable n))) refl refl h; key = rw h.sort refl }
 
 key_of_akey : (s : Scope) (f : Form) (n : ℕ) → StandsFor s f (variable akey_sort n) → KeyFits s f (asymmetric_term false (akey_variable n))
-key_of_akey s f n h = record { atom = of_variable s f (variable akey_sort n) h; key = rw h.sort refl }
+key_of_akey s f n h = record { atom = of_variable s f (variable akey_sort n) (key_term (asymmetric_term false (akey_variable n))) refl refl h; key = rw h.sort refl }
 
 module _ (s : Scope) (named : Variable → Form) (number : Variable → ℕ) where
   abbrev Stands : List Variable → Type 0
@@ -189,9 +186,9 @@ module _ (s : Scope) (named : Variable → Form) (number : Variable → ℕ) whe
   key_fits (asymmetric_term flag k) h = asymmetric_fits flag k h
 
   pub atom_fits : (v : AtomTerm) → Stands (variables_of_atom v) → AtomFits s (atom_form named v) (apply_to_atom (renaming number) v)
-  atom_fits (text_variable n) h = of_variable s (named (variable text_sort n)) (renamed number (variable text_sort n)) (h (variable text_sort n) here)
-  atom_fits (datum_variable n) h = of_variable s (named (variable datum_sort n)) (renamed number (variable datum_sort n)) (h (variable datum_sort n) here)
-  atom_fits (name_variable n) h = of_variable s (named (variable name_sort n)) (renamed number (variable name_sort n)) (h (variable name_sort n) here)
+  atom_fits (text_variable n) h = of_variable s (named (variable text_sort n)) (renamed number (variable text_sort n)) (text_variable (number (variable text_sort n))) refl refl (h (variable text_sort n) here)
+  atom_fits (datum_variable n) h = of_variable s (named (variable datum_sort n)) (renamed number (variable datum_sort n)) (datum_variable (number (variable datum_sort n))) refl refl (h (variable datum_sort n) here)
+  atom_fits (name_variable n) h = of_variable s (named (variable name_sort n)) (renamed number (variable name_sort n)) (name_variable (number (variable name_sort n))) refl refl (h (variable name_sort n) here)
   atom_fits (key_term k) h = (key_fits k h).atom
 
   -- The items of an encryption.
@@ -292,7 +289,7 @@ identifier_stands s at t y e = record {
 -- ---- locals
 
 -- A local stands for its variable in a pattern.
-pub local_stands : (ds : List Declaration) (ls : List Local) (r : Sort) (i : ℕ) →
+pub local_stands : (ds : List Declaration) (ls : List Variable) (r : Sort) (i : ℕ) →
     StandsFor (record { variables = ds; in_pattern = true; locals = ls }) (headed_list (codes "any") (word (sort_text r) ∷ numeral i ∷ [])) (variable r (length ds + place_of_local ls i))
 local_stands ds ls text_sort i = record { fits = refl; term = refl; as_variable = refl; sort = refl; no_cat = refl; name = λ p. refl; key_of = λ private u. refl }
 local_stands ds ls datum_sort i = record { fits = refl; term = refl; as_variable = refl; sort = refl; no_cat = refl; name = λ p. refl; key_of = λ private u. refl }

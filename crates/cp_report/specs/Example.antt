@@ -1,6 +1,9 @@
 -- Trees that can be stated, for each input: of one label, which is the problem itself.
 use Rattle.std.specs.Prelude.{[], ◌∷◌, List, map, Some, None}
-use Rattle.cp_model.specs.Tree.{by_problem, dead, complete, Label, Tree}
+use Rattle.cp_model.specs.Tree.{Label, Tree}
+use Rattle.cp_model.specs.declared.tree.Operation.TheVariants.{Problem as by_problem}
+use Rattle.cp_model.specs.declared.tree.Mark.TheVariants.{Dead as dead}
+use Rattle.cp_model.specs.declared.tree.Outcome.TheVariants.{Complete as complete}
 use Rattle.cp_sexpr.specs.Syntax.{Forms}
 use Rattle.cp_language.specs.Problems.{Problem}
 use Rattle.cp_language.specs.Input.{input_of}

@@ -2,15 +2,21 @@
 use Rattle.std.specs.Prelude.{◌≡◌, ◌≢◌, ℕ, ◌<◌, ◌≤◌, ◌^◌, List, [], ◌∷◌, length, Option, Some, None}
 use Rattle.cp_lists.specs.Lists.{item_at, IsIn}
 use Rattle.cp_model.specs.Senders.{ArePaired}
-use Rattle.cp_model.specs.Term.{Sort, text_sort, datum_sort, name_sort, skey_sort, akey_sort, AtomTerm, text_variable, datum_variable, name_variable, key_term, symmetric_term, asymmetric_term, Term, atom_term}
-use Rattle.cp_model.specs.Strand.{Declaration}
+use Rattle.cp_model.specs.Term.{AtomTerm, text_variable, datum_variable, name_variable, key_term, symmetric_term, asymmetric_term, Term, atom_term}
+use Rattle.cp_model.specs.declared.sort.Sort.{Sort}
+use Rattle.cp_model.specs.declared.sort.Sort.TheVariants.{Text as text_sort, Datum as datum_sort, Name as name_sort, Skey as skey_sort, Akey as akey_sort}
+use Rattle.cp_model.specs.declared.variable.Declaration.{Declaration}
 use Rattle.cp_model.specs.declared.node.Node.{Node}
 use Rattle.cp_model.specs.Skeleton.{IsNodeOf, Skeleton, IsSkeleton}
 use Rattle.cp_model.specs.Stated.{KeepsStated}
 use Rattle.cp_model.specs.Pattern.{IsPattern}
-use Rattle.cp_model.specs.Tree.{Operation, by_problem, by_collapse, by_contraction, by_displacement, by_added_strand, by_added_listener, by_generalising, Mark, shape, dead, seen, instance_of, limit_steps, limit_strands, Pattern, Test, Label, Tree}
+use Rattle.cp_model.specs.Tree.{Pattern, Test, Label, Tree}
+use Rattle.cp_model.specs.declared.tree.Operation.{Operation}
+use Rattle.cp_model.specs.declared.tree.Operation.TheVariants.{Problem as by_problem, Collapsed as by_collapse, Contracted as by_contraction, Displaced as by_displacement, AddedStrand as by_added_strand, AddedListener as by_added_listener, Generalised as by_generalising}
+use Rattle.cp_model.specs.declared.tree.Mark.{Mark}
+use Rattle.cp_model.specs.declared.tree.Mark.TheVariants.{Shape as shape, Dead as dead, Seen as seen, InstanceOf as instance_of, LimitSteps as limit_steps, LimitStrands as limit_strands}
 use Rattle.cp_language.specs.Problems.{Problem}
-use Rattle.cp_language.specs.Input.{Entry}
+use Rattle.cp_language.specs.Input.{Entry, stated}
 use Rattle.cp_language.specs.Report.{HasItsVariables}
 
 -- ---- the map
@@ -124,4 +130,4 @@ problem_onto (Some p) ps = p ∷ ps
 -- The problems of the input, in order.
 abbrev pub problems_in : List Entry → List Problem
 problems_in [] = []
-problems_in (e ∷ es) = problem_onto e.problem (problems_in es)
+problems_in (e ∷ es) = problem_onto (stated e) (problems_in es)

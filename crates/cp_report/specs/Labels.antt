@@ -5,13 +5,19 @@ use Rattle.cp_lists.specs.Lists.{item_at}
 use Rattle.cp_model.specs.Bundle.{node_at}
 use Rattle.cp_model.specs.declared.node.Node.{Node}
 use Rattle.cp_model.specs.Skeleton.{SkeletonStrand, term_event_at}
-use Rattle.cp_model.specs.Tree.{Operation, by_problem, by_collapse, by_contraction, by_displacement, by_added_strand, by_added_listener, by_generalising, Mark, shape, dead, seen, instance_of, limit_steps, limit_strands, Test, Label}
+use Rattle.cp_model.specs.Tree.{Test, Label}
+use Rattle.cp_model.specs.declared.tree.Operation.{Operation}
+use Rattle.cp_model.specs.declared.tree.Operation.TheVariants.{Problem as by_problem, Collapsed as by_collapse, Contracted as by_contraction, Displaced as by_displacement, AddedStrand as by_added_strand, AddedListener as by_added_listener, Generalised as by_generalising}
+use Rattle.cp_model.specs.declared.tree.Mark.{Mark}
+use Rattle.cp_model.specs.declared.tree.Mark.TheVariants.{Shape as shape, Dead as dead, Seen as seen, InstanceOf as instance_of, LimitSteps as limit_steps, LimitStrands as limit_strands}
 use Rattle.cp_model.specs.Same.{same_text}
 use Rattle.cp_sexpr.specs.Syntax.{Form, number, list}
 use Rattle.cp_language.specs.Words.{is_one_of}
 use Rattle.cp_language.specs.Faults.{place_of}
 use Rattle.cp_language.specs.Roles.{Headed, headed, text_of_symbol}
 use Rattle.cp_language.specs.Problems.{is_known, first_form, second_form, number_of, name_in_front, option_node, Problem}
+use Rattle.cp_report.specs.declared.operations.OperationWord.{OperationWord}
+use Rattle.cp_report.specs.declared.operations.OperationWord.TheVariants.{Problem as problem_word, Collapsed as collapsed_word, Contracted as contracted_word, Displaced as displaced_word, AddedStrand as added_strand_word, AddedListener as added_listener_word, Generalised as generalised_word, Unknown as no_operation_word}
 use Rattle.cp_report.specs.Misfits.{misfit, misfit_unless, unless_misfit, where_fitting, first_or, lacking, each_misfits, entries_misfits, number_misfits, symbol_misfits, any_number_misfits}
 use Rattle.cp_report.specs.Heads.{forms_after_head, item_with, entries_under, optional_misfits, mark_heads, up_to_strands, lines_of_label, order_misfits}
 use Rattle.cp_report.specs.Spelled.{Scope, term_misfits, pattern_misfits, pattern_of}
@@ -96,17 +102,6 @@ children_misfits tree i before (f ∷ fs) =
     number_misfits (λ n. has_parent_in tree i n && not (is_among n before)) f ++ children_misfits tree i (number_of f ∷ before) fs
 
 -- ---- operations
-
--- What the word behind `by` names.
-pub data OperationWord : Type 0 where
-  problem_word : OperationWord
-  collapsed_word : OperationWord
-  contracted_word : OperationWord
-  displaced_word : OperationWord
-  added_strand_word : OperationWord
-  added_listener_word : OperationWord
-  generalised_word : OperationWord
-  no_operation_word : OperationWord
 
 abbrev pub operation_word : List ℕ → OperationWord
 operation_word t =

@@ -3,7 +3,9 @@ use Rattle.std.specs.Prelude.{◌≡◌, ◌==◌, ℕ, suc, List, [], ◌∷◌
 use Rattle.cp_base.specs.declared.place.Place.{Place}
 use Rattle.cp_base.specs.declared.place.Refusal.{Refusal}
 use Rattle.cp_model.specs.Strand.{Protocol}
-use Rattle.cp_model.specs.Tree.{Outcome, complete, at_step_limit, at_strand_limit, Label, Tree, expanded_count, shapes_of}
+use Rattle.cp_model.specs.Tree.{Label, Tree, expanded_count, shapes_of}
+use Rattle.cp_model.specs.declared.tree.Outcome.{Outcome}
+use Rattle.cp_model.specs.declared.tree.Outcome.TheVariants.{Complete as complete, LimitSteps as at_step_limit, LimitStrands as at_strand_limit}
 use Rattle.cp_model.specs.Same.{same_text}
 use Rattle.cp_sexpr.specs.Syntax.{Form, Forms, forms_of}
 use Rattle.cp_language.specs.Words.{is_one_of}
@@ -118,7 +120,7 @@ next_place first (s ∷ ss) = place_of s.form
 abbrev pub trees_misfits : Place → List Protocol → List Section → List Place
 trees_misfits first above [] = []
 trees_misfits first above (s ∷ ss) =
-    tree_misfits (stated_problem above (headed s.form)) (next_place first ss) s.behind ++ trees_misfits first (protocols_behind (headed s.form) above) ss
+    tree_misfits (stated_problem above s.form) (next_place first ss) s.behind ++ trees_misfits first (protocols_behind (headed s.form) above) ss
 
 abbrev pub fault_places : List Refusal → List Place
 fault_places rs = map (λ r. r.place) rs
@@ -149,9 +151,9 @@ tree_onto (Some p) behind trees = tree_of p behind ∷ trees
 
 abbrev pub trees_from : List Protocol → List Section → List Tree
 trees_from above [] = []
-trees_from above (s ∷ ss) = tree_onto (stated_problem above (headed s.form)) s.behind (trees_from (protocols_behind (headed s.form) above) ss)
+trees_from above (s ∷ ss) = tree_onto (stated_problem above s.form) s.behind (trees_from (protocols_behind (headed s.form) above) ss)
 
--- A report: the forms of the input, each with its problem if it states one, and a tree for each problem, in their order.
+-- A report: the forms of the input, each with what it states, and a tree for each problem, in their order.
 pub record Report : Type 0 where
   pub entries : List Entry
   pub trees : List Tree

@@ -3,8 +3,12 @@ use Rattle.std.specs.Prelude.{◌&&◌, ◌||◌, nat_lt, nat_le, ℕ, suc, List
 use Rattle.std.specs.List.{filter}
 use Rattle.cp_base.specs.declared.place.Place.{Place}
 use Rattle.cp_lists.specs.Lists.{item_at}
-use Rattle.cp_model.specs.Term.{AtomTerm, Variable, Term, tag_term, atom_term, apply_to_atom}
-use Rattle.cp_model.specs.Strand.{Event, send, Declaration, Role, variables_of_prefix}
+use Rattle.cp_model.specs.Term.{AtomTerm, Term, tag_term, atom_term, apply_to_atom}
+use Rattle.cp_model.specs.declared.variable.Variable.{Variable}
+use Rattle.cp_model.specs.Strand.{Role, variables_of_prefix}
+use Rattle.cp_model.specs.declared.strand.Event.{Event}
+use Rattle.cp_model.specs.declared.strand.Event.TheVariants.{Send as send}
+use Rattle.cp_model.specs.declared.variable.Declaration.{Declaration}
 use Rattle.cp_model.specs.Bundle.{node_at}
 use Rattle.cp_model.specs.declared.node.Node.{Node}
 use Rattle.cp_model.specs.declared.node.OrderPair.{OrderPair}

@@ -1,31 +1,37 @@
 -- Terms and patterns as a report spells them: where they do not fit, and what they stand for.
 use Rattle.std.specs.Prelude.{◌==◌, ◌&&◌, ◌||◌, ℕ, suc, ◌+◌, List, [], ◌∷◌, ◌++◌, length, map, Bool, true, false, not, codes, if◌then◌else◌, Option, Some, None}
 use Rattle.cp_base.specs.declared.place.Place.{Place}
-use Rattle.cp_model.specs.Term.{Sort, name_sort, skey_sort, akey_sort, Variable, AtomTerm, Term, tag_term}
-use Rattle.cp_model.specs.Strand.{Declaration}
+use Rattle.cp_model.specs.Term.{AtomTerm, Term, tag_term}
+use Rattle.cp_model.specs.declared.sort.Sort.{Sort}
+use Rattle.cp_model.specs.declared.sort.Sort.TheVariants.{Name as name_sort, Skey as skey_sort, Akey as akey_sort}
+use Rattle.cp_model.specs.declared.variable.Variable.{Variable}
+use Rattle.cp_model.specs.declared.variable.Declaration.{Declaration}
 use Rattle.cp_model.specs.Tree.{Pattern}
 use Rattle.cp_model.specs.Same.{same_text, same_sort}
 use Rattle.cp_sexpr.specs.Syntax.{Form, symbol, string, number, list, Forms, none, more}
-use Rattle.cp_language.specs.Words.{SortWord, of_sort, sort_word, TermHead, cat, encrypt, long_term_key, public_key, private_key, inverse_key, operation_out_of_profile, no_operation, term_head}
+use Rattle.cp_language.specs.declared.words.SortWord.{SortWord}
+use Rattle.cp_language.specs.declared.words.SortWord.TheVariants.{Atoms as of_sort}
+use Rattle.cp_language.specs.declared.words.TermHead.{TermHead}
+use Rattle.cp_language.specs.declared.words.TermHead.TheVariants.{Cat as cat, Enc as encrypt, Ltk as long_term_key, Pubk as public_key, Privk as private_key, Invk as inverse_key, OutOfProfile as operation_out_of_profile, Unknown as no_operation}
+use Rattle.cp_language.specs.Words.{sort_word, term_head}
 use Rattle.cp_language.specs.Faults.{place_of, items_of}
-use Rattle.cp_language.specs.Terms.{variable_named, TermSort, of_atoms, of_all, sort_of_variable, is_sort, admits_atom, term_of_variable, as_atom, applied}
+use Rattle.cp_language.specs.declared.sorts.TermSort.{TermSort}
+use Rattle.cp_language.specs.declared.sorts.TermSort.TheVariants.{Atoms as of_atoms, All as of_all}
+use Rattle.cp_language.specs.Terms.{variable_named, sort_of_variable, is_sort, admits_atom, term_of_variable, as_atom, applied}
 use Rattle.cp_language.specs.Roles.{front_of, last_form}
 use Rattle.cp_language.specs.Problems.{is_known}
+use Rattle.cp_report.specs.declared.locals.LocalAt.{LocalAt}
 use Rattle.cp_report.specs.Misfits.{misfit, misfit_unless, unless_misfit, lacking, all_misfits, entries_misfits, symbol_misfits, any_number_misfits}
 use Rattle.cp_report.specs.Heads.{has_head, forms_after_head}
 
 -- ---- variables and locals
 
--- A local of a pattern, as `(any SORT I)` states it.
-pub record Local : Type 0 where
-  pub sort : Sort
-  pub number : ℕ
-
--- What may stand where a variable may: the variables of a label form by their identifiers, and in a pattern its locals.
+-- What may stand where a variable may: the variables of a label form by their identifiers, and in a pattern its locals,
+-- each with the sort and the number that `(any SORT I)` states.
 pub record Scope : Type 0 where
   pub variables : List Declaration
   pub in_pattern : Bool
-  pub locals : List Local
+  pub locals : List Variable
 
 abbrev pub plain_scope : List Declaration → Scope
 plain_scope ds = record { variables = ds; in_pattern = false; locals = [] }
@@ -38,11 +44,11 @@ sort_or_none _ = None
 abbrev pub names_sort : List ℕ → Bool
 names_sort t = is_known (sort_or_none (sort_word t))
 
-abbrev pub local_with : Option Sort → Form → Option Local
+abbrev pub local_with : Option Sort → Form → Option Variable
 local_with (Some s) (number p n) = Some (record { sort = s; number = n })
 local_with _ _ = None
 
-abbrev pub local_by : List Form → Option Local
+abbrev pub local_by : List Form → Option Variable
 local_by (symbol p t ∷ f ∷ []) = local_with (sort_or_none (sort_word t)) f
 local_by _ = None
 
@@ -51,16 +57,16 @@ abbrev pub is_any : Form → Bool
 is_any f = has_head (codes "any" ∷ []) f
 
 -- The local that a form states, if it states one.
-abbrev pub local_of : Form → Option Local
+abbrev pub local_of : Form → Option Variable
 local_of f = if is_any f then local_by (forms_after_head f) else None
 
 -- At which place of the list this number stands first.
-abbrev pub place_of_local : List Local → ℕ → ℕ
+abbrev pub place_of_local : List Variable → ℕ → ℕ
 place_of_local [] n = 0
 place_of_local (l ∷ ls) n = if l.number == n then 0 else suc (place_of_local ls n)
 
 -- The locals are numbered behind the variables, in the order in which they occur.
-abbrev pub variable_of_local : Scope → Option Local → Option Variable
+abbrev pub variable_of_local : Scope → Option Variable → Option Variable
 variable_of_local s None = None
 variable_of_local s (Some l) = Some (record { sort = l.sort; number = length s.variables + place_of_local s.locals l.number })
 
@@ -200,14 +206,9 @@ atom_in s f = as_atom (term_in s f)
 
 -- ---- patterns
 
--- A local, and where it stands.
-pub record LocalAt : Type 0 where
-  pub at : Place
-  pub local : Local
-
-abbrev pub local_at : Place → Option Local → List LocalAt
+abbrev pub local_at : Place → Option Variable → List LocalAt
 local_at at None = []
-local_at at (Some l) = record { at = at; local = l } ∷ []
+local_at at (Some l) = record { place = at; local = l } ∷ []
 
 -- The locals of a form in the order of the text, each as often as it stands.
 abbrev mutual
@@ -222,21 +223,21 @@ abbrev mutual
   locals_in_each (more f fs) = locals_in f ++ locals_in_each fs
 
 -- The local has the sort with which its number stood first.
-abbrev pub keeps_sort : List Local → Local → Bool
+abbrev pub keeps_sort : List Variable → Variable → Bool
 keeps_sort [] l = true
 keeps_sort (m ∷ ms) l = if m.number == l.number then same_sort m.sort l.sort else keeps_sort ms l
 
 -- One number is one local, with one sort.
-abbrev pub clash_misfits : List Local → List LocalAt → List Place
+abbrev pub clash_misfits : List Variable → List LocalAt → List Place
 clash_misfits before [] = []
-clash_misfits before (l ∷ ls) = misfit_unless (keeps_sort before l.local) l.at ++ clash_misfits (before ++ l.local ∷ []) ls
+clash_misfits before (l ∷ ls) = misfit_unless (keeps_sort before l.local) l.place ++ clash_misfits (before ++ l.local ∷ []) ls
 
-abbrev pub has_local : List Local → ℕ → Bool
+abbrev pub has_local : List Variable → ℕ → Bool
 has_local [] n = false
 has_local (l ∷ ls) n = (l.number == n) || has_local ls n
 
 -- Behind those that stood before, the locals whose numbers did not stand yet.
-abbrev pub locals_onto : List Local → List LocalAt → List Local
+abbrev pub locals_onto : List Variable → List LocalAt → List Variable
 locals_onto before [] = before
 locals_onto before (l ∷ ls) = locals_onto (if has_local before l.local.number then before else before ++ l.local ∷ []) ls
 
@@ -248,7 +249,7 @@ abbrev pub pattern_misfits : List Declaration → Form → List Place
 pattern_misfits ds f = misfit_unless (has_head (codes "enc" ∷ []) f) (place_of f) ++ term_misfits (pattern_scope ds f) f ++ clash_misfits [] (locals_in f)
 
 -- The locals as variables, the first of them with number n.
-abbrev pub variables_of_locals : ℕ → List Local → List Variable
+abbrev pub variables_of_locals : ℕ → List Variable → List Variable
 variables_of_locals n [] = []
 variables_of_locals n (l ∷ ls) = record { sort = l.sort; number = n } ∷ variables_of_locals (suc n) ls
 

@@ -2,7 +2,10 @@
 use Rattle.std.specs.Prelude.{◌≡◌, ◌↔◌, ℕ, List, [], false, map, Option, Some, None}
 use Rattle.cp_lists.specs.Lists.{IsIn}
 use Rattle.cp_model.specs.Senders.{ArePaired}
-use Rattle.cp_model.specs.Term.{Sort, text_sort, datum_sort, name_sort, skey_sort, akey_sort, Variable, skey_variable, akey_variable, variables_of, Substitution, apply_to, apply_to_atom, composed, AgreeOnTerms}
+use Rattle.cp_model.specs.Term.{skey_variable, akey_variable, variables_of, Substitution, apply_to, apply_to_atom, composed, AgreeOnTerms}
+use Rattle.cp_model.specs.declared.sort.Sort.{Sort}
+use Rattle.cp_model.specs.declared.sort.Sort.TheVariants.{Text as text_sort, Datum as datum_sort, Name as name_sort, Skey as skey_sort, Akey as akey_sort}
+use Rattle.cp_model.specs.declared.variable.Variable.{Variable}
 use Rattle.cp_model.specs.Strand.{variables_of_prefix}
 use Rattle.cp_model.specs.declared.node.Node.{Node}
 use Rattle.cp_model.specs.Skeleton.{SkeletonStrand, instance, listener, UniqueAt, Assumptions, Skeleton, Before}
@@ -10,7 +13,7 @@ use Rattle.cp_model.specs.Stated.{AreImages}
 use Rattle.cp_model.specs.Tree.{Pattern, Test, Label, Tree}
 use Rattle.cp_sexpr.specs.Syntax.{Forms}
 use Rattle.cp_sexpr.specs.ReadBack.{unplaced}
-use Rattle.cp_language.specs.Input.{Entry}
+use Rattle.cp_language.specs.Input.{Entry, form_of, stated}
 use Rattle.cp_language.specs.Report.{occurring}
 use Rattle.cp_report.specs.ReadBack.{misfits, Report, report_of}
 
@@ -105,8 +108,8 @@ pub record IsSameTree (t u : Tree) : Type 0 where
 
 -- The same form but for places, which states the same problem.
 pub record IsSameEntry (d e : Entry) : Type 0 where
-  pub form : unplaced d.form ≡ unplaced e.form
-  pub problem : d.problem ≡ e.problem
+  pub form : unplaced (form_of d) ≡ unplaced (form_of e)
+  pub problem : stated d ≡ stated e
 
 pub record IsSameReport (r s : Report) : Type 0 where
   pub entries : ArePaired IsSameEntry r.entries s.entries

@@ -1,6 +1,10 @@
-//! A report read back: which forms are a report, what they denote, and at which place others fit none. Only definitions
-//! and their laws. The definitions say which forms fit and what they denote without referring to what is printed.
+//! A report read back: which forms are a report, what they denote, and at which place others fit none. Only definitions,
+//! plain types that these share with the program, and laws. The definitions say which forms fit and what they denote without
+//! referring to what is printed.
 #![tactic(auto)]
+
+mod locals;
+mod operations;
 
 ghost use Rattle.std.specs.Prelude.{◌≡◌, List, Result};
 ghost use Rattle.cp_base.specs.declared.place.Place.{Place};
@@ -13,6 +17,9 @@ ghost use Rattle.cp_report.specs.ReadBack.{Report, IsReadBack};
 ghost use Rattle.cp_report.specs.UpToNames.{IsReport, IsSameReport};
 ghost use Rattle.cp_sexpr.specs.Syntax.{Forms, forms_of};
 ghost use Rattle.cp_language.specs.Example.{example_input};
+
+pub use locals::LocalAt;
+pub use operations::OperationWord;
 
 /// Reading forms back has exactly one answer: the report that they are, or else the first place at which they fit none.
 #[tactic(auto, using(crate::proofs::OneAnswer::one_answer, crate::proofs::OneAnswer::some_answer))]

@@ -1,8 +1,11 @@
 -- The roles that are read declare the variables of their events.
 use Rattle.std.proofs.Common.{◌≡◌, List, [], ◌∷◌, subst}
 use Rattle.cp_lists.specs.Lists.{IsIn}
-use Rattle.cp_model.specs.Term.{Variable, Term}
-use Rattle.cp_model.specs.Strand.{Event, Declaration, Role, variables_of_trace}
+use Rattle.cp_model.specs.Term.{Term}
+use Rattle.cp_model.specs.declared.variable.Variable.{Variable}
+use Rattle.cp_model.specs.Strand.{Role, variables_of_trace}
+use Rattle.cp_model.specs.declared.strand.Event.{Event}
+use Rattle.cp_model.specs.declared.variable.Declaration.{Declaration}
 use Rattle.cp_model.specs.Problem.{IsDeclared}
 use Rattle.cp_sexpr.specs.Syntax.{Form}
 use Rattle.cp_language.specs.Roles.{events_stated, roles_in}

@@ -7,12 +7,16 @@ use Rattle.cp_base.specs.declared.place.Place.{Place}
 use Rattle.cp_base.specs.declared.place.Code.TheVariants.{BadShape, DuplicateRole}
 use Rattle.cp_base.specs.declared.place.Refusal.{Refusal}
 use Rattle.cp_model.specs.Term.{Term}
-use Rattle.cp_model.specs.Strand.{Event, Declaration, Role}
+use Rattle.cp_model.specs.Strand.{Role}
+use Rattle.cp_model.specs.declared.strand.Event.{Event}
+use Rattle.cp_model.specs.declared.variable.Declaration.{Declaration}
 use Rattle.cp_sexpr.specs.Syntax.{Form, symbol, string, number, list}
 use Rattle.cp_sexpr.specs.View.{view}
 use Rattle.cp_sexpr.specs.declared.form.Form as program
 use Rattle.cp_model.specs.Same.{same_text}
-use Rattle.cp_language.specs.Words.{is_one_of, ItemHead, role_item, non_item, penetrator_non_item, unique_item, strand_item, listener_item, precedes_item, comment_item, item_out_of_profile, no_item, item_head}
+use Rattle.cp_language.specs.declared.words.ItemHead.{ItemHead}
+use Rattle.cp_language.specs.declared.words.ItemHead.TheVariants.{Role as role_item, Non as non_item, PenetratorNon as penetrator_non_item, Unique as unique_item, Strand as strand_item, Listener as listener_item, Precedes as precedes_item, Comment as comment_item, OutOfProfile as item_out_of_profile, Unknown as no_item}
+use Rattle.cp_language.specs.Words.{is_one_of, item_head}
 use Rattle.cp_language.specs.Faults.{fault, place_of}
 use Rattle.cp_language.specs.Roles.{Headed, headed, name_faults_at, vars_faults, declarations_of, trace_faults, events_stated, each_faults, item_faults, headed_item_faults, role_item_faults, role_faults, role_of, is_role_item, protocol_item_faults, role_name_onto, roles_faults, roles_in, item_or_none, items_behind}
 use Rattle.cp_scope.specs.FirstFault.{first_onto}

@@ -1,7 +1,8 @@
 -- The terms of an instance's variables.
 use Rattle.std.specs.Prelude.{◌≡◌, ◌++◌, ◌&&◌, ℕ, List, [], ◌∷◌, Bool, not, if◌then◌else◌, Option, Some, None}
-use Rattle.cp_model.specs.Term.{Variable, Term, tag_term}
-use Rattle.cp_model.specs.Strand.{Declaration}
+use Rattle.cp_model.specs.Term.{Term, tag_term}
+use Rattle.cp_model.specs.declared.variable.Variable.{Variable}
+use Rattle.cp_model.specs.declared.variable.Declaration.{Declaration}
 use Rattle.cp_sexpr.specs.Syntax.{Form}
 use Rattle.cp_language.specs.Words.{is_one_of}
 use Rattle.cp_model.specs.Same.{has_variable}

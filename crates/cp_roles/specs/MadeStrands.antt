@@ -1,6 +1,7 @@
 -- The strands of a problem, and the variables that are made for them.
 use Rattle.std.specs.Prelude.{◌≡◌, ◌++◌, ℕ, List, Option, Some, None}
-use Rattle.cp_model.specs.Strand.{Declaration, Role}
+use Rattle.cp_model.specs.Strand.{Role}
+use Rattle.cp_model.specs.declared.variable.Declaration.{Declaration}
 use Rattle.cp_model.specs.Skeleton.{SkeletonStrand, instance}
 use Rattle.cp_model.specs.Homomorphism.{substitution_by}
 use Rattle.cp_sexpr.specs.Syntax.{Form}

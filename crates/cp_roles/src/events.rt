@@ -4,9 +4,7 @@ ghost use Rattle.cp_sexpr.specs.View.{view};
 ghost use Rattle.cp_language.specs.Words.{event_head};
 ghost use Rattle.cp_language.specs.Terms.{term_faults, term_of};
 ghost use Rattle.cp_language.specs.Roles.{headed, message_faults, event_head_faults, event_faults, events_faults, trace_faults, where_faultless, message_of, event_of, events_in, events_stated, items_behind};
-ghost use Rattle.cp_strand.specs.View.{declaration_view, event_view};
 ghost use Rattle.cp_scope.specs.FirstFault.{first_onto};
-ghost use Rattle.cp_scope.specs.Heads.{event_head_view};
 
 use cp_base::{Code, Place};
 use cp_scope::{
@@ -21,7 +19,7 @@ use std::alloc::{AllocError, Global};
 /// Notes the faults of the items after the head of a transmission or a reception. There must be one message; two items
 /// mean a channel.
 fn message_faults(variables: &[Declaration], place: Place, items: &[Form], first: &mut FirstFault)
-    ensures { first.new ≡ first_onto first.old (message_faults (map declaration_view variables.now) place (map view items.now)) }
+    ensures { first.new ≡ first_onto first.old (message_faults variables.now place (map view items.now)) }
 {
     match items {
         [] => first.note(place, Code::BadShape),
@@ -37,7 +35,7 @@ fn message_faults(variables: &[Declaration], place: Place, items: &[Form], first
 
 /// Notes the faults of an event.
 fn event_faults(variables: &[Declaration], form: &Form, first: &mut FirstFault)
-    ensures { first.new ≡ first_onto first.old (event_faults (map declaration_view variables.now) (view form.now)) }
+    ensures { first.new ≡ first_onto first.old (event_faults variables.now (view form.now)) }
 {
     let Some(list) = headed(form) else {
         first.note(place_of(form), Code::BadShape);
@@ -57,7 +55,7 @@ fn event_faults(variables: &[Declaration], form: &Form, first: &mut FirstFault)
 
 /// Notes the faults of the events of a trace.
 fn events_faults(variables: &[Declaration], items: &[Form], first: &mut FirstFault)
-    ensures { first.new ≡ first_onto first.old (events_faults (map declaration_view variables.now) (map view items.now)) }
+    ensures { first.new ≡ first_onto first.old (events_faults variables.now (map view items.now)) }
 {
     for item in items {
         event_faults(variables, item, first);
@@ -66,7 +64,7 @@ fn events_faults(variables: &[Declaration], items: &[Form], first: &mut FirstFau
 
 /// Notes the faults of a trace.
 pub(crate) fn trace_faults(variables: &[Declaration], form: &Form, first: &mut FirstFault)
-    ensures { first.new ≡ first_onto first.old (trace_faults (map declaration_view variables.now) (view form.now)) }
+    ensures { first.new ≡ first_onto first.old (trace_faults variables.now (view form.now)) }
 {
     if let Some(list) = fixed(form, b"trace", first) {
         lacks(1, list.place, list.items, first);
@@ -76,7 +74,7 @@ pub(crate) fn trace_faults(variables: &[Declaration], form: &Form, first: &mut F
 
 /// What a term stands for, or a placeholder if it has faults.
 fn faultless_term(alloc: Global, variables: &[Declaration], form: &Form) -> Result<Term, AllocError>
-    ensures { IfOk result (λ t. t ≡ where_faultless (term_faults (map declaration_view variables.now) (view form.now)) (term_of (map declaration_view variables.now) (view form.now))) }
+    ensures { IfOk result (λ t. t ≡ where_faultless (term_faults variables.now (view form.now)) (term_of variables.now (view form.now))) }
 {
     let mut faults = FirstFault::new();
     term_faults(variables, form, &mut faults);
@@ -89,7 +87,7 @@ fn faultless_term(alloc: Global, variables: &[Declaration], form: &Form) -> Resu
 
 /// The message of a transmission or a reception with these items after its head.
 fn message_of(alloc: Global, variables: &[Declaration], items: &[Form]) -> Result<Term, AllocError>
-    ensures { IfOk result (λ t. t ≡ message_of (map declaration_view variables.now) (map view items.now)) }
+    ensures { IfOk result (λ t. t ≡ message_of variables.now (map view items.now)) }
 {
     match items {
         [message, ..] => faultless_term(alloc, variables, message),
@@ -100,7 +98,7 @@ fn message_of(alloc: Global, variables: &[Declaration], items: &[Form]) -> Resul
 /// The event that a form stands for. What stands for a form with faults has no meaning, but its message has no
 /// variables.
 fn event_of(alloc: Global, variables: &[Declaration], form: &Form) -> Result<Event, AllocError>
-    ensures { IfOk result (λ e. event_view e ≡ event_of (map declaration_view variables.now) (headed (view form.now))) }
+    ensures { IfOk result (λ e. e ≡ event_of variables.now (headed (view form.now))) }
 {
     let Some(list) = headed(form) else {
         return Ok(Event::Send(no_term(alloc)?));
@@ -118,7 +116,7 @@ pub(crate) fn events_of(
     variables: &[Declaration],
     form: &Form,
 ) -> Result<Vec<Event>, AllocError>
-    ensures { IfOk result (λ v. map event_view v.items ≡ events_stated (map declaration_view variables.now) (view form.now)) }
+    ensures { IfOk result (λ v. v.items ≡ events_stated variables.now (view form.now)) }
 {
     let items = items_behind(form);
     let mut events = Vec::new(alloc);

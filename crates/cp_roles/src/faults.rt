@@ -3,10 +3,8 @@ ghost use Rattle.std.specs.Prelude.{◌≡◌, ◌&&◌, nat_lt, nat_le, length,
 ghost use Rattle.cp_sexpr.specs.View.{view};
 ghost use Rattle.cp_language.specs.Words.{is_one_of};
 ghost use Rattle.cp_language.specs.Problems.{role_named, role_name_faults, height_faults, role_variable_faults, mapped_faults, maplet_items_faults, maplet_faults, second_term_faults, maplets_faults, maplets_faults_of, instance_faults, listener_faults, number_of};
-ghost use Rattle.cp_strand.specs.View.{declaration_view};
 ghost use Rattle.cp_scope.specs.FirstFault.{first_onto};
 ghost use Rattle.cp_roles.specs.Named.{shared_roles_view};
-ghost use Rattle.cp_scope.specs.Terms.{variable_view};
 ghost use Rattle.cp_roles.specs.Mapped.{mapped_names};
 
 use crate::event_variables::occurs;
@@ -66,8 +64,8 @@ fn role_variable_faults(
     variable: Option<Variable>,
     first: &mut FirstFault,
 )
-    ensures { first.new ≡ first_onto first.old (role_variable_faults role.now height (map declaration_view variables.now) place
-        (option_map (λ f. view f.now) term.entry) (option_map variable_view variable)) }
+    ensures { first.new ≡ first_onto first.old (role_variable_faults role.now height variables.now place
+        (option_map (λ f. view f.now) term.entry) variable) }
 {
     let Some(variable) = variable else {
         first.note(place, Code::UnknownVar);
@@ -107,7 +105,7 @@ fn mapped_faults(
     term: Option<&Form>,
     first: &mut FirstFault,
 )
-    ensures { first.new ≡ first_onto first.old (mapped_faults role.now height (map declaration_view variables.now) (mapped_names (map view before.now))
+    ensures { first.new ≡ first_onto first.old (mapped_faults role.now height variables.now (mapped_names (map view before.now))
         (view form.now) (option_map (λ f. view f.now) term.entry)) }
 {
     let Form::Symbol(place, identifier) = form else {
@@ -123,7 +121,7 @@ fn mapped_faults(
 
 /// Notes the faults of the term on the right of a maplet, if there is one.
 fn second_term_faults(variables: &[Declaration], term: Option<&Form>, first: &mut FirstFault)
-    ensures { first.new ≡ first_onto first.old (second_term_faults (map declaration_view variables.now) (option_map (λ f. view f.now) term.entry)) }
+    ensures { first.new ≡ first_onto first.old (second_term_faults variables.now (option_map (λ f. view f.now) term.entry)) }
 {
     if let Some(term) = term {
         term_faults(variables, term, first);
@@ -140,7 +138,7 @@ fn maplet_items_faults(
     items: &[Form],
     first: &mut FirstFault,
 )
-    ensures { first.new ≡ first_onto first.old (maplet_items_faults role.now height (map declaration_view variables.now) (mapped_names (map view before.now))
+    ensures { first.new ≡ first_onto first.old (maplet_items_faults role.now height variables.now (mapped_names (map view before.now))
         place (map view items.now)) }
 {
     let Some((form, rest)) = items.split_first() else {
@@ -163,7 +161,7 @@ fn maplet_faults(
     form: &Form,
     first: &mut FirstFault,
 )
-    ensures { first.new ≡ first_onto first.old (maplet_faults role.now height (map declaration_view variables.now) (mapped_names (map view before.now)) (view form.now)) }
+    ensures { first.new ≡ first_onto first.old (maplet_faults role.now height variables.now (mapped_names (map view before.now)) (view form.now)) }
 {
     match form {
         Form::List(place, items) => maplet_items_faults(
@@ -181,7 +179,7 @@ fn maplets_faults(
     maplets: &[Form],
     first: &mut FirstFault,
 )
-    ensures { first.new ≡ first_onto first.old (maplets_faults role.now height (map declaration_view variables.now) [] (map view maplets.now)) }
+    ensures { first.new ≡ first_onto first.old (maplets_faults role.now height variables.now [] (map view maplets.now)) }
 {
     for (number, maplet) in maplets.iter().enumerate() {
         maplet_faults(
@@ -213,7 +211,7 @@ fn maplets_faults_of(
     maplets: &[Form],
     first: &mut FirstFault,
 )
-    ensures { first.new ≡ first_onto first.old (maplets_faults_of (option_map (λ r. r.now.value) role.entry) (view height.now) (map declaration_view variables.now) (map view maplets.now)) }
+    ensures { first.new ≡ first_onto first.old (maplets_faults_of (option_map (λ r. r.now.value) role.entry) (view height.now) variables.now (map view maplets.now)) }
 {
     if let Some(role) = role {
         maplets_faults(role, number_of(height), variables, maplets, first);
@@ -228,7 +226,7 @@ pub fn instance_faults(
     items: &[Form],
     first: &mut FirstFault,
 )
-    ensures { first.new ≡ first_onto first.old (instance_faults (shared_roles_view roles.now) (map declaration_view variables.now) place (map view items.now)) }
+    ensures { first.new ≡ first_onto first.old (instance_faults (shared_roles_view roles.now) variables.now place (map view items.now)) }
 {
     let [name, height, maplets @ ..] = items else {
         first.note(place, Code::BadShape);
@@ -247,7 +245,7 @@ pub fn listener_faults(
     items: &[Form],
     first: &mut FirstFault,
 )
-    ensures { first.new ≡ first_onto first.old (listener_faults (map declaration_view variables.now) place (map view items.now)) }
+    ensures { first.new ≡ first_onto first.old (listener_faults variables.now place (map view items.now)) }
 {
     let Some((term, rest)) = items.split_first() else {
         first.note(place, Code::BadShape);

@@ -5,8 +5,6 @@ ghost use Rattle.cp_sexpr.specs.View.{view};
 ghost use Rattle.cp_language.specs.Words.{is_one_of};
 ghost use Rattle.cp_language.specs.Problems.{mapped_identifier, second_form, term_mapped, term_or_fresh, is_fresh, instantiated};
 ghost use Rattle.cp_language.specs.Roles.{list_items};
-ghost use Rattle.cp_strand.specs.View.{sort_view, declaration_view, event_view};
-ghost use Rattle.cp_scope.specs.Terms.{variable_view};
 ghost use Rattle.cp_roles.specs.InstanceTerms.{maplet_named, term_if_there, wants_fresh, IsInstantiated};
 
 use crate::event_variables::occurs;
@@ -42,7 +40,7 @@ fn maplet_named<'a>(maplets: &'a [Form], identifier: &[u8]) -> Option<&'a Form>
 
 /// The term on the right of a maplet.
 fn right_term(alloc: Global, variables: &[Declaration], maplet: &Form) -> Result<Term, AllocError>
-    ensures { IfOk result (λ t. t ≡ term_if_there (map declaration_view variables.now) (second_form (list_items (view maplet.now)))) }
+    ensures { IfOk result (λ t. t ≡ term_if_there variables.now (second_form (list_items (view maplet.now)))) }
 {
     match item_at(list_items(maplet), 1) {
         Some(term) => term_of(alloc, variables, term),
@@ -57,7 +55,7 @@ fn term_mapped(
     identifier: &[u8],
     maplets: &[Form],
 ) -> Result<Option<Term>, AllocError>
-    ensures { IfOk result (λ o. o ≡ term_mapped (map declaration_view variables.now) identifier.now (map view maplets.now)) }
+    ensures { IfOk result (λ o. o ≡ term_mapped variables.now identifier.now (map view maplets.now)) }
 {
     match maplet_named(maplets, identifier) {
         Some(maplet) => Ok(Some(right_term(alloc, variables, maplet)?)),
@@ -73,7 +71,7 @@ fn term_or_fresh(
     sort: Sort,
     next: usize,
 ) -> Result<Term, AllocError>
-    ensures { IfOk result (λ t. t ≡ term_or_fresh mapped is_fresh (sort_view sort) next) }
+    ensures { IfOk result (λ t. t ≡ term_or_fresh mapped is_fresh sort next) }
 {
     match mapped {
         Some(term) => Ok(term),
@@ -84,14 +82,14 @@ fn term_or_fresh(
 
 /// Whether a variable is made for this variable of a role, which is mapped to this term.
 fn is_fresh(prefix: &[Event], mapped: &Option<Term>, variable: Variable) -> bool
-    ensures { result ≡ wants_fresh (variables_of_trace (map event_view prefix.now)) mapped.now (variable_view variable) }
+    ensures { result ≡ wants_fresh (variables_of_trace prefix.now) mapped.now variable }
 {
     mapped.is_none() && occurs(prefix, variable)
 }
 
 /// Appends a copy of a declaration.
 fn add_copy(declaration: &Declaration, all: &mut Vec<Declaration>) -> Result<(), AllocError>
-    ensures { OnOk result (map declaration_view all.new.items ≡ map declaration_view all.old.items ++ declaration_view declaration.now ∷ []) }
+    ensures { OnOk result (all.new.items ≡ all.old.items ++ declaration.now ∷ []) }
 {
     let identifier = declaration.identifier.copy()?;
     all.push(Declaration {
@@ -106,7 +104,7 @@ pub fn copies_of(
     alloc: Global,
     declarations: &[Declaration],
 ) -> Result<Vec<Declaration>, AllocError>
-    ensures { IfOk result (λ v. map declaration_view v.items ≡ map declaration_view declarations.now) }
+    ensures { IfOk result (λ v. v.items ≡ declarations.now) }
 {
     let mut copies = Vec::new(alloc);
     for declaration in declarations {
@@ -121,8 +119,8 @@ fn add_if(
     declaration: &Declaration,
     all: &mut Vec<Declaration>,
 ) -> Result<(), AllocError>
-    ensures { OnOk result (map declaration_view all.new.items
-        ≡ map declaration_view all.old.items ++ (if holds then declaration_view declaration.now ∷ [] else [])) }
+    ensures { OnOk result (all.new.items
+        ≡ all.old.items ++ (if holds then declaration.now ∷ [] else [])) }
 {
     if holds {
         add_copy(declaration, all)?;
@@ -140,12 +138,12 @@ fn variable_value(
     declaration: &Declaration,
     all: &mut Vec<Declaration>,
 ) -> Result<Term, AllocError>
-    ensures term { IfOk result (λ t. t ≡ term_or_fresh (term_mapped (map declaration_view declared.now) (declaration_view declaration.now).identifier (map view maplets.now))
-        (is_fresh (variables_of_trace (map event_view prefix.now)) (map declaration_view declared.now) (map view maplets.now) number (declaration_view declaration.now))
-        (declaration_view declaration.now).sort (length all.old.items)) }
-    ensures fresh { OnOk result (map declaration_view all.new.items ≡ map declaration_view all.old.items
-        ++ (if is_fresh (variables_of_trace (map event_view prefix.now)) (map declaration_view declared.now) (map view maplets.now) number (declaration_view declaration.now)
-        then declaration_view declaration.now ∷ [] else [])) }
+    ensures term { IfOk result (λ t. t ≡ term_or_fresh (term_mapped declared.now declaration.now.identifier (map view maplets.now))
+        (is_fresh (variables_of_trace prefix.now) declared.now (map view maplets.now) number declaration.now)
+        declaration.now.sort (length all.old.items)) }
+    ensures fresh { OnOk result (all.new.items ≡ all.old.items
+        ++ (if is_fresh (variables_of_trace prefix.now) declared.now (map view maplets.now) number declaration.now
+        then declaration.now ∷ [] else [])) }
 {
     let sort = declaration.sort;
     let mapped = term_mapped(
@@ -169,8 +167,8 @@ pub(crate) fn instantiated(
     maplets: &[Form],
     all: &mut Vec<Declaration>,
 ) -> Result<Vec<Term>, AllocError>
-    ensures { IfOk result (λ v. IsInstantiated (instantiated (variables_of_trace (map event_view prefix.now)) (map declaration_view declared.now) (map view maplets.now)
-        (length all.old.items) 0 (map declaration_view variables.now)) v.items (map declaration_view all.old.items) (map declaration_view all.new.items)) }
+    ensures { IfOk result (λ v. IsInstantiated (instantiated (variables_of_trace prefix.now) declared.now (map view maplets.now)
+        (length all.old.items) 0 variables.now) v.items all.old.items all.new.items) }
 {
     let mut terms = Vec::new(alloc);
     for (number, declaration) in variables.iter().enumerate() {

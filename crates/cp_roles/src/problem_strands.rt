@@ -6,7 +6,7 @@ ghost use Rattle.cp_model.specs.Term.{tag_term};
 ghost use Rattle.cp_sexpr.specs.View.{view};
 ghost use Rattle.cp_language.specs.Problems.{number_of, instance_by, name_in_front, role_named, listened_term, strand_by, strands_from};
 ghost use Rattle.cp_language.specs.Roles.{headed, item_or_none, items_behind};
-ghost use Rattle.cp_strand.specs.View.{declaration_view, strand_view};
+ghost use Rattle.cp_strand.specs.View.{strand_view};
 ghost use Rattle.cp_roles.specs.Named.{shared_roles_view};
 ghost use Rattle.cp_roles.specs.MadeStrands.{instance_made, IsMade, IsMadeIf, AreMade};
 
@@ -28,8 +28,8 @@ fn instance_of_role(
     maplets: &[Form],
     all: &mut Vec<Declaration>,
 ) -> Result<Strand, AllocError>
-    ensures { IfOk result (λ s. IsMade (instance_made role.now.value (map declaration_view declared.now) (length all.old.items) (number_of (view height.now)) (map view maplets.now))
-        (strand_view s) (map declaration_view all.old.items) (map declaration_view all.new.items)) }
+    ensures { IfOk result (λ s. IsMade (instance_made role.now.value declared.now (length all.old.items) (number_of (view height.now)) (map view maplets.now))
+        (strand_view s) all.old.items all.new.items) }
 {
     let height = number_of(height);
     let values = instantiated(
@@ -53,7 +53,7 @@ fn no_strand(alloc: Global) -> Result<Strand, AllocError>
 
 /// The listener with these items after its head.
 fn listener(alloc: Global, variables: &[Declaration], items: &[Form]) -> Result<Strand, AllocError>
-    ensures { IfOk result (λ s. strand_view s ≡ listener (listened_term (map declaration_view variables.now) (map view items.now))) }
+    ensures { IfOk result (λ s. strand_view s ≡ listener (listened_term variables.now (map view items.now))) }
 {
     match items {
         [message, ..] => Strand::listener(alloc, term_of(alloc, variables, message)?),
@@ -69,8 +69,8 @@ fn instance(
     items: &[Form],
     all: &mut Vec<Declaration>,
 ) -> Result<Strand, AllocError>
-    ensures { IfOk result (λ s. IsMade (instance_by (role_named (shared_roles_view roles.now) (name_in_front (map view items.now))) (map declaration_view declared.now) (length all.old.items) (map view items.now))
-        (strand_view s) (map declaration_view all.old.items) (map declaration_view all.new.items)) }
+    ensures { IfOk result (λ s. IsMade (instance_by (role_named (shared_roles_view roles.now) (name_in_front (map view items.now))) declared.now (length all.old.items) (map view items.now))
+        (strand_view s) all.old.items all.new.items) }
 {
     let [name, height, maplets @ ..] = items else {
         return no_strand(alloc);
@@ -89,9 +89,9 @@ fn strand(
     item: &Form,
     all: &mut Vec<Declaration>,
 ) -> Result<Option<Strand>, AllocError>
-    ensures { IfOk result (λ s. IsMadeIf (strand_by (shared_roles_view roles.now) (map declaration_view declared.now) (length all.old.items)
+    ensures { IfOk result (λ s. IsMadeIf (strand_by (shared_roles_view roles.now) declared.now (length all.old.items)
         (item_or_none (headed (view item.now))) (items_behind (headed (view item.now))))
-        (option_map strand_view s) (map declaration_view all.old.items) (map declaration_view all.new.items)) }
+        (option_map strand_view s) all.old.items all.new.items) }
 {
     let Some(list) = headed(item) else {
         return Ok(None);
@@ -121,8 +121,8 @@ pub fn strands(
     items: &[Form],
     all: &mut Vec<Declaration>,
 ) -> Result<Vec<Strand>, AllocError>
-    ensures { IfOk result (λ v. AreMade (strands_from (shared_roles_view roles.now) (map declaration_view declared.now) (length all.old.items) (map view items.now))
-        (map strand_view v.items) (map declaration_view all.old.items) (map declaration_view all.new.items)) }
+    ensures { IfOk result (λ v. AreMade (strands_from (shared_roles_view roles.now) declared.now (length all.old.items) (map view items.now))
+        (map strand_view v.items) all.old.items all.new.items) }
 {
     let mut strands = Vec::new(alloc);
     for item in items {

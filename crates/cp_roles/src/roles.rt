@@ -6,7 +6,6 @@ ghost use Rattle.cp_language.specs.Words.{is_one_of};
 ghost use Rattle.cp_language.specs.Faults.{fault};
 ghost use Rattle.cp_language.specs.Roles.{each_faults, item_faults, role_item_faults, name_faults_at, role_faults, role_of, protocol_item_faults, roles_faults, roles_in, algebra_faults, protocol_faults, protocol_of, role_name_onto, headed};
 ghost use Rattle.cp_language.specs.Problems.{role_named};
-ghost use Rattle.cp_strand.specs.View.{declaration_view, event_view};
 ghost use Rattle.cp_scope.specs.FirstFault.{first_onto};
 ghost use Rattle.cp_roles.specs.Named.{role_names, shared_roles_view, with_role};
 
@@ -25,7 +24,7 @@ use std::rc::Rc;
 /// Notes the faults of an item of a role with these variables and this trace.
 fn role_item_faults(scope: Scope<'_>, form: &Form, first: &mut FirstFault) -> Result<(), AllocError>
     ensures { OnOk result (first.new ≡ first_onto first.old
-        (item_faults (role_item_faults (map declaration_view scope.entry.variables.now) (map event_view scope.entry.trace.now)) (view form.now))) }
+        (item_faults (role_item_faults scope.entry.variables.now scope.entry.trace.now) (view form.now))) }
 {
     let Some(list) = headed(form) else {
         first.note(place_of(form), Code::BadShape);
@@ -48,7 +47,7 @@ fn role_items_faults(
     first: &mut FirstFault,
 ) -> Result<(), AllocError>
     ensures { OnOk result (first.new ≡ first_onto first.old
-        (each_faults (item_faults (role_item_faults (map declaration_view scope.entry.variables.now) (map event_view scope.entry.trace.now))) (map view items.now))) }
+        (each_faults (item_faults (role_item_faults scope.entry.variables.now scope.entry.trace.now)) (map view items.now))) }
 {
     for item in items {
         role_item_faults(scope, item, first)?;

@@ -3,7 +3,6 @@ ghost use Rattle.std.specs.Prelude.{◌≡◌, map, OnOk};
 ghost use Rattle.cp_model.specs.Same.{origin_in};
 ghost use Rattle.cp_sexpr.specs.View.{view};
 ghost use Rattle.cp_language.specs.Roles.{each_faults, role_unique_faults};
-ghost use Rattle.cp_strand.specs.View.{declaration_view, event_view};
 ghost use Rattle.cp_scope.specs.FirstFault.{first_onto};
 
 use cp_base::Code;
@@ -23,7 +22,7 @@ pub(crate) struct Scope<'a> {
 
 /// The index among the events at which a term originates, if it does.
 fn origin(events: &[Event], value: &Term) -> Option<usize>
-    ensures { result ≡ origin_in (map event_view events.now) value.now }
+    ensures { result ≡ origin_in events.now value.now }
 {
     cp_strand::origin(events, value)
 }
@@ -36,7 +35,7 @@ fn role_unique_faults(
     first: &mut FirstFault,
 ) -> Result<(), AllocError>
     ensures { OnOk result (first.new ≡ first_onto first.old
-        (role_unique_faults (map declaration_view scope.entry.variables.now) (map event_view scope.entry.trace.now) (view form.now))) }
+        (role_unique_faults scope.entry.variables.now scope.entry.trace.now (view form.now))) }
 {
     let value = term_of(scope.alloc, scope.variables, form)?;
     let mut inside = FirstFault::new();
@@ -57,7 +56,7 @@ pub(crate) fn role_uniques_faults(
     first: &mut FirstFault,
 ) -> Result<(), AllocError>
     ensures { OnOk result (first.new ≡ first_onto first.old
-        (each_faults (role_unique_faults (map declaration_view scope.entry.variables.now) (map event_view scope.entry.trace.now)) (map view items.now))) }
+        (each_faults (role_unique_faults scope.entry.variables.now scope.entry.trace.now) (map view items.now))) }
 {
     for item in items {
         role_unique_faults(scope, item, first)?;

@@ -2,8 +2,12 @@
 use Rattle.std.proofs.Common.{◌≡◌, ℕ, suc, ◌<◌, List, Some, length, map, sym, ap, ◌∙◌, subst, arith}
 use Rattle.cp_lists.proofs.Mapped.{map_alike}
 use Rattle.cp_lists.specs.Lists.{item_at, IsIn, one_step, more_steps}
-use Rattle.cp_model.specs.Term.{Variable, atom_of_variable, Term, atom_term, Substitution, apply_to_atom, apply_to}
-use Rattle.cp_model.specs.Strand.{Event, send, recv, Role, Declaration, Protocol}
+use Rattle.cp_model.specs.Term.{Term, Substitution, apply_to_atom, apply_to, variable_term}
+use Rattle.cp_model.specs.declared.variable.Variable.{Variable}
+use Rattle.cp_model.specs.Strand.{Role, Protocol}
+use Rattle.cp_model.specs.declared.strand.Event.{Event}
+use Rattle.cp_model.specs.declared.strand.Event.TheVariants.{Send as send, Receive as recv}
+use Rattle.cp_model.specs.declared.variable.Declaration.{Declaration}
 use Rattle.cp_model.specs.Bundle.{node_at}
 use Rattle.cp_model.specs.declared.node.Node.{Node}
 use Rattle.cp_model.specs.Skeleton.{instance, listener, term_event_at, Skeleton, OrderStep, along_strand_of, along_pair, Before, IsOrderPair, IsSkeleton}
@@ -68,11 +72,11 @@ module _ (k l : Skeleton) (f g : ℕ → ℕ) (terms : Substitution) (protocol :
 -- ---- the terms of declared variables
 
 -- Substitutions that give the declared variables the same terms agree on them.
-agree_declared : (ds : List Declaration) (f g : Substitution) → map (apply_to f) (variable_terms 0 ds) ≡ map (apply_to g) (variable_terms 0 ds) → (x : Variable) → IsDeclared ds x → apply_to_atom f (atom_of_variable x) ≡ apply_to_atom g (atom_of_variable x)
+agree_declared : (ds : List Declaration) (f g : Substitution) → map (apply_to f) (variable_terms 0 ds) ≡ map (apply_to g) (variable_terms 0 ds) → (x : Variable) → IsDeclared ds x → apply_to f (variable_term x) ≡ apply_to g (variable_term x)
 agree_declared ds f g e x is =
     let at = declared_at ds x is in
-    let u : Term = atom_term (atom_of_variable x) in
-    let one : Some (atom_term (apply_to_atom f (atom_of_variable x))) ≡ Some (atom_term (apply_to_atom g (atom_of_variable x))) =
+    let u : Term = variable_term x in
+    let one : Some (apply_to f u) ≡ Some (apply_to g u) =
     sym (map_of_item (apply_to f) (variable_terms 0 ds) x.number u at) ∙ ap (λ (ts : List Term). item_at ts x.number) e ∙ map_of_item (apply_to g) (variable_terms 0 ds) x.number u at in
     cc
 
@@ -100,7 +104,7 @@ module _ (protocol : Protocol) (variables : List Declaration) (k l : Skeleton) (
   same_terms : map (apply_to (substitution_by l.from_problem.values)) k.from_problem.values ≡ map (apply_to f) k.from_problem.values
   same_terms = ap (λ (s : Substitution). map (apply_to s) k.from_problem.values) by_values ∙ under.values
 
-  agree : (x : Variable) → IsDeclared variables x → apply_to_atom f (atom_of_variable x) ≡ apply_to_atom (substitution_by l.from_problem.values) (atom_of_variable x)
+  agree : (x : Variable) → IsDeclared variables x → apply_to f (variable_term x) ≡ apply_to (substitution_by l.from_problem.values) (variable_term x)
   agree = agree_declared variables f (substitution_by l.from_problem.values) (subst (λ (ts : List Term). map (apply_to f) ts ≡ map (apply_to (substitution_by l.from_problem.values)) ts) own.values (sym same_terms))
 
   by_its_map : IsHomomorphism k l (map_from_problem l)

@@ -4,7 +4,8 @@ use Rattle.std.proofs.Common.{ℕ, List, [], ◌∷◌, map, subst, ⊎_elim}
 use Rattle.cp_lists.specs.Lists.{IsIn, here, there}
 use Rattle.cp_lists.proofs.Members.{in_append, from_map}
 use Rattle.cp_model.specs.Skeleton.{Skeleton}
-use Rattle.cp_model.specs.Tree.{Operation, by_problem, by_collapse}
+use Rattle.cp_model.specs.declared.tree.Operation.{Operation}
+use Rattle.cp_model.specs.declared.tree.Operation.TheVariants.{Problem as by_problem, Collapsed as by_collapse}
 use Rattle.cp_normal.specs.Exact.{HasForms}
 use Rattle.cp_collapse.specs.Collapses.{AreCollapses}
 use Rattle.cp_roots.specs.Roots.{Root, in_report_order, living, first_roots, AreFormsOfCollapses, no_collapses, forms_of_one, AreRoots}

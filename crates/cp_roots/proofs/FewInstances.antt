@@ -8,7 +8,7 @@ use Rattle.cp_model.specs.Term.{Substitution}
 use Rattle.cp_model.specs.Strand.{Role}
 use Rattle.cp_model.specs.Skeleton.{SkeletonStrand, instance, listener, Skeleton}
 use Rattle.cp_model.specs.Problem.{numbers_from}
-use Rattle.cp_model.proofs.Numbers.{numbers_length}
+use Rattle.cp_model.proofs.NumbersFrom.{numbers_length}
 use Rattle.cp_lists.proofs.Items.{item_there}
 use Rattle.cp_lists.proofs.SameLists.{same_items}
 use Rattle.cp_skel.specs.Events.{is_role_strand}

@@ -4,7 +4,7 @@ use Rattle.std.proofs.lemmas.List.{length-map}
 use Rattle.cp_lists.specs.Lists.{item_at}
 use Rattle.cp_model.specs.Skeleton.{Skeleton}
 use Rattle.cp_model.specs.Problem.{numbers_from}
-use Rattle.cp_model.proofs.Numbers.{numbers_length}
+use Rattle.cp_model.proofs.NumbersFrom.{numbers_length}
 use Rattle.cp_lists.proofs.Items.{item_below, item_there, map_of_item}
 use Rattle.cp_lists.proofs.SameLists.{same_items}
 use Rattle.cp_collapse.specs.Partitions.{lowest_before, place_in, IsPartitionByRole}

@@ -1,8 +1,10 @@
 -- A skeleton whose assumptions stand in the order of a report says what it said before: the assumptions are the same.
 use Rattle.std.proofs.Common.{ℕ, List, length, refl, le_refl}
 use Rattle.cp_lists.specs.Lists.{IsIn, one_step, more_steps}
-use Rattle.cp_model.specs.Term.{Variable, AtomTerm, Substitution}
-use Rattle.cp_model.specs.Strand.{Role, Declaration, Protocol}
+use Rattle.cp_model.specs.Term.{AtomTerm, Substitution}
+use Rattle.cp_model.specs.declared.variable.Variable.{Variable}
+use Rattle.cp_model.specs.Strand.{Role, Protocol}
+use Rattle.cp_model.specs.declared.variable.Declaration.{Declaration}
 use Rattle.cp_model.specs.Bundle.{Bundle}
 use Rattle.cp_model.specs.declared.node.Node.{Node}
 use Rattle.cp_model.specs.Skeleton.{UniqueAt, Skeleton, OrderStep, along_strand_of, along_pair, Before, IsOrderPair, IsOrigin, GivesAssumptions, IsSkeleton}

@@ -1,15 +1,15 @@
 -- Normal forms that are put behind other roots.
+use Rattle.cp_model.specs.declared.variable.Declaration.{Declaration}
 use Rattle.std.proofs.Common.{◌≡◌, ◌⊎◌, inl, inr, ℕ, List, [], ◌∷◌, ◌++◌, map, length, reverse, nat_eq, true, false, refl, sym, ap, ap₂, ◌∙◌, subst, append_assoc}
 use Rattle.std.proofs.lemmas.List.{reverse-reverse, map-append, append-nil}
 use Rattle.cp_lists.specs.Lists.{IsIn, here}
 use Rattle.cp_model.specs.Skeleton.{Skeleton}
-use Rattle.cp_model.specs.Tree.{Operation, by_problem, by_collapse}
+use Rattle.cp_model.specs.declared.tree.Operation.{Operation}
+use Rattle.cp_model.specs.declared.tree.Operation.TheVariants.{Problem as by_problem, Collapsed as by_collapse}
 use Rattle.cp_lists.proofs.Members.{in_append, in_append_left, in_append_right, from_reverse, only_item}
 use Rattle.cp_lists.proofs.Appended.{some_counted, next_first}
-use Rattle.cp_model.specs.Data.{Declared, SkeletonData as Program}
-use Rattle.cp_skel.specs.Trees.{operation_view}
+use Rattle.cp_model.specs.Data.{SkeletonData as Program}
 use Rattle.cp_skel.specs.View.{skeleton_view}
-use Rattle.cp_skel.specs.declared.tree.Operation.{Operation as How}
 use Rattle.cp_roots.specs.declared.root.Root.{Root}
 use Rattle.cp_fingerprint.specs.FirstPlaces.{firsts}
 use Rattle.cp_roots.specs.RootView.{root_view}
@@ -18,26 +18,26 @@ use Rattle.cp_roots.specs.Roots.{in_report_order, living}
 use Rattle.cp_roots.specs.GatheredRoots.{AllHave, RootsHave, AreNormalForms, PutsForms, PutsCollapse, AreFirstRoots}
 
 -- The root that is made so, of this skeleton.
-abbrev pub root_of : How → Program → Root
+abbrev pub root_of : Operation → Program → Root
 root_of by k = record { operation = by; skeleton = k; dead = false }
 
 -- ---- lists
 
 -- Roots with one more.
-have_more : (variables : List Declared) (old new : List Root) (r : Root) → new ≡ old ++ r ∷ [] → r.skeleton.variables ≡ variables → RootsHave variables old → RootsHave variables new
+have_more : (variables : List Declaration) (old new : List Root) (r : Root) → new ≡ old ++ r ∷ [] → r.skeleton.variables ≡ variables → RootsHave variables old → RootsHave variables new
 have_more variables old new r e same have s i = by (in_append old (r ∷ []) (subst (IsIn s) e i))
   where
     by : IsIn s old ⊎ IsIn s (r ∷ []) → s.skeleton.variables ≡ variables
     by (inl j) = have s j
     by (inr j) = subst (λ (m : Root). m.skeleton.variables ≡ variables) (sym (only_item j)) same
 
-have_last : (variables : List Declared) (left rest : List Program) (k : Program) → left ≡ rest ++ k ∷ [] → AllHave variables left → k.variables ≡ variables
+have_last : (variables : List Declaration) (left rest : List Program) (k : Program) → left ≡ rest ++ k ∷ [] → AllHave variables left → k.variables ≡ variables
 have_last variables left rest k e have = have k (subst (IsIn k) (sym e) (in_append_right rest here))
 
-have_front : (variables : List Declared) (left rest : List Program) (k : Program) → left ≡ rest ++ k ∷ [] → AllHave variables left → AllHave variables rest
+have_front : (variables : List Declaration) (left rest : List Program) (k : Program) → left ≡ rest ++ k ∷ [] → AllHave variables left → AllHave variables rest
 have_front variables left rest k e have m i = have m (subst (IsIn m) (sym e) (in_append_left (k ∷ []) i))
 
-pub have_reversed : (variables : List Declared) (all ks : List Program) → all ≡ reverse ks → AllHave variables ks → AllHave variables all
+pub have_reversed : (variables : List Declaration) (all ks : List Program) → all ≡ reverse ks → AllHave variables ks → AllHave variables all
 have_reversed variables all ks e have k i = have k (from_reverse ks (subst (IsIn k) e i))
 
 -- ---- one after the other
@@ -45,15 +45,15 @@ have_reversed variables all ks e have k i = have k (from_reverse ks (subst (IsIn
 -- Of the forms, which are taken from the end, those that are left are still to be put.
 pub record PutsSoFar (by : Operation) (all left : List Program) (start now : List Root) : Type 0 where
   pub roots : map root_view now ++ map (living by) (map skeleton_view (reverse left)) ≡ map root_view start ++ map (living by) (map skeleton_view (reverse all))
-  pub have : (variables : List Declared) → RootsHave variables start → AllHave variables all → RootsHave variables now
-  pub left_have : (variables : List Declared) → AllHave variables all → AllHave variables left
+  pub have : (variables : List Declaration) → RootsHave variables start → AllHave variables all → RootsHave variables now
+  pub left_have : (variables : List Declaration) → AllHave variables all → AllHave variables left
 
 pub none_put : (by : Operation) (all : List Program) (roots : List Root) → PutsSoFar by all all roots roots
 none_put by all roots = record { roots = refl; have = λ variables old forms. old; left_have = λ variables forms. forms }
 
 -- The last of those that are left is put with its assumptions listed.
-pub next_put : (by : Operation) (all left rest : List Program) (start now new : List Root) (how : How) (k in_order : Program) → PutsSoFar by all left start now → left ≡ rest ++ k ∷ [] →
-    skeleton_view in_order ≡ in_report_order (skeleton_view k) → in_order.variables ≡ k.variables → operation_view how ≡ by → new ≡ now ++ root_of how in_order ∷ [] → PutsSoFar by all rest start new
+pub next_put : (by : Operation) (all left rest : List Program) (start now new : List Root) (how : Operation) (k in_order : Program) → PutsSoFar by all left start now → left ≡ rest ++ k ∷ [] →
+    skeleton_view in_order ≡ in_report_order (skeleton_view k) → in_order.variables ≡ k.variables → how ≡ by → new ≡ now ++ root_of how in_order ∷ [] → PutsSoFar by all rest start new
 next_put by all left rest start now new how k in_order part popped same named made e = record {
   roots =
       ap (λ (rs : List plain.Root). rs ++ map (living by) (map skeleton_view (reverse rest)))
@@ -79,8 +79,8 @@ all_put by forms all left start now e done part = record {
 
 module _ (k : Program) (copied : Program) (same : skeleton_view copied ≡ skeleton_view k) (named : copied.variables ≡ k.variables) where
   -- The problem itself, dead.
-  pub dead_root : (another : Program) (how : How) (forms : List Program) (empty roots : List Root) → forms ≡ [] → AreNormalForms (skeleton_view copied) (map skeleton_view forms) → skeleton_view another ≡ skeleton_view k → another.variables ≡ k.variables →
-      operation_view how ≡ by_problem → empty ≡ [] → roots ≡ empty ++ record { operation = how; skeleton = another; dead = true } ∷ [] → AreFirstRoots (skeleton_view k) k.variables roots
+  pub dead_root : (another : Program) (how : Operation) (forms : List Program) (empty roots : List Root) → forms ≡ [] → AreNormalForms (skeleton_view copied) (map skeleton_view forms) → skeleton_view another ≡ skeleton_view k → another.variables ≡ k.variables →
+      how ≡ by_problem → empty ≡ [] → roots ≡ empty ++ record { operation = how; skeleton = another; dead = true } ∷ [] → AreFirstRoots (skeleton_view k) k.variables roots
   dead_root another how forms empty roots none are alike names made start e =
       let r : Root = record { operation = how; skeleton = another; dead = true } in
       let one : roots ≡ r ∷ [] = e ∙ ap (λ (rs : List Root). rs ++ r ∷ []) start in

@@ -1,9 +1,10 @@
 -- The roots of a problem that maps to itself are sound.
 use Rattle.std.proofs.Common.{◌≡◌, ℕ, List, ◌++◌, map, refl, sym, ap, ◌∙◌}
-use Rattle.cp_model.specs.Strand.{Declaration, Protocol}
+use Rattle.cp_model.specs.Strand.{Protocol}
+use Rattle.cp_model.specs.declared.variable.Declaration.{Declaration}
 use Rattle.cp_model.specs.Skeleton.{Skeleton, IsSkeleton}
 use Rattle.cp_model.specs.PointOfView.{IsPointOfView}
-use Rattle.cp_model.specs.Tree.{by_collapse}
+use Rattle.cp_model.specs.declared.tree.Operation.TheVariants.{Collapsed as by_collapse}
 use Rattle.cp_fingerprint.specs.FirstPlaces.{firsts}
 use Rattle.cp_collapse.specs.Partitions.{place_in}
 use Rattle.cp_collapse.specs.Collapses.{IsCollapse, AreCollapsesBy, no_collapses, collapse_by}

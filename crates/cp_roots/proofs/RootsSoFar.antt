@@ -1,11 +1,12 @@
 -- The collapses of a problem, whose normal forms are put behind the first roots one after the other.
+use Rattle.cp_model.specs.declared.variable.Declaration.{Declaration}
 use Rattle.std.proofs.Common.{◌≡◌, List, [], ◌∷◌, ◌++◌, map, reverse, refl, sym, ap, ◌∙◌, subst, append_assoc}
 use Rattle.std.proofs.lemmas.List.{reverse-reverse, append-nil}
 use Rattle.cp_lists.specs.Lists.{IsIn, here}
 use Rattle.cp_model.specs.Skeleton.{Skeleton}
 use Rattle.cp_lists.proofs.Members.{in_append_left, in_append_right}
 use Rattle.cp_lists.proofs.Appended.{next_first}
-use Rattle.cp_model.specs.Data.{Declared, SkeletonData as Program}
+use Rattle.cp_model.specs.Data.{SkeletonData as Program}
 use Rattle.cp_skel.specs.View.{skeleton_view}
 use Rattle.cp_roots.specs.declared.root.Root.{Root as Made}
 use Rattle.cp_roots.specs.RootView.{root_view}
@@ -22,7 +23,7 @@ pub record AreRootsSoFar (all left : List Program) (start now : List Made) : Typ
   pub whole : done ++ map skeleton_view (reverse left) ≡ map skeleton_view (reverse all)
   pub roots : map root_view now ≡ map root_view start ++ others
   pub each_left : (l : Program) → IsIn l left → IsIn l all
-  pub have : (variables : List Declared) → RootsHave variables start → AllHave variables all → RootsHave variables now
+  pub have : (variables : List Declaration) → RootsHave variables start → AllHave variables all → RootsHave variables now
 
 pub none_done : (all : List Program) (start : List Made) → AreRootsSoFar all all start start
 none_done all start = record {
@@ -61,7 +62,7 @@ pub record AreRootsOf (collapses : List Program) (start now : List Made) : Type 
   pub others : List Root
   pub of_each : AreOfEach (map skeleton_view collapses) others
   pub roots : map root_view now ≡ map root_view start ++ others
-  pub have : (variables : List Declared) → RootsHave variables start → AllHave variables collapses → RootsHave variables now
+  pub have : (variables : List Declaration) → RootsHave variables start → AllHave variables collapses → RootsHave variables now
 
 pub all_done : (collapses all left : List Program) (start now : List Made) → all ≡ reverse collapses → left ≡ [] → AreRootsSoFar all left start now → AreRootsOf collapses start now
 all_done collapses all left start now e done part = record {

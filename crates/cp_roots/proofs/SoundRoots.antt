@@ -2,7 +2,8 @@
 use Rattle.std.proofs.Common.{◌≡◌, ◌⊎◌, inl, inr, ℕ, true, false, List, [], ◌∷◌, ◌++◌, Some, map, refl, sym, subst}
 use Rattle.cp_lists.proofs.Items.{place_of, at_place}
 use Rattle.cp_lists.specs.Lists.{item_at, IsIn, here, there}
-use Rattle.cp_model.specs.Strand.{Declaration, Protocol}
+use Rattle.cp_model.specs.Strand.{Protocol}
+use Rattle.cp_model.specs.declared.variable.Declaration.{Declaration}
 use Rattle.cp_model.specs.Bundle.{Bundle, IsBundle}
 use Rattle.cp_model.specs.Skeleton.{Skeleton, IsSkeleton}
 use Rattle.cp_model.specs.Realisation.{KeepsAssumptions}
@@ -10,7 +11,8 @@ use Rattle.cp_model.specs.Standing.{Standing, StandsIn, StandsApart}
 use Rattle.cp_model.specs.Homomorphism.{CarriesHomomorphism, FactorsThrough}
 use Rattle.cp_model.specs.PointOfView.{IsPointOfView}
 use Rattle.cp_model.specs.Stated.{KeepsStated}
-use Rattle.cp_model.specs.Tree.{Operation, by_problem, by_collapse}
+use Rattle.cp_model.specs.declared.tree.Operation.{Operation}
+use Rattle.cp_model.specs.declared.tree.Operation.TheVariants.{Problem as by_problem, Collapsed as by_collapse}
 use Rattle.cp_lists.proofs.Members.{in_append, in_append_left, in_append_right, in_cases, into_map, from_map}
 use Rattle.cp_model.proofs.SingleMaps.{itself, states_itself, own_carries}
 use Rattle.cp_model.proofs.StatedItself.{keeps_its_own}
@@ -88,14 +90,14 @@ module _ (protocol : Protocol) (variables : List Declaration) (k : Skeleton) (sk
     skeleton = sk;
     assumptions = λ e. not_false e;
     from_problem = own_carries variables k (itself own);
-    stated = keeps_its_own protocol variables k sk (states_itself own);
+    stated = keeps_its_own variables k (states_itself own);
     nowhere = λ e b g is stands apart. let a = f.loses_none protocol sk b g is stands apart in elim a.listed [ ];
   }
 
   first_are_sound : (forms : List Skeleton) → AreNormalForms k forms → (root : Root) → IsIn root (first_roots k forms) → IsSoundRoot protocol k root
   first_are_sound [] f root here = dead_is_sound f
   first_are_sound [] f root (there i) = elim i [ ]
-  first_are_sound (r ∷ rs) f root i = forms_are_sound k (r ∷ rs) by_problem sk (own_carries variables k (itself own)) (keeps_its_own protocol variables k sk (states_itself own)) f.forms root i
+  first_are_sound (r ∷ rs) f root i = forms_are_sound k (r ∷ rs) by_problem sk (own_carries variables k (itself own)) (keeps_its_own variables k (states_itself own)) f.forms root i
 
   -- ---- the collapses
 
@@ -115,7 +117,7 @@ module _ (protocol : Protocol) (variables : List Declaration) (k : Skeleton) (sk
   each_is_sound (collapse_by {p = p} {l = l} c cs) roots (rs, others, f, rest, e) root i =
       either_is_sound root (roots_of l rs) others
       (forms_are_sound l rs (by_collapse (firsts l.from_problem.strands)) (collapse_is_skeleton p l c) (collapse_carries protocol variables k l p sk own c.collapsed)
-      (collapse_keeps protocol variables k k l p sk (states_itself own) sk (own_carries variables k (itself own)) c.collapsed (keeps_its_own protocol variables k sk (states_itself own))) f.forms)
+      (collapse_keeps protocol variables k k l p sk (states_itself own) sk (own_carries variables k (itself own)) c.collapsed (keeps_its_own variables k (states_itself own))) f.forms)
       (each_is_sound cs others rest) (subst (IsIn root) e i)
 
   -- ---- all roots

@@ -1,11 +1,13 @@
 -- The roots as the program gathers them: normal forms that are put behind other roots.
+use Rattle.cp_model.specs.declared.variable.Declaration.{Declaration}
 use Rattle.std.specs.Prelude.{◌≡◌, List, ◌++◌, map}
 use Rattle.cp_lists.specs.Lists.{IsIn}
 use Rattle.cp_model.specs.Strand.{Protocol}
 use Rattle.cp_model.specs.Skeleton.{Skeleton, IsSkeleton}
-use Rattle.cp_model.specs.Tree.{Operation, by_collapse}
+use Rattle.cp_model.specs.declared.tree.Operation.{Operation}
+use Rattle.cp_model.specs.declared.tree.Operation.TheVariants.{Collapsed as by_collapse}
 use Rattle.cp_theory.specs.Normal.{LosesNoStanding}
-use Rattle.cp_model.specs.Data.{Declared, SkeletonData as Program}
+use Rattle.cp_model.specs.Data.{SkeletonData as Program}
 use Rattle.cp_skel.specs.View.{skeleton_view}
 use Rattle.cp_normal.specs.Exact.{HasForms}
 use Rattle.cp_normal.specs.NormalForms.{IsNormalFormOf}
@@ -15,11 +17,11 @@ use Rattle.cp_roots.specs.RootView.{root_view}
 use Rattle.cp_roots.specs.Roots.{living, first_roots}
 
 -- The skeletons have these variables.
-abbrev pub AllHave : List Declared → List Program → Type 0
+abbrev pub AllHave : List Declaration → List Program → Type 0
 AllHave variables ks = (k : Program) → IsIn k ks → k.variables ≡ variables
 
 -- The skeletons of the roots have these variables.
-abbrev pub RootsHave : List Declared → List Root → Type 0
+abbrev pub RootsHave : List Declaration → List Root → Type 0
 RootsHave variables roots = (r : Root) → IsIn r roots → r.skeleton.variables ≡ variables
 
 -- These are normal forms of k, those of the rules in their order, and lose no standing of k.
@@ -32,7 +34,7 @@ pub record AreNormalForms (k : Skeleton) (rs : List Skeleton) : Type 0 where
 -- form in the order of a report.
 pub record PutsForms (by : Operation) (forms : List Program) (old new : List Root) : Type 0 where
   pub roots : map root_view new ≡ map root_view old ++ map (living by) (map skeleton_view forms)
-  pub variables : (variables : List Declared) → RootsHave variables old → AllHave variables forms → RootsHave variables new
+  pub variables : (variables : List Declaration) → RootsHave variables old → AllHave variables forms → RootsHave variables new
 
 -- The roots, with those that the normal forms of a collapse give behind them. It is by the partition of the strands that
 -- go to one place.
@@ -40,10 +42,10 @@ pub record PutsCollapse (l : Program) (old new : List Root) : Type 0 where
   pub forms : List Skeleton
   pub are_forms : AreNormalForms (skeleton_view l) forms
   pub roots : map root_view new ≡ map root_view old ++ map (living (by_collapse (firsts l.from_problem.strands))) forms
-  pub variables : (variables : List Declared) → RootsHave variables old → l.variables ≡ variables → RootsHave variables new
+  pub variables : (variables : List Declaration) → RootsHave variables old → l.variables ≡ variables → RootsHave variables new
 
 -- The first roots of a problem of these variables.
-pub record AreFirstRoots (k : Skeleton) (variables : List Declared) (roots : List Root) : Type 0 where
+pub record AreFirstRoots (k : Skeleton) (variables : List Declaration) (roots : List Root) : Type 0 where
   pub forms : List Skeleton
   pub are_forms : AreNormalForms k forms
   pub whole : map root_view roots ≡ first_roots k forms

@@ -2,7 +2,8 @@
 use Rattle.std.specs.Prelude.{◌≡◌, ℕ, List, [], ◌∷◌, ◌++◌, map, Bool, true, false}
 use Rattle.cp_model.specs.Skeleton.{Skeleton}
 use Rattle.cp_model.specs.Given.{listed}
-use Rattle.cp_model.specs.Tree.{Operation, by_problem, by_collapse}
+use Rattle.cp_model.specs.declared.tree.Operation.{Operation}
+use Rattle.cp_model.specs.declared.tree.Operation.TheVariants.{Problem as by_problem, Collapsed as by_collapse}
 use Rattle.cp_normal.specs.Exact.{HasForms}
 use Rattle.cp_collapse.specs.Collapses.{AreCollapses}
 

@@ -1,18 +1,17 @@
 // Collects the roots of a problem.
 ghost use Rattle.std.specs.Prelude.{◌≡◌, IfOk, OnOk};
-ghost use Rattle.cp_skel.specs.Trees.{operation_view};
 ghost use Rattle.cp_skel.specs.View.{skeleton_view};
 ghost use Rattle.cp_roots.specs.GatheredRoots.{PutsForms, PutsCollapse, AreFirstRoots};
 
 use crate::partition::partition_of;
 use crate::root::Root;
 use cp_normal::normalise;
-use cp_skel::{Operation, Skeleton};
+use cp_skel::{Numbers, Operation, Skeleton};
 use std::alloc::{AllocError, Global};
 
 /// A copy of the operation.
-fn copy_operation(alloc: Global, operation: &Operation) -> Result<Operation, AllocError>
-    ensures { IfOk result (λ o. operation_view o ≡ operation_view operation.now) }
+fn copy_operation(operation: &Operation) -> Result<Operation, AllocError>
+    ensures { IfOk result (λ o. o ≡ operation.now) }
 {
     match operation {
         Operation::Problem => Ok(Operation::Problem),
@@ -20,9 +19,7 @@ fn copy_operation(alloc: Global, operation: &Operation) -> Result<Operation, All
         Operation::Displaced(node) => Ok(Operation::Displaced(*node)),
         Operation::AddedStrand(strand) => Ok(Operation::AddedStrand(*strand)),
         Operation::AddedListener(strand) => Ok(Operation::AddedListener(*strand)),
-        Operation::Collapsed(partition) => {
-            Ok(Operation::Collapsed(Vec::from_slice(alloc, partition)?))
-        }
+        Operation::Collapsed(partition) => Ok(Operation::Collapsed(partition.copy()?)),
         Operation::Generalised => Ok(Operation::Generalised),
     }
 }
@@ -34,13 +31,13 @@ fn put_forms(
     forms: Vec<Skeleton>,
     roots: &mut Vec<Root>,
 ) -> Result<(), AllocError>
-    ensures { OnOk result (PutsForms (operation_view operation.now) forms.items roots.old.items roots.new.items) }
+    ensures { OnOk result (PutsForms operation.now forms.items roots.old.items roots.new.items) }
 {
     let mut rest = forms;
     rest.reverse();
     while let Some(mut skeleton) = rest.pop() {
         skeleton.list_assumptions(alloc)?;
-        let operation = copy_operation(alloc, operation)?;
+        let operation = copy_operation(operation)?;
         roots.push(Root {
             operation,
             skeleton,
@@ -78,7 +75,7 @@ pub(crate) fn put_collapse(
     ensures { OnOk result (PutsCollapse collapse roots.old.items roots.new.items) }
 {
     let partition = partition_of(alloc, collapse.from_problem().strands())?;
-    let operation = Operation::Collapsed(partition);
+    let operation = Operation::Collapsed(Numbers::of(partition));
     let forms = normalise(alloc, collapse)?;
     put_forms(alloc, &operation, forms, roots)
 }

@@ -3,7 +3,8 @@ ghost use Rattle.std.specs.Prelude.{◌≡◌, ℕ, List, Some};
 ghost use Rattle.cp_lists.specs.Lists.{item_at};
 ghost use Rattle.cp_model.specs.PointOfView.{HasDeclaredVariables, IsPointOfView};
 ghost use Rattle.cp_model.specs.Skeleton.{IsSkeleton, Skeleton};
-ghost use Rattle.cp_model.specs.Strand.{Declaration, Protocol};
+ghost use Rattle.cp_model.specs.Strand.{Protocol};
+ghost use Rattle.cp_model.specs.declared.variable.Declaration.{Declaration};
 ghost use Rattle.cp_roots.specs.Roots.{Root, AreRoots};
 ghost use Rattle.cp_roots.specs.Sound.{AreSound};
 

@@ -2,7 +2,6 @@
 ghost use Rattle.std.specs.Prelude.{◌≡◌, map, IfOk};
 ghost use Rattle.cp_lists.specs.Lists.{IsIn};
 ghost use Rattle.cp_model.specs.PointOfView.{IsPointOfView};
-ghost use Rattle.cp_skel.specs.Trees.{variables_view};
 ghost use Rattle.cp_skel.specs.View.{skeleton_view};
 ghost use Rattle.cp_roots.specs.declared.root.Root as program;
 ghost use Rattle.cp_roots.specs.RootView.{root_view};
@@ -23,14 +22,15 @@ use std::alloc::{AllocError, Global};
 /// are in report order, each once.
 ///
 /// The problem's strands must have roles of the protocol, and the problem must be a point-of-view skeleton: it maps to itself, it
-/// declares the variables that occur in it, and its assumptions and pairs are the ones that it states.
+/// declares the variables that occur in it, its assumptions are those that it states and those that its strands' roles give, and
+/// the pairs that it states generate its order.
 pub fn roots(
     alloc: Global,
     protocol: &Protocol,
     problem: &Skeleton,
 ) -> Result<Vec<Root>, AllocError>
     requires over { IsOver protocol.now (skeleton_view problem.now) }
-    requires own { IsPointOfView (variables_view problem.now.variables) (skeleton_view problem.now) }
+    requires own { IsPointOfView problem.now.variables (skeleton_view problem.now) }
     ensures exact { IfOk result (λ rs. AreRoots (skeleton_view problem.now) (map root_view rs.items)) }
     ensures sound { IfOk result (λ rs. AreSound protocol.now (skeleton_view problem.now) (map root_view rs.items)) }
     ensures variables { IfOk result (λ rs. (r : program.Root) → IsIn r rs.items → r.skeleton.variables ≡ problem.now.variables) }

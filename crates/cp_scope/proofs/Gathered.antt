@@ -3,11 +3,11 @@ use Rattle.std.proofs.Common.{◌≡◌, ℕ, ◌+◌, ◌<◌, List, [], ◌∷
 use Rattle.std.proofs.lemmas.List.{append_assoc}
 use Rattle.cp_lists.proofs.Members.{drop_read}
 use Rattle.cp_model.specs.Term.{AtomTerm}
-use Rattle.cp_model.specs.Strand.{Declaration}
+use Rattle.cp_model.specs.declared.variable.Declaration.{Declaration}
 use Rattle.cp_sexpr.specs.Syntax.{Form}
 use Rattle.cp_sexpr.specs.View.{view}
 use Rattle.cp_sexpr.specs.declared.form.Form as program
-use Rattle.cp_language.specs.Words.{ItemHead}
+use Rattle.cp_language.specs.declared.words.ItemHead.{ItemHead}
 use Rattle.cp_language.specs.Terms.{as_atom, term_of}
 use Rattle.cp_language.specs.Roles.{headed, atoms_in, forms_under, item_or_none, items_behind}
 

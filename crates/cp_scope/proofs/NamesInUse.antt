@@ -76,21 +76,21 @@ some_otherwise None p e = absurd (cc)
 some_otherwise (Some x) p e = refl
 
 -- Where the name is a new one.
-module _ {A S X Y : Type 0} (name : List ℕ) (m n : HashMap (Vec ℕ A) X S) (k : Vec ℕ A) (v : X) (seen : Option X → Option Y) (old : List ℕ → Option Y) (test : List ℕ → Bool) (y : Y)
-    (same : (t : List ℕ) → test t ≡ bytes_eq name t) (shown : seen (Some v) ≡ Some y) where
-  pub entry-pushed : ((t : List ℕ) → seen (get_by (λ y. bytes_eq t y.items) m) ≡ old t) → old name ≡ None → k.items ≡ name
+module _ {A S X : Type 0} (name : List ℕ) (m n : HashMap (Vec ℕ A) X S) (k : Vec ℕ A) (v : X) (old : List ℕ → Option X) (test : List ℕ → Bool) (y : X)
+    (same : (t : List ℕ) → test t ≡ bytes_eq name t) (is : v ≡ y) where
+  pub entry-pushed : ((t : List ℕ) → get_by (λ y. bytes_eq t y.items) m ≡ old t) → old name ≡ None → k.items ≡ name
       → UpdatesBy (λ x y. bytes_eq x.items y.items) (λ y. bytes_eq k.items y.items) m n (Some v)
-      → (t : List ℕ) → seen (get_by (λ y. bytes_eq t y.items) n) ≡ otherwise (old t) (if test t then Some y else None)
+      → (t : List ℕ) → get_by (λ y. bytes_eq t y.items) n ≡ otherwise (old t) (if test t then Some y else None)
   entry-pushed h none ek u t = by_text (bytes_eq name t) refl
     where
-      by_text : (b : Bool) → bytes_eq name t ≡ b → seen (get_by (λ y. bytes_eq t y.items) n) ≡ otherwise (old t) (if test t then Some y else None)
+      by_text : (b : Bool) → bytes_eq name t ≡ b → get_by (λ y. bytes_eq t y.items) n ≡ otherwise (old t) (if test t then Some y else None)
       by_text true e =
-          let is : name ≡ t = (bytes_decides name t).0 e in
-          let missing : old t ≡ None = ap old (sym is) ∙ none in
-          ap (λ (bs : List ℕ). seen (get_by (λ y. bytes_eq bs y.items) n)) (sym is) ∙ ap seen (found_there name m n k v ek u) ∙ shown
+          let this : name ≡ t = (bytes_decides name t).0 e in
+          let missing : old t ≡ None = ap old (sym this) ∙ none in
+          ap (λ (bs : List ℕ). get_by (λ y. bytes_eq bs y.items) n) (sym this) ∙ found_there name m n k v ek u ∙ ap Some is
           ∙ sym (ap (λ o. otherwise o (if test t then Some y else None)) missing ∙ cond-true (test t) (Some y) None (same t ∙ e))
       by_text false e =
-          ap seen (kept_elsewhere name m n k v t e ek u) ∙ h t ∙ sym (ap (otherwise (old t)) (cond-false (test t) (Some y) None (same t ∙ e)) ∙ otherwise-none (old t))
+          kept_elsewhere name m n k v t e ek u ∙ h t ∙ sym (ap (otherwise (old t)) (cond-false (test t) (Some y) None (same t ∙ e)) ∙ otherwise-none (old t))
 
 -- Where the name stands in the table.
 module _ {Y : Type 0} (name : List ℕ) (old : List ℕ → Option Y) (test : List ℕ → Bool) (y : Y) (same : (t : List ℕ) → test t ≡ bytes_eq name t) where
@@ -119,7 +119,7 @@ module _ {A S : Type 0} (names : List (List ℕ)) (name : List ℕ) (m n : HashM
   pub places-pushed : (place : ℕ) → place ≡ length names → ArePlacesOf names m → is_some (get_by (λ y. bytes_eq name y.items) m) ≡ false → k.items ≡ name
       → UpdatesBy (λ x y. bytes_eq x.items y.items) (λ y. bytes_eq k.items y.items) m n (Some place) → ArePlacesOf (names ++ name ∷ []) n
   places-pushed place e h none ek u t =
-      entry-pushed name m n k place (λ o. o) (place_from 0 names) (λ s. same_text s name) (count 0 names) (λ s. same_text-is s name ∙ nat_list_eq_equiv.symm s name) (ap Some (e ∙ count-all names))
+      entry-pushed name m n k place (place_from 0 names) (λ s. same_text s name) (count 0 names) (λ s. same_text-is s name ∙ nat_list_eq_equiv.symm s name) (e ∙ count-all names)
       h (sym (h name) ∙ none_is _ none) ek u t
       ∙ sym (place-append 0 names name t)
 

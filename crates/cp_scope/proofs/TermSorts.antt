@@ -1,13 +1,15 @@
 -- The sorts of lists with a head.
 use Rattle.std.proofs.Common.{◌≡◌, ◌<◌, ◌≤◌, List, [], ◌∷◌, length, get_or, map, sym, ap, ◌∙◌, arith}
 use Rattle.std.specs.Prelude.{Some, None}
-use Rattle.cp_model.specs.Strand.{Declaration}
+use Rattle.cp_model.specs.declared.variable.Declaration.{Declaration}
 use Rattle.cp_sexpr.specs.Syntax.{Form, forms_of}
 use Rattle.cp_sexpr.specs.View.{view}
 use Rattle.cp_sexpr.specs.declared.form.Form as program
-use Rattle.cp_language.specs.Words.{cat, term_head}
+use Rattle.cp_language.specs.declared.words.TermHead.TheVariants.{Cat as cat}
+use Rattle.cp_language.specs.Words.{term_head}
 use Rattle.cp_language.specs.Roles.{Headed, headed}
-use Rattle.cp_language.specs.Terms.{of_all, sort_of, sorts_of, sort_of_cat, sort_by_head}
+use Rattle.cp_language.specs.declared.sorts.TermSort.TheVariants.{All as of_all}
+use Rattle.cp_language.specs.Terms.{sort_of, sorts_of, sort_of_cat, sort_by_head}
 use Rattle.cp_scope.proofs.Views.{headed_is}
 
 pub the_only : {A : Type 0} (xs : List A) (x : A) → 1 ≤ length xs → length xs < 2 → x ≡ get_or xs 0 x → xs ≡ x ∷ []

@@ -1,6 +1,6 @@
 -- The kinds of assumptions.
 use Rattle.std.specs.Prelude.{Bool}
-use Rattle.cp_language.specs.Words.{ItemHead}
+use Rattle.cp_language.specs.declared.words.ItemHead.{ItemHead}
 use Rattle.cp_language.specs.Roles.{is_non_item, is_penetrator_non_item, is_unique_item}
 use Rattle.cp_scope.specs.declared.atoms.Kind.{Kind}
 use Rattle.cp_scope.specs.declared.atoms.Kind.TheVariants as kinds

@@ -1,8 +1,6 @@
 pub mod FirstOf
 pub mod FirstFault
-pub mod Heads
 pub mod Forms
-pub mod Terms
 pub mod OwnFaults
 pub mod Applied
 pub mod Fixed

@@ -4,10 +4,12 @@ use Rattle.cp_base.specs.declared.place.Place.{Place}
 use Rattle.cp_base.specs.declared.place.Code.TheVariants.{UnknownForm, OutOfProfile}
 use Rattle.cp_base.specs.declared.place.Refusal.{Refusal}
 use Rattle.cp_lists.specs.Lists.{item_at}
-use Rattle.cp_model.specs.Term.{Sort, name_sort, akey_sort}
-use Rattle.cp_model.specs.Strand.{Declaration}
+use Rattle.cp_model.specs.declared.sort.Sort.{Sort}
+use Rattle.cp_model.specs.declared.sort.Sort.TheVariants.{Name as name_sort, Akey as akey_sort}
+use Rattle.cp_model.specs.declared.variable.Declaration.{Declaration}
 use Rattle.cp_sexpr.specs.Syntax.{Form, symbol, string, number, list}
-use Rattle.cp_language.specs.Words.{TermHead, cat, encrypt, long_term_key, public_key, private_key, inverse_key, operation_out_of_profile, no_operation}
+use Rattle.cp_language.specs.declared.words.TermHead.{TermHead}
+use Rattle.cp_language.specs.declared.words.TermHead.TheVariants.{Cat as cat, Enc as encrypt, Ltk as long_term_key, Pubk as public_key, Privk as private_key, Invk as inverse_key, OutOfProfile as operation_out_of_profile, Unknown as no_operation}
 use Rattle.cp_language.specs.Faults.{fault}
 use Rattle.cp_language.specs.Terms.{lacks, exceeds, sort_faults, last_key_faults}
 

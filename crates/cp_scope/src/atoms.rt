@@ -4,9 +4,7 @@ ghost use Rattle.cp_model.specs.Term.{text_variable};
 ghost use Rattle.cp_sexpr.specs.View.{view};
 ghost use Rattle.cp_language.specs.Terms.{term_of, as_atom, atom_faults};
 ghost use Rattle.cp_language.specs.Roles.{headed, each_faults, atoms_in, forms_under, item_or_none};
-ghost use Rattle.cp_strand.specs.View.{declaration_view};
 ghost use Rattle.cp_scope.specs.FirstFault.{first_onto};
-ghost use Rattle.cp_scope.specs.Heads.{item_head_view};
 ghost use Rattle.cp_scope.specs.Kinds.{is_of_kind};
 
 use crate::faults::atom_faults;
@@ -38,7 +36,7 @@ pub fn no_atom(alloc: Global) -> Result<Atom, AllocError>
 
 /// The atom that a form stands for. What stands for a form with faults has no meaning.
 pub fn atom_of(alloc: Global, variables: &[Declaration], form: &Form) -> Result<Atom, AllocError>
-    ensures { IfOk result (λ a. a ≡ as_atom (term_of (map declaration_view variables.now) (view form.now))) }
+    ensures { IfOk result (λ a. a ≡ as_atom (term_of variables.now (view form.now))) }
 {
     match Atom::new(term_of(alloc, variables, form)?) {
         Some(atom) => Ok(atom),
@@ -48,7 +46,7 @@ pub fn atom_of(alloc: Global, variables: &[Declaration], form: &Form) -> Result<
 
 /// Notes the faults of the items of an assumption.
 pub fn atoms_faults(variables: &[Declaration], items: &[Form], first: &mut FirstFault)
-    ensures { first.new ≡ first_onto first.old (each_faults (atom_faults (map declaration_view variables.now)) (map view items.now)) }
+    ensures { first.new ≡ first_onto first.old (each_faults (atom_faults variables.now) (map view items.now)) }
 {
     for item in items {
         atom_faults(variables, item, first);
@@ -77,7 +75,7 @@ fn add_atoms(
     items: &[Form],
     atoms: &mut Vec<Atom>,
 ) -> Result<(), AllocError>
-    ensures { OnOk result (atoms.new.items ≡ atoms.old.items ++ atoms_in (map declaration_view variables.now) (map view items.now)) }
+    ensures { OnOk result (atoms.new.items ≡ atoms.old.items ++ atoms_in variables.now (map view items.now)) }
 {
     for item in items {
         let atom = atom_of(alloc, variables, item)?;
@@ -93,7 +91,7 @@ pub fn atoms_of(
     kind: Kind,
     items: &[Form],
 ) -> Result<Vec<Atom>, AllocError>
-    ensures { IfOk result (λ v. v.items ≡ atoms_in (map declaration_view variables.now) (forms_under (is_of_kind kind) (map view items.now))) }
+    ensures { IfOk result (λ v. v.items ≡ atoms_in variables.now (forms_under (is_of_kind kind) (map view items.now))) }
 {
     let mut atoms = Vec::new(alloc);
     for item in items {

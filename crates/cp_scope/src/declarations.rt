@@ -7,9 +7,7 @@ ghost use Rattle.cp_sexpr.specs.View.{view};
 ghost use Rattle.cp_language.specs.Words.{is_one_of};
 ghost use Rattle.cp_language.specs.Names.{identifiers_in};
 ghost use Rattle.cp_language.specs.Roles.{headed, text_of_symbol, list_items, front_of, last_form, sort_named, is_of_messages, sort_or_text, sort_word_faults, last_sort_faults, identifier_faults, identifiers_faults, declaration_faults, declarations_faults, vars_faults, declared_of, declarations_in, declarations_of, fixed_faults};
-ghost use Rattle.cp_strand.specs.View.{sort_view, declaration_view};
 ghost use Rattle.cp_scope.specs.FirstFault.{first_onto};
-ghost use Rattle.cp_scope.specs.Heads.{sort_word_view};
 ghost use Rattle.cp_scope.specs.Forms.{headed_view};
 ghost use Rattle.cp_scope.specs.Fixed.{faults_inside};
 
@@ -58,7 +56,7 @@ pub fn name_of(alloc: Global, form: &Form) -> Result<Text, AllocError>
 
 /// Whether one of the variables has this identifier.
 fn is_declared(variables: &[Declaration], identifier: &[u8]) -> bool
-    ensures { result ≡ is_one_of identifier.now (identifiers_in (map declaration_view variables.now)) }
+    ensures { result ≡ is_one_of identifier.now (identifiers_in variables.now) }
 {
     for variable in variables {
         if is_word(identifier, variable.identifier.as_str().as_bytes()) {
@@ -69,14 +67,14 @@ fn is_declared(variables: &[Declaration], identifier: &[u8]) -> bool
 }
 
 fn is_of_messages(word: SortWord) -> bool
-    ensures { result ≡ is_of_messages (sort_word_view word) }
+    ensures { result ≡ is_of_messages word }
 {
     matches!(word, SortWord::Messages)
 }
 
 /// The atom sort that a word names. For any other word the result has no meaning.
 pub fn sort_or_text(word: SortWord) -> Sort
-    ensures { sort_view result ≡ sort_or_text (sort_word_view word) }
+    ensures { result ≡ sort_or_text word }
 {
     match word {
         SortWord::Atoms(sort) => sort,
@@ -86,7 +84,7 @@ pub fn sort_or_text(word: SortWord) -> Sort
 
 /// What a declaration names as its sort.
 pub fn sort_named(form: Option<&Form>) -> SortWord
-    ensures { sort_word_view result ≡ sort_named (option_map (λ f. view f.now) form.entry) }
+    ensures { result ≡ sort_named (option_map (λ f. view f.now) form.entry) }
 {
     match form {
         Some(Form::Symbol(_, word)) => sort_word(word.as_bytes()),
@@ -95,7 +93,7 @@ pub fn sort_named(form: Option<&Form>) -> SortWord
 }
 
 fn sort_word_faults(place: Place, word: SortWord, first: &mut FirstFault)
-    ensures { first.new ≡ first_onto first.old (sort_word_faults place (sort_word_view word)) }
+    ensures { first.new ≡ first_onto first.old (sort_word_faults place word) }
 {
     match word {
         SortWord::Atoms(_) | SortWord::Messages => {}
@@ -122,7 +120,7 @@ fn last_sort_faults(form: Option<&Form>, first: &mut FirstFault)
 /// Notes the faults of an identifier that is declared after these variables.
 fn identifier_faults(variables: &[Declaration], word: SortWord, form: &Form, first: &mut FirstFault)
     ensures { first.new ≡ first_onto first.old
-        (identifier_faults (identifiers_in (map declaration_view variables.now)) (sort_word_view word) (view form.now)) }
+        (identifier_faults (identifiers_in variables.now) word (view form.now)) }
 {
     let Form::Symbol(place, identifier) = form else {
         first.note(place_of(form), Code::BadShape);
@@ -145,9 +143,9 @@ fn declare(
     first: &mut FirstFault,
 ) -> Result<(), AllocError>
     ensures faults { OnOk result (first.new ≡ first_onto first.old
-        (identifiers_faults (identifiers_in (map declaration_view variables.old.items)) (sort_word_view word) (map view identifiers.now))) }
-    ensures declared { OnOk result (map declaration_view variables.new.items
-        ≡ map declaration_view variables.old.items ++ declared_of (sort_or_text (sort_word_view word)) (map view identifiers.now)) }
+        (identifiers_faults (identifiers_in variables.old.items) word (map view identifiers.now))) }
+    ensures declared { OnOk result (variables.new.items
+        ≡ variables.old.items ++ declared_of (sort_or_text word) (map view identifiers.now)) }
 {
     for form in identifiers {
         identifier_faults(variables, word, form, first);
@@ -168,8 +166,8 @@ fn declaration(
     first: &mut FirstFault,
 ) -> Result<(), AllocError>
     ensures faults { OnOk result (first.new ≡ first_onto first.old
-        (declaration_faults (identifiers_in (map declaration_view variables.old.items)) (view form.now))) }
-    ensures declared { OnOk result (map declaration_view variables.new.items ≡ map declaration_view variables.old.items
+        (declaration_faults (identifiers_in variables.old.items) (view form.now))) }
+    ensures declared { OnOk result (variables.new.items ≡ variables.old.items
         ++ declared_of (sort_or_text (sort_named (last_form (list_items (view form.now))))) (front_of (list_items (view form.now)))) }
 {
     let Form::List(place, items) = form else {
@@ -197,7 +195,7 @@ fn declarations(
     first: &mut FirstFault,
 ) -> Result<Vec<Declaration>, AllocError>
     ensures faults { OnOk result (first.new ≡ first_onto first.old (declarations_faults [] (map view items.now))) }
-    ensures declared { IfOk result (λ v. map declaration_view v.items ≡ declarations_in (map view items.now)) }
+    ensures declared { IfOk result (λ v. v.items ≡ declarations_in (map view items.now)) }
 {
     let mut variables = Vec::new(alloc);
     for item in items {
@@ -214,7 +212,7 @@ pub fn variables_of(
     first: &mut FirstFault,
 ) -> Result<Vec<Declaration>, AllocError>
     ensures faults { OnOk result (first.new ≡ first_onto first.old (vars_faults (view form.now))) }
-    ensures declared { IfOk result (λ v. map declaration_view v.items ≡ declarations_of (view form.now)) }
+    ensures declared { IfOk result (λ v. v.items ≡ declarations_of (view form.now)) }
 {
     if fixed(form, b"vars", first).is_some() {
         return declarations(alloc, items_behind(form), first);

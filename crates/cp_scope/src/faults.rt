@@ -5,7 +5,6 @@ ghost use Rattle.cp_language.specs.Words.{term_head};
 ghost use Rattle.cp_language.specs.Roles.{headed};
 ghost use Rattle.cp_language.specs.Terms.{lacks, exceeds, last_key_faults, term_faults, atom_faults, sort_faults};
 ghost use Rattle.cp_lists.specs.Lists.{item_at};
-ghost use Rattle.cp_strand.specs.View.{sort_view, declaration_view};
 ghost use Rattle.cp_scope.specs.FirstFault.{first_onto};
 ghost use Rattle.cp_scope.specs.OwnFaults.{sort_faults_if, argument_faults, key_name_faults, two_name_faults, own_faults, judged_name, judged, is_purpose};
 
@@ -37,7 +36,7 @@ pub fn exceeds(count: usize, items: &[Form], first: &mut FirstFault)
 
 /// The term must have this sort.
 pub fn sort_faults(variables: &[Declaration], sort: Sort, form: &Form, first: &mut FirstFault)
-    ensures { first.new ≡ first_onto first.old (sort_faults (map declaration_view variables.now) (sort_view sort) (view form.now)) }
+    ensures { first.new ≡ first_onto first.old (sort_faults variables.now sort (view form.now)) }
 {
     first.note_unless(
         has_sort(variables, sort, form),
@@ -54,7 +53,7 @@ fn item_sort_faults(
     place: usize,
     first: &mut FirstFault,
 )
-    ensures { first.new ≡ first_onto first.old (sort_faults_if (map declaration_view variables.now) (sort_view sort) (item_at (map view items.now) place)) }
+    ensures { first.new ≡ first_onto first.old (sort_faults_if variables.now sort (item_at (map view items.now) place)) }
 {
     if let Some(item) = item_at(items, place) {
         sort_faults(variables, sort, item, first);
@@ -63,7 +62,7 @@ fn item_sort_faults(
 
 /// The last item, if there is one, must be a key.
 fn last_key_faults(variables: &[Declaration], items: &[Form], first: &mut FirstFault)
-    ensures { first.new ≡ first_onto first.old (last_key_faults (map declaration_view variables.now) (map view items.now)) }
+    ensures { first.new ≡ first_onto first.old (last_key_faults variables.now (map view items.now)) }
 {
     if let Some(item) = last_item(items) {
         first.note_unless(has_key_sort(variables, item), place_of(item), Code::KeySort);
@@ -79,7 +78,7 @@ fn argument_faults<'a>(
     first: &mut FirstFault,
 ) -> &'a [Form]
     ensures argument { map view result.now ≡ take 1 (map view items.now) }
-    ensures faults { first.new ≡ first_onto first.old (argument_faults (map declaration_view variables.now) (sort_view sort) place (map view items.now)) }
+    ensures faults { first.new ≡ first_onto first.old (argument_faults variables.now sort place (map view items.now)) }
 {
     lacks(1, place, items, first);
     item_sort_faults(variables, sort, items, 0, first);
@@ -102,7 +101,7 @@ fn name_faults<'a>(
     first: &mut FirstFault,
 ) -> &'a [Form]
     ensures argument { map view result.now ≡ judged_name (map view items.now) }
-    ensures faults { first.new ≡ first_onto first.old (key_name_faults (map declaration_view variables.now) place (map view items.now)) }
+    ensures faults { first.new ≡ first_onto first.old (key_name_faults variables.now place (map view items.now)) }
 {
     let items = if is_purpose(items) {
         later_items(items, 1)
@@ -119,7 +118,7 @@ fn two_name_faults<'a>(
     first: &mut FirstFault,
 ) -> &'a [Form]
     ensures arguments { map view result.now ≡ take 2 (map view list.entry.items.now) }
-    ensures faults { first.new ≡ first_onto first.old (two_name_faults (map declaration_view variables.now) list.entry.place (map view list.entry.items.now)) }
+    ensures faults { first.new ≡ first_onto first.old (two_name_faults variables.now list.entry.place (map view list.entry.items.now)) }
 {
     let items = list.items;
     lacks(2, list.place, items, first);
@@ -137,7 +136,7 @@ fn own_faults<'a>(
 ) -> &'a [Form]
     ensures judged { map view result.now ≡ judged (term_head list.entry.head.now) (map view list.entry.items.now) }
     ensures faults { first.new ≡ first_onto first.old
-        (own_faults (map declaration_view variables.now) list.entry.place (term_head list.entry.head.now) (map view list.entry.items.now)) }
+        (own_faults variables.now list.entry.place (term_head list.entry.head.now) (map view list.entry.items.now)) }
 {
     let place = list.place;
     let items = list.items;
@@ -168,7 +167,7 @@ fn own_faults<'a>(
 /// Notes the faults of a term that is no list with a head.
 fn leaf_faults(variables: &[Declaration], form: &Form, first: &mut FirstFault)
     ensures { headed (view form.now) ≡ None
-        → first.new ≡ first_onto first.old (term_faults (map declaration_view variables.now) (view form.now)) }
+        → first.new ≡ first_onto first.old (term_faults variables.now (view form.now)) }
 {
     match form {
         Form::Symbol(place, identifier) => {
@@ -183,7 +182,7 @@ fn leaf_faults(variables: &[Declaration], form: &Form, first: &mut FirstFault)
 
 /// Notes the faults of a term over these variables.
 pub fn term_faults(variables: &[Declaration], form: &Form, first: &mut FirstFault)
-    ensures { first.new ≡ first_onto first.old (term_faults (map declaration_view variables.now) (view form.now)) }
+    ensures { first.new ≡ first_onto first.old (term_faults variables.now (view form.now)) }
 {
     let Some(list) = headed(form) else {
         leaf_faults(variables, form, first);
@@ -196,7 +195,7 @@ pub fn term_faults(variables: &[Declaration], form: &Form, first: &mut FirstFaul
 
 /// Notes the faults of an item of an assumption, which must be a term of an atom sort.
 pub fn atom_faults(variables: &[Declaration], form: &Form, first: &mut FirstFault)
-    ensures { first.new ≡ first_onto first.old (atom_faults (map declaration_view variables.now) (view form.now)) }
+    ensures { first.new ≡ first_onto first.old (atom_faults variables.now (view form.now)) }
 {
     first.note_unless(
         has_atom_sort(variables, form),

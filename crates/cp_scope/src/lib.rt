@@ -16,6 +16,8 @@ mod terms;
 mod words;
 
 pub use atoms::{Kind, atom_of, atoms_faults, atoms_of, no_atom};
+pub use cp_language::{EventHead, ItemHead, SortWord, TermHead, TermSort, TopHead};
+pub use cp_model::Variable;
 pub use declarations::{fixed, name_of, sort_named, sort_or_text, variables_of};
 pub use faults::{atom_faults, exceeds, lacks, sort_faults, term_faults};
 pub use first_fault::FirstFault;
@@ -24,9 +26,8 @@ pub use forms::{
     list_items, place_of, symbol, symbol_or_empty,
 };
 pub use name_set::NameSet;
-pub use sorts::{TermSort, Variable, variable_named};
+pub use sorts::variable_named;
 pub use terms::{applied, no_term, term_of, variable_term};
 pub use words::{
-    EventHead, ItemHead, SortWord, TermHead, TopHead, event_head, is_out_of_profile, is_word,
-    item_head, sort_word, term_head, top_head,
+    event_head, is_out_of_profile, is_word, item_head, sort_word, term_head, top_head,
 };

@@ -1,35 +1,21 @@
 // Variables by their identifiers, and the sorts of terms.
-ghost use Rattle.std.specs.Prelude.{◌≡◌, ◌||◌, map, option_map, None};
-ghost use Rattle.cp_model.specs.Term.{skey_sort, akey_sort};
+ghost use Rattle.std.specs.Prelude.{◌≡◌, ◌||◌, option_map, None};
+ghost use Rattle.cp_model.specs.declared.sort.Sort.TheVariants.{Skey as skey_sort, Akey as akey_sort};
 ghost use Rattle.cp_sexpr.specs.View.{view};
 ghost use Rattle.cp_model.specs.Same.{same_sort};
 ghost use Rattle.cp_language.specs.Roles.{headed};
 ghost use Rattle.cp_language.specs.Terms.{variable_named, sort_of, is_sort, admits_atom};
-ghost use Rattle.cp_strand.specs.View.{sort_view, declaration_view};
-ghost use Rattle.cp_scope.specs.Terms.{variable_view, term_sort_view};
 
 use crate::{TermHead, headed, is_word, term_head};
+use cp_language::TermSort;
+use cp_model::Variable;
 use cp_sexpr::Form;
 use cp_strand::Declaration;
 use cp_term::Sort;
 
-/// A declared variable: its sort, and its number.
-#[derive(Clone, Copy)]
-pub struct Variable {
-    pub sort: Sort,
-    pub number: usize,
-}
-
-/// The sort of a term: that of an atom, or that of all messages.
-#[derive(Clone, Copy)]
-pub enum TermSort {
-    Atoms(Sort),
-    All,
-}
-
 /// The variable with this identifier.
 pub fn variable_named(variables: &[Declaration], identifier: &[u8]) -> Option<Variable>
-    ensures { option_map variable_view result ≡ variable_named (map declaration_view variables.now) identifier.now }
+    ensures { result ≡ variable_named variables.now identifier.now }
 {
     for (number, declaration) in variables.iter().enumerate() {
         if is_word(declaration.identifier.as_str().as_bytes(), identifier) {
@@ -44,7 +30,7 @@ pub fn variable_named(variables: &[Declaration], identifier: &[u8]) -> Option<Va
 
 /// Whether the sorts are the same.
 pub(crate) fn is_same_sort(first: Sort, second: Sort) -> bool
-    ensures { result ≡ same_sort (sort_view first) (sort_view second) }
+    ensures { result ≡ same_sort first second }
 {
     first == second
 }
@@ -52,7 +38,7 @@ pub(crate) fn is_same_sort(first: Sort, second: Sort) -> bool
 /// The sort of a term that is no list with a head; `None` if it cannot be known.
 fn sort_of_leaf(variables: &[Declaration], form: &Form) -> Option<TermSort>
     ensures { headed (view form.now) ≡ None
-        → option_map term_sort_view result ≡ sort_of (map declaration_view variables.now) (view form.now) }
+        → result ≡ sort_of variables.now (view form.now) }
 {
     match form {
         Form::Symbol(_, identifier) => {
@@ -66,7 +52,7 @@ fn sort_of_leaf(variables: &[Declaration], form: &Form) -> Option<TermSort>
 
 /// The sort of a term, decided by its head alone; `None` if it cannot be known.
 pub(crate) fn sort_of(variables: &[Declaration], form: &Form) -> Option<TermSort>
-    ensures { option_map term_sort_view result ≡ sort_of (map declaration_view variables.now) (view form.now) }
+    ensures { result ≡ sort_of variables.now (view form.now) }
 {
     let Some(list) = headed(form) else {
         return sort_of_leaf(variables, form);
@@ -86,7 +72,7 @@ pub(crate) fn sort_of(variables: &[Declaration], form: &Form) -> Option<TermSort
 
 /// Whether a term has this sort; also `true` if its sort cannot be known.
 pub(crate) fn has_sort(variables: &[Declaration], sort: Sort, form: &Form) -> bool
-    ensures { result ≡ is_sort (sort_view sort) (sort_of (map declaration_view variables.now) (view form.now)) }
+    ensures { result ≡ is_sort sort (sort_of variables.now (view form.now)) }
 {
     match sort_of(variables, form) {
         None => true,
@@ -97,15 +83,15 @@ pub(crate) fn has_sort(variables: &[Declaration], sort: Sort, form: &Form) -> bo
 
 /// Whether a term has a sort of keys; also `true` if its sort cannot be known.
 pub(crate) fn has_key_sort(variables: &[Declaration], form: &Form) -> bool
-    ensures { result ≡ (is_sort skey_sort (sort_of (map declaration_view variables.now) (view form.now))
-        || is_sort akey_sort (sort_of (map declaration_view variables.now) (view form.now))) }
+    ensures { result ≡ (is_sort skey_sort (sort_of variables.now (view form.now))
+        || is_sort akey_sort (sort_of variables.now (view form.now))) }
 {
     has_sort(variables, Sort::Skey, form) || has_sort(variables, Sort::Akey, form)
 }
 
 /// Whether a term has an atom sort; also `true` if its sort cannot be known.
 pub(crate) fn has_atom_sort(variables: &[Declaration], form: &Form) -> bool
-    ensures { result ≡ admits_atom (sort_of (map declaration_view variables.now) (view form.now)) }
+    ensures { result ≡ admits_atom (sort_of variables.now (view form.now)) }
 {
     match sort_of(variables, form) {
         None => true,

@@ -1,18 +1,16 @@
 // What terms of the input stand for. What stands for a term with faults has no meaning.
 ghost use Rattle.std.specs.Prelude.{◌≡◌, [], map, option_map, None, IfOk};
-ghost use Rattle.cp_model.specs.Term.{tag_term, atom_term, enc_term, atom_of_variable, asymmetric_term, pubk_term, symmetric_term, skey_variable};
+ghost use Rattle.cp_model.specs.Term.{variable_term, tag_term, atom_term, enc_term, asymmetric_term, pubk_term, symmetric_term, skey_variable};
 ghost use Rattle.cp_sexpr.specs.View.{view};
 ghost use Rattle.cp_language.specs.Roles.{headed};
 ghost use Rattle.cp_language.specs.Terms.{variable_named, term_of_variable, paired, all_but_last, last_of, as_key, as_name, long_term, inverted, applied, term_of};
-ghost use Rattle.cp_strand.specs.View.{declaration_view};
 ghost use Rattle.cp_term.specs.Keys.{name_of, key_as_term};
-ghost use Rattle.cp_scope.specs.Heads.{term_head_view};
-ghost use Rattle.cp_scope.specs.Terms.{variable_view};
 ghost use Rattle.cp_scope.specs.Applied.{is_name, is_key, purpose_in, key_of_purpose};
 
-use crate::sorts::{Variable, variable_named};
+use crate::sorts::variable_named;
 use crate::{TermHead, headed, term_head};
 use cp_base::Text;
+use cp_model::Variable;
 use cp_sexpr::Form;
 use cp_strand::Declaration;
 use cp_term::{Shape, Sort, Term, VarId, enc, invert, ltk, pair, pubk, tag, var};
@@ -27,7 +25,7 @@ pub fn no_term(alloc: Global) -> Result<Term, AllocError>
 
 /// The variable as a term.
 pub fn variable_term(alloc: Global, variable: Variable) -> Result<Term, AllocError>
-    ensures { IfOk result (λ t. t ≡ atom_term (atom_of_variable (variable_view variable))) }
+    ensures { IfOk result (λ t. t ≡ variable_term variable) }
 {
     var(alloc, VarId::numbered(variable.number), variable.sort)
 }
@@ -190,7 +188,7 @@ pub fn applied(
     items: &[Form],
     terms: Vec<Term>,
 ) -> Result<Term, AllocError>
-    ensures { IfOk result (λ t. t ≡ applied (term_head_view head) (map view items.now) terms.items) }
+    ensures { IfOk result (λ t. t ≡ applied head (map view items.now) terms.items) }
 {
     match head {
         TermHead::Cat => paired(alloc, terms),
@@ -209,7 +207,7 @@ fn named_term(
     variables: &[Declaration],
     identifier: &[u8],
 ) -> Result<Term, AllocError>
-    ensures { IfOk result (λ t. t ≡ term_of_variable (variable_named (map declaration_view variables.now) identifier.now)) }
+    ensures { IfOk result (λ t. t ≡ term_of_variable (variable_named variables.now identifier.now)) }
 {
     match variable_named(variables, identifier) {
         Some(variable) => variable_term(alloc, variable),
@@ -219,7 +217,7 @@ fn named_term(
 
 /// What a term that is no list with a head stands for.
 fn leaf_term(alloc: Global, variables: &[Declaration], form: &Form) -> Result<Term, AllocError>
-    ensures { IfOk result (λ t. headed (view form.now) ≡ None → t ≡ term_of (map declaration_view variables.now) (view form.now)) }
+    ensures { IfOk result (λ t. headed (view form.now) ≡ None → t ≡ term_of variables.now (view form.now)) }
 {
     match form {
         Form::Symbol(_, identifier) => named_term(alloc, variables, identifier.as_bytes()),
@@ -230,7 +228,7 @@ fn leaf_term(alloc: Global, variables: &[Declaration], form: &Form) -> Result<Te
 
 /// What a term over these variables stands for.
 pub fn term_of(alloc: Global, variables: &[Declaration], form: &Form) -> Result<Term, AllocError>
-    ensures { IfOk result (λ t. t ≡ term_of (map declaration_view variables.now) (view form.now)) }
+    ensures { IfOk result (λ t. t ≡ term_of variables.now (view form.now)) }
 {
     let Some(list) = headed(form) else {
         return leaf_term(alloc, variables, form);

@@ -2,66 +2,9 @@
 ghost use Rattle.std.specs.Prelude.{◌≡◌, ◌||◌, codes};
 ghost use Rattle.cp_model.specs.Same.{same_text};
 ghost use Rattle.cp_language.specs.Words.{is_one_of, heads_out_of_profile, state_heads, other_operations, other_sorts, sort_word, term_head, event_head, item_head, top_head};
-ghost use Rattle.cp_scope.specs.Heads.{sort_word_view, term_head_view, event_head_view, item_head_view, top_head_view};
 
+use cp_language::{EventHead, ItemHead, SortWord, TermHead, TopHead};
 use cp_term::Sort;
-
-/// What a word in the place of a sort names.
-#[derive(Clone, Copy)]
-pub enum SortWord {
-    /// An atom sort.
-    Atoms(Sort),
-    Messages,
-    OutOfProfile,
-    Unknown,
-}
-
-/// What the head of a list in a term names.
-#[derive(Clone, Copy)]
-pub enum TermHead {
-    Cat,
-    Enc,
-    Ltk,
-    Pubk,
-    Privk,
-    Invk,
-    OutOfProfile,
-    Unknown,
-}
-
-/// What the head of an event names.
-#[derive(Clone, Copy)]
-pub enum EventHead {
-    Send,
-    Recv,
-    OutOfProfile,
-    Unknown,
-}
-
-/// What the head of an item of a protocol, a role or a problem names.
-#[derive(Clone, Copy)]
-pub enum ItemHead {
-    Role,
-    Non,
-    PenetratorNon,
-    Unique,
-    Strand,
-    Listener,
-    Precedes,
-    Comment,
-    OutOfProfile,
-    Unknown,
-}
-
-/// What the head of a top form names.
-#[derive(Clone, Copy)]
-pub enum TopHead {
-    Protocol,
-    Problem,
-    Free,
-    OutOfProfile,
-    Unknown,
-}
 
 /// Whether the texts are equal.
 pub fn is_word(text: &[u8], word: &[u8]) -> bool
@@ -122,7 +65,7 @@ fn is_other_sort(word: &[u8]) -> bool
 
 /// What a word names where a sort stands.
 pub fn sort_word(word: &[u8]) -> SortWord
-    ensures { sort_word_view result ≡ sort_word word.now }
+    ensures { result ≡ sort_word word.now }
 {
     if is_word(word, b"text") {
         SortWord::Atoms(Sort::Text)
@@ -152,7 +95,7 @@ fn is_operation_out_of_profile(head: &[u8]) -> bool
 
 /// What the head of a list in a term names.
 pub fn term_head(head: &[u8]) -> TermHead
-    ensures { term_head_view result ≡ term_head head.now }
+    ensures { result ≡ term_head head.now }
 {
     if is_word(head, b"cat") {
         TermHead::Cat
@@ -182,7 +125,7 @@ fn is_item_out_of_profile(head: &[u8]) -> bool
 
 /// What the head of an event names.
 pub fn event_head(head: &[u8]) -> EventHead
-    ensures { event_head_view result ≡ event_head head.now }
+    ensures { result ≡ event_head head.now }
 {
     if is_word(head, b"send") {
         EventHead::Send
@@ -197,7 +140,7 @@ pub fn event_head(head: &[u8]) -> EventHead
 
 /// What the head of an item of a protocol, a role or a problem names.
 pub fn item_head(head: &[u8]) -> ItemHead
-    ensures { item_head_view result ≡ item_head head.now }
+    ensures { result ≡ item_head head.now }
 {
     if is_word(head, b"defrole") {
         ItemHead::Role
@@ -231,7 +174,7 @@ fn is_free(head: &[u8]) -> bool
 
 /// What the head of a top form names.
 pub fn top_head(head: &[u8]) -> TopHead
-    ensures { top_head_view result ≡ top_head head.now }
+    ensures { result ≡ top_head head.now }
 {
     if is_word(head, b"defprotocol") {
         TopHead::Protocol

@@ -134,7 +134,7 @@ module _ (old : List Made) (x : Made) (new : List Made) (behind : new ≡ old ++
 
   -- A label that may live is made.
   pub makes_one : IfSome x.parent (λ p. p < length old) → x.dead ≡ false → FindsLeast (MayBeSeen old x.parent (skeleton_view x.skeleton)) x.seen_in →
-      ListsUnrealised (skeleton_view x.skeleton) x.unrealised.items → (x.general ≡ true → IsMaximallyGeneral (skeleton_view x.skeleton)) → AddsMade m old new
+      ListsUnrealised (skeleton_view x.skeleton) x.unrealised → (x.general ≡ true → IsMaximallyGeneral (skeleton_view x.skeleton)) → AddsMade m old new
   makes_one later lives least listed general = adds_one (record {
     signature = signature;
     dead_none = λ dead. absurd (cc);
@@ -145,7 +145,7 @@ module _ (old : List Made) (x : Made) (new : List Made) (behind : new ≡ old ++
   }) later
 
   -- One that is dead from the start is made.
-  pub makes_dead : x.parent ≡ None → x.dead ≡ true → x.seen_in ≡ None → x.unrealised.items ≡ [] → x.general ≡ false → AddsMade m old new
+  pub makes_dead : x.parent ≡ None → x.dead ≡ true → x.seen_in ≡ None → x.unrealised ≡ [] → x.general ≡ false → AddsMade m old new
   makes_dead root dead unseen none unknown = adds_one (record {
     signature = signature;
     dead_none = λ _. none;

@@ -5,11 +5,9 @@ use Rattle.std.proofs.lemmas.List.{length-map}
 use Rattle.cp_lists.specs.Lists.{item_at}
 use Rattle.cp_lists.proofs.Items.{item_there, item_of_read, map_of_item}
 use Rattle.cp_model.specs.Skeleton.{Skeleton}
-use Rattle.cp_model.specs.Tree.{Mark}
-use Rattle.cp_skel.specs.Trees.{mark_view}
-use Rattle.cp_skel.specs.declared.tree.Mark.{Mark as ProgramMark}
+use Rattle.cp_model.specs.declared.tree.Mark.{Mark}
 use Rattle.cp_shapes.specs.Shapes.{IsMarkOf, AreShapeMarksOf}
-use Rattle.cp_shapes.proofs.Gathered.{AreTo, next_row}
+use Rattle.cp_shapes.proofs.Gathered.{AreTo, next_to}
 use Rattle.cp_tree.specs.Candidates.{Candidate, skeletons_of, IsLabelAt}
 use Rattle.cp_tree.specs.Searched.{IsMarkedAmong, as_shape, as_instance}
 use Rattle.cp_search.specs.Candidates.{candidate_mark}
@@ -25,8 +23,8 @@ module _ (cs : List Candidate) where
   abbrev pub IsCandidateMark : ℕ → Mark → Type 0
   IsCandidateMark p mark = (c : Candidate) → item_at cs p ≡ Some c → IsMarkedAmong cs c.number (Some mark)
 
-  abbrev pub AreMarkedTo : List ProgramMark → ℕ → Type 0
-  AreMarkedTo marks n = AreTo IsCandidateMark (map mark_view marks) n
+  abbrev pub AreMarkedTo : List Mark → ℕ → Type 0
+  AreMarkedTo marks n = AreTo IsCandidateMark marks n
 
   module _ (numbers : List ℕ) (numbers_are : numbers ≡ map (λ c. c.number) cs) where
     shape_place : (q : ℕ) → q < length (skeletons_of cs) → IsLabelAt cs q (slice_index_or numbers q 0)
@@ -62,10 +60,10 @@ module _ (cs : List Candidate) where
         pub number_within : IfSome o (λ place. place < length numbers)
         number_within = numbered p o mark_of
 
-        pub next_marked : (old new : List ProgramMark) (mark : ProgramMark) → AreMarkedTo old p → mark_view mark ≡ candidate_mark numbers o → new ≡ old ++ mark ∷ [] → AreMarkedTo new (p + 1)
-        next_marked old new mark so_far is_mark e = next_row IsCandidateMark mark_view old p mark so_far (subst (IsCandidateMark p) (sym is_mark) (marked p o mark_of)) new e
+        pub next_marked : (old new : List Mark) (mark : Mark) → AreMarkedTo old p → mark ≡ candidate_mark numbers o → new ≡ old ++ mark ∷ [] → AreMarkedTo new (p + 1)
+        next_marked old new mark so_far is_mark e = next_to IsCandidateMark old p mark so_far (subst (IsCandidateMark p) (sym is_mark) (marked p o mark_of)) new e
 
-      pub all_marked : (marks : List ProgramMark) (n : ℕ) → AreMarkedTo marks n → n ≤ length shapes → length shapes ≤ n → AreCandidateMarks cs (map mark_view marks)
+      pub all_marked : (marks : List Mark) (n : ℕ) → AreMarkedTo marks n → n ≤ length shapes → length shapes ≤ n → AreCandidateMarks cs marks
       all_marked marks n to below above = record {
         count = to.count ∙ (let same : n ≡ length shapes = omega (arith, below, above) in same ∙ same_count);
         each = λ p c mark at is. to.each p mark is c at;

@@ -3,16 +3,16 @@ use Rattle.std.proofs.Common.{◌≡◌, ◌≢◌, ℕ, ◌+◌, ◌<◌, ◌�
 use Rattle.std.proofs.lemmas.List.{length-map}
 use Rattle.cp_lists.specs.Lists.{item_at, IsIn}
 use Rattle.cp_lists.proofs.Members.{into_map, from_map}
-use Rattle.cp_model.specs.Strand.{Declaration, Protocol}
+use Rattle.cp_model.specs.Strand.{Protocol}
+use Rattle.cp_model.specs.declared.variable.Declaration.{Declaration}
 use Rattle.cp_model.specs.Skeleton.{Skeleton}
 use Rattle.cp_model.specs.Derivable.{IsUnrealised}
 use Rattle.cp_model.specs.Problem.{numbers_from}
 use Rattle.cp_model.specs.PointOfView.{IsPointOfView}
-use Rattle.cp_model.specs.Tree.{Limits}
-use Rattle.cp_model.proofs.Numbers.{numbers_length}
+use Rattle.cp_model.specs.declared.tree.Limits.{Limits}
+use Rattle.cp_model.proofs.NumbersFrom.{numbers_length}
 use Rattle.cp_strand.specs.View.{strand_view}
 use Rattle.cp_skel.specs.View.{skeleton_view}
-use Rattle.cp_skel.specs.Trees.{variables_view, test_view}
 use Rattle.cp_cohort.specs.CoveringChildren.{Child}
 use Rattle.cp_expansion.specs.Expansion.{Expansion, IsExpansionOf}
 use Rattle.cp_tree.specs.Made as plain
@@ -54,18 +54,18 @@ module _ (protocol : Protocol) (limits : Limits) (i n : ℕ) (old new : List Mad
   few_strands : length (skeleton_view m.skeleton).strands ≤ limits.strands
   few_strands = let l : length m.skeleton.strands ≤ limits.strands = expands.strands in let k = length-map m.skeleton.strands strand_view in omega (arith, l, k)
 
-  as_many : length e.children.items ≡ length x.children
+  as_many : length e.children ≡ length x.children
   as_many = ap length x.numbers ∙ numbers_length (length old) x.children
 
   becomes : Becomes protocol limits links IsOpenMark i n (made_view m) (expanded_label m e) (map made_view x.made.added)
   becomes = subst (Becomes protocol limits links IsOpenMark i n (made_view m) (expanded_label m e)) (sym x.made.same)
-      (is_tested {e = record { test = test_view e.test; variables = variables_view e.skeleton.variables; patterns = e.patterns.items; children = x.children }} expands.lives is_new (found_here.listed expands.lives)
-      (some_unrealised (skeleton_view m.skeleton) m.unrealised.items expands.unrealised (found_here.listed expands.lives)) few_strands expands.steps x.expansion as_many)
+      (is_tested {e = record { test = e.test; variables = e.skeleton.variables; patterns = e.patterns; children = x.children }} expands.lives is_new (found_here.listed expands.lives)
+      (some_unrealised (skeleton_view m.skeleton) m.unrealised expands.unrealised (found_here.listed expands.lives)) few_strands expands.steps x.expansion as_many)
 
   way : link_of (expanded_label m e) ≡ made_link m
-  way = ap (λ (o : Option ℕ). record { parent = m.parent; seen_in = o; skeleton = skeleton_view m.skeleton }) (marked_unseen e.children.items ∙ sym expands.new)
+  way = ap (λ (o : Option ℕ). record { parent = m.parent; seen_in = o; skeleton = skeleton_view m.skeleton }) (marked_unseen e.children ∙ sym expands.new)
 
-  own_numbers : e.children.items ≡ numbers_from (length old) x.made.added
+  own_numbers : e.children ≡ numbers_from (length old) x.made.added
   own_numbers =
       let f : Child → plain.Made = plain.made_of_child i in
       x.numbers ∙ (sym (numbers_of_map f (length old) x.children) ∙ (ap (numbers_from (length old)) (sym x.made.same) ∙ numbers_of_map made_view (length old) x.made.added))
@@ -91,15 +91,15 @@ expanded_pushed protocol limits roots old new ss i n e label r at to same x then
     subst (λ (k : ℕ). IsSearched protocol limits roots new then k) (sym counted) (subst (λ (xs : List Resolved). IsSearched protocol limits roots new xs (n + 1)) (sym pushed) next)
 
 -- What is there when a label is expanded.
-pub found_to_expand : (limits : Limits) (i n : ℕ) (ms : List Made) → AreFound ms → (label m : Made) → item_at ms i ≡ Some label → IsToExpand limits label n → item_at ms i ≡ Some m → (m.dead ≡ false) × (m.unrealised.items ≢ [])
+pub found_to_expand : (limits : Limits) (i n : ℕ) (ms : List Made) → AreFound ms → (label m : Made) → item_at ms i ≡ Some label → IsToExpand limits label n → item_at ms i ≡ Some m → (m.dead ≡ false) × (m.unrealised ≢ [])
 found_to_expand limits i n ms found label m at to au =
     let one : Some label ≡ Some m = sym at ∙ au in
     let same : label ≡ m = cc in
-    subst (λ (x : Made). (x.dead ≡ false) × (x.unrealised.items ≢ [])) same (to.lives, to.unrealised)
+    subst (λ (x : Made). (x.dead ≡ false) × (x.unrealised ≢ [])) same (to.lives, to.unrealised)
 
 -- What is made of the children of an expansion is sound where all labels before are.
 pub children_sound : (protocol : Protocol) (i : ℕ) (old new : List Made) (label : Made) (e : Expansion) → AddMade (map (plain.made_of_child i) e.children) old new → AreSoundMade protocol old → item_at old i ≡ Some label → label.dead ≡ false → IsUnrealised (skeleton_view label.skeleton)
-    → IsExpansionOf protocol (variables_view label.skeleton.variables) (skeleton_view label.skeleton) e → ((variables : List Declaration) (k : Skeleton) → IsPointOfView variables k → ExpandsSoundly protocol k) → AreSoundMade protocol new
+    → IsExpansionOf protocol label.skeleton.variables (skeleton_view label.skeleton) e → ((variables : List Declaration) (k : Skeleton) → IsPointOfView variables k → ExpandsSoundly protocol k) → AreSoundMade protocol new
 children_sound protocol i old new label e a s at lives unrealised is law =
     sound_behind old a.added new a.behind s
     (λ m listed.

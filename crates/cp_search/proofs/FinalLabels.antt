@@ -4,7 +4,10 @@ use Rattle.cp_lists.specs.Lists.{item_at}
 use Rattle.cp_model.specs.Strand.{Protocol}
 use Rattle.cp_model.specs.Skeleton.{Skeleton}
 use Rattle.cp_model.specs.Realisation.{AllDerivable}
-use Rattle.cp_model.specs.Tree.{Mark, dead, seen, Test, Label, Limits, is_expanded}
+use Rattle.cp_model.specs.Tree.{Test, Label, is_expanded}
+use Rattle.cp_model.specs.declared.tree.Mark.{Mark}
+use Rattle.cp_model.specs.declared.tree.Mark.TheVariants.{Dead as dead, Seen as seen}
+use Rattle.cp_model.specs.declared.tree.Limits.{Limits}
 use Rattle.cp_skel.specs.View.{skeleton_view}
 use Rattle.cp_tree.specs.Candidates.{Candidate, IsCandidate, CandidatesFrom}
 use Rattle.cp_tree.specs.Made.{Made, LabelLink, link_of, seen_in_of}

@@ -4,15 +4,18 @@ use Rattle.std.proofs.lemmas.List.{length-map, take_all}
 use Rattle.cp_lists.specs.Lists.{item_at, IsIn}
 use Rattle.cp_lists.proofs.Items.{place_of, item_of_map, map_of_item}
 use Rattle.cp_lists.proofs.Mapped.{map_then, map_alike}
-use Rattle.cp_model.specs.Strand.{Declaration, Protocol}
+use Rattle.cp_model.specs.Strand.{Protocol}
+use Rattle.cp_model.specs.declared.variable.Declaration.{Declaration}
 use Rattle.cp_model.specs.Skeleton.{Skeleton, IsSkeleton}
 use Rattle.cp_model.specs.Problem.{numbers_from}
 use Rattle.cp_model.specs.PointOfView.{IsPointOfView, HasDeclaredVariables}
-use Rattle.cp_model.specs.Tree.{Mark, dead, seen, Label, Tree, Outcome, Limits}
-use Rattle.cp_skel.specs.Trees.{variables_view}
+use Rattle.cp_model.specs.Tree.{Label, Tree}
+use Rattle.cp_model.specs.declared.tree.Mark.{Mark}
+use Rattle.cp_model.specs.declared.tree.Mark.TheVariants.{Dead as dead, Seen as seen}
+use Rattle.cp_model.specs.declared.tree.Outcome.{Outcome}
+use Rattle.cp_model.specs.declared.tree.Limits.{Limits}
 use Rattle.cp_roots.specs.Roots.{Root as PlainRoot}
 use Rattle.cp_roots.specs.Sound.{AreSound}
-use Rattle.cp_model.specs.Data.{Declared}
 use Rattle.cp_roots.specs.RootView.{root_view}
 use Rattle.cp_roots.specs.declared.root.Root.{Root}
 use Rattle.cp_tree.specs.Candidates.{Candidate, IsCandidate, CandidatesFrom, AreCandidates}
@@ -45,7 +48,7 @@ module _ (cs : List Candidate) where
 
 -- ---- roots
 
-as_made : (variables : List Declaration) (roots : List Root) → ((r : Root) → IsIn r roots → variables_view r.skeleton.variables ≡ variables) → map root_made roots ≡ map (made_of_root variables) (map root_view roots)
+as_made : (variables : List Declaration) (roots : List Root) → ((r : Root) → IsIn r roots → r.skeleton.variables ≡ variables) → map root_made roots ≡ map (made_of_root variables) (map root_view roots)
 as_made variables roots named =
     let by : Root → plain.Made = λ r. made_of_root variables (root_view r) in
     map_alike root_made by roots (λ r i. ap (λ (ds : List Declaration). made_of_root ds (root_view r)) (named r i))
@@ -78,7 +81,7 @@ module _ (protocol : Protocol) (limits : Limits) (roots : List Root) (ms : List 
       (candidates_are (IsMarkedAmong cs) protocol limits (map made_link ms) (λ i mark is e. never_dead cs i (Some mark) is (ap Some e)) (λ i k mark is e. never_seen cs i k (Some mark) is (ap Some e))
       0 0 (take (length ss) (map made_view ms)) olds labels r.children r.become given)
 
-  module _ (variables : List Declaration) (named : (root : Root) → IsIn root roots → variables_view root.skeleton.variables ≡ variables) where
+  module _ (variables : List Declaration) (named : (root : Root) → IsIn root roots → root.skeleton.variables ≡ variables) where
     all_made : take (length ss) (map made_view ms) ≡ map (made_of_root variables) (map root_view roots) ++ r.children
     all_made = whole made_view ∙ (r.all_made ∙ ap (λ (xs : List plain.Made). xs ++ r.children) (as_made variables roots named))
 
@@ -116,10 +119,7 @@ module _ (protocol : Protocol) (limits : Limits) (roots : List Root) (ms : List 
 
 -- ---- sound roots
 
-pub same_variables : (roots : List Root) (variables : List Declared) → ((r : Root) → IsIn r roots → r.skeleton.variables ≡ variables) → (r : Root) → IsIn r roots → variables_view r.skeleton.variables ≡ variables_view variables
-same_variables roots variables same r i = ap variables_view (same r i)
-
-pub sound_roots : (protocol : Protocol) (variables : List Declaration) (k : Skeleton) (roots : List Root) → IsSkeleton protocol k → IsPointOfView variables k → AreSound protocol k (map root_view roots) → ((r : Root) → IsIn r roots → variables_view r.skeleton.variables ≡ variables)
+pub sound_roots : (protocol : Protocol) (variables : List Declaration) (k : Skeleton) (roots : List Root) → IsSkeleton protocol k → IsPointOfView variables k → AreSound protocol k (map root_view roots) → ((r : Root) → IsIn r roots → r.skeleton.variables ≡ variables)
     → ((i : ℕ) (root : PlainRoot) → item_at (map root_view roots) i ≡ Some root → HasDeclaredVariables variables root.skeleton) → AreSoundRoots protocol roots
 sound_roots protocol variables k roots skeleton own sound named declared = record {
   problem = k;

@@ -1,15 +1,15 @@
 -- A label that is expanded: what it is asked for, and what comes of it.
 use Rattle.std.proofs.Common.{◌≡◌, ◌≢◌, ℕ, List, [], ◌∷◌, length, map, false, Some, refl, sym, ap, ◌∙◌, subst}
 use Rattle.cp_lists.specs.Lists.{item_at, here}
-use Rattle.cp_model.specs.Strand.{Declaration, Protocol}
+use Rattle.cp_model.specs.Strand.{Protocol}
+use Rattle.cp_model.specs.declared.variable.Declaration.{Declaration}
 use Rattle.cp_model.specs.Skeleton.{Skeleton}
 use Rattle.cp_model.specs.Derivable.{IsUnrealised}
 use Rattle.cp_model.specs.Problem.{numbers_from}
 use Rattle.cp_model.specs.PointOfView.{IsPointOfView}
 use Rattle.cp_model.specs.declared.node.Node.{Node}
 use Rattle.cp_skel.specs.View.{skeleton_view}
-use Rattle.cp_skel.specs.Trees.{variables_view}
-use Rattle.cp_skel.specs.declared.tree.Test.{Test}
+use Rattle.cp_model.specs.Tree.{Test}
 use Rattle.cp_derive.specs.Unrealised.{ListsUnrealised}
 use Rattle.cp_cohort.specs.Views.{child_view}
 use Rattle.cp_expansion.specs.Expansion.{IsExpansionOf}
@@ -29,15 +29,15 @@ some_unrealised k [] lists some = absurd (some refl)
 some_unrealised k (n ∷ ns) lists some = let u = (lists.each n).0 here in record { node = n; message = u.message; reception = u.reception; underivable = u.underivable }
 
 pub label_expanded : (protocol : Protocol) (i : ℕ) (old new : List Made) (label : Made) (test : Test) (x : expansions.Expansion) (e : Expanded) → AreSoundMade protocol old → item_at old i ≡ Some label
-    → (label.dead ≡ false) × (label.unrealised.items ≢ []) → ListsUnrealised (skeleton_view label.skeleton) label.unrealised.items → ((variables : List Declaration) (k : Skeleton) → IsPointOfView variables k → ExpandsSoundly protocol k)
-    → IsExpansionOf protocol (variables_view label.skeleton.variables) (skeleton_view label.skeleton) (expansion_view test x) → skeleton_view x.skeleton ≡ skeleton_view label.skeleton
-    → AddMade (map (plain.made_of_child i) (map child_view x.children.items)) old new → e.children.items ≡ numbers_from (length old) x.children.items
-    → e.skeleton ≡ x.skeleton → e.test ≡ test → e.patterns.items ≡ x.patterns.items → ExpandsLabel protocol i old new e
+    → (label.dead ≡ false) × (label.unrealised ≢ []) → ListsUnrealised (skeleton_view label.skeleton) label.unrealised → ((variables : List Declaration) (k : Skeleton) → IsPointOfView variables k → ExpandsSoundly protocol k)
+    → IsExpansionOf protocol label.skeleton.variables (skeleton_view label.skeleton) (expansion_view test x) → skeleton_view x.skeleton ≡ skeleton_view label.skeleton
+    → AddMade (map (plain.made_of_child i) (map child_view x.children.items)) old new → e.children ≡ numbers_from (length old) x.children.items
+    → e.skeleton ≡ x.skeleton → e.test ≡ test → e.patterns ≡ x.patterns.items → ExpandsLabel protocol i old new e
 label_expanded protocol i old new label test x e sound at lives lists law is same made numbers skeleton tested patterns =
-    let is' : IsExpansionOf protocol (variables_view label.skeleton.variables) (skeleton_view label.skeleton) (record { test = record { node = e.test.node; critical = e.test.term }; variables = variables_view e.skeleton.variables; patterns = e.patterns.items; children = map child_view x.children.items }) =
-    subst (λ (t : Test). IsExpansionOf protocol (variables_view label.skeleton.variables) (skeleton_view label.skeleton) (record { test = record { node = t.node; critical = t.term }; variables = variables_view e.skeleton.variables; patterns = e.patterns.items; children = map child_view x.children.items })) (sym tested)
-    (subst (λ s. IsExpansionOf protocol (variables_view label.skeleton.variables) (skeleton_view label.skeleton) (record { test = record { node = test.node; critical = test.term }; variables = variables_view s.variables; patterns = e.patterns.items; children = map child_view x.children.items })) (sym skeleton)
-    (subst (λ ps. IsExpansionOf protocol (variables_view label.skeleton.variables) (skeleton_view label.skeleton) (record { test = record { node = test.node; critical = test.term }; variables = variables_view x.skeleton.variables; patterns = ps; children = map child_view x.children.items })) (sym patterns) is)) in
+    let is' : IsExpansionOf protocol label.skeleton.variables (skeleton_view label.skeleton) (record { test = e.test; variables = e.skeleton.variables; patterns = e.patterns; children = map child_view x.children.items }) =
+    subst (λ (t : Test). IsExpansionOf protocol label.skeleton.variables (skeleton_view label.skeleton) (record { test = t; variables = e.skeleton.variables; patterns = e.patterns; children = map child_view x.children.items })) (sym tested)
+    (subst (λ s. IsExpansionOf protocol label.skeleton.variables (skeleton_view label.skeleton) (record { test = test; variables = s.variables; patterns = e.patterns; children = map child_view x.children.items })) (sym skeleton)
+    (subst (λ ps. IsExpansionOf protocol label.skeleton.variables (skeleton_view label.skeleton) (record { test = test; variables = x.skeleton.variables; patterns = ps; children = map child_view x.children.items })) (sym patterns) is)) in
     record {
       label = label;
       at = at;
@@ -45,6 +45,6 @@ label_expanded protocol i old new label test x e sound at lives lists law is sam
       expansion = is';
       same = ap skeleton_view skeleton ∙ same;
       made = made;
-      sound = children_sound protocol i old new label (expansion_view test x) made sound at lives.0 (some_unrealised (skeleton_view label.skeleton) label.unrealised.items lists lives.1) is law;
+      sound = children_sound protocol i old new label (expansion_view test x) made sound at lives.0 (some_unrealised (skeleton_view label.skeleton) label.unrealised lists lives.1) is law;
       numbers = numbers ∙ sym (numbers_of_map child_view (length old) x.children.items);
     }

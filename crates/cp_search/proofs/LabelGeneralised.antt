@@ -2,13 +2,13 @@
 use Rattle.std.proofs.Common.{◌≡◌, ℕ, List, [], ◌∷◌, length, true, false, Option, Some, None, IfSome, IfNone, sym, ap, subst, ◌∙◌, refl}
 use Rattle.cp_lists.specs.Lists.{item_at}
 use Rattle.cp_lists.proofs.Members.{only_item}
-use Rattle.cp_model.specs.Strand.{Declaration, Protocol}
+use Rattle.cp_model.specs.Strand.{Protocol}
+use Rattle.cp_model.specs.declared.variable.Declaration.{Declaration}
 use Rattle.cp_model.specs.Skeleton.{Skeleton, IsSkeleton}
 use Rattle.cp_model.specs.PointOfView.{IsPointOfView}
-use Rattle.cp_model.specs.Tree.{by_generalising}
-use Rattle.cp_model.specs.Data.{Declared, SkeletonData}
+use Rattle.cp_model.specs.declared.tree.Operation.TheVariants.{Generalised as by_generalising}
+use Rattle.cp_model.specs.Data.{SkeletonData}
 use Rattle.cp_skel.specs.View.{skeleton_view}
-use Rattle.cp_skel.specs.Trees.{variables_view}
 use Rattle.cp_general.specs.Generalisation.{IsMaximallyGeneral, GeneralisesTo, last_step, next_step}
 use Rattle.cp_tree.specs.Made.{made_of_generalisation}
 use Rattle.cp_tree.specs.Sound.{IsSoundMade, GeneralisesSoundly}
@@ -36,20 +36,20 @@ pub found_own : (i : ℕ) (ms : List Made) (label : Made) → item_at ms i ≡ S
 found_own i ms label at o none e = (record { label = label; at = at; most_general = subst (λ (x : Option SkeletonData). IfNone x (IsMaximallyGeneral (skeleton_view label.skeleton))) e none }, refl)
 
 -- What is made of the generalisation of a label is sound where all labels before are.
-generalisation_sound : (protocol : Protocol) (i : ℕ) (old new : List Made) (label : Made) (g : Skeleton) → item_at old i ≡ Some label → GeneralisesTo (skeleton_view label.skeleton) g → AddsMade (made_of_generalisation i (variables_view label.skeleton.variables) g) old new
+generalisation_sound : (protocol : Protocol) (i : ℕ) (old new : List Made) (label : Made) (g : Skeleton) → item_at old i ≡ Some label → GeneralisesTo (skeleton_view label.skeleton) g → AddsMade (made_of_generalisation i label.skeleton.variables g) old new
     → ((variables : List Declaration) (k : Skeleton) → IsSkeleton protocol k → IsPointOfView variables k → GeneralisesSoundly protocol k) → label.dead ≡ false → AreSoundMade protocol old → AreSoundMade protocol new
 generalisation_sound protocol i old new label g at to a law lives s =
     sound_behind old (a.added ∷ []) new a.behind s
     (λ m listed.
-    let same : made_of_generalisation i (variables_view label.skeleton.variables) g ≡ made_view m = sym a.same ∙ ap made_view (sym (only_item listed)) in
+    let same : made_of_generalisation i label.skeleton.variables g ≡ made_view m = sym a.same ∙ ap made_view (sym (only_item listed)) in
     subst (IsSoundMade protocol s.problem) same ((law s.variables s.problem s.skeleton s.own (made_view label) g (s.each i label at) lives to).made i))
 
 -- What is made of another that is found.
 pub found_other : (i child : ℕ) (old new : List Made) (label : Made) (g : SkeletonData) → item_at old i ≡ Some label → label.general ≡ false → GeneralisesTo (skeleton_view label.skeleton) (skeleton_view g) → g.variables ≡ label.skeleton.variables
-    → AddsMade (record { parent = Some i; operation = by_generalising; variables = variables_view g.variables; skeleton = skeleton_view g; dead = false }) old new → AddsGeneral true old new
+    → AddsMade (record { parent = Some i; operation = by_generalising; variables = g.variables; skeleton = skeleton_view g; dead = false }) old new → AddsGeneral true old new
     → ((protocol : Protocol) (variables : List Declaration) (k : Skeleton) → IsSkeleton protocol k → IsPointOfView variables k → GeneralisesSoundly protocol k) → child ≡ length old → GeneralisesLabel i old new (Some child)
 found_other i child old new label g at unknown to same adds general law last =
-    let made : AddsMade (made_of_generalisation i (variables_view label.skeleton.variables) (skeleton_view g)) old new = subst (λ (ds : List Declared). AddsMade (made_of_generalisation i (variables_view ds) (skeleton_view g)) old new) same adds in (
+    let made : AddsMade (made_of_generalisation i label.skeleton.variables (skeleton_view g)) old new = subst (λ (ds : List Declaration). AddsMade (made_of_generalisation i ds (skeleton_view g)) old new) same adds in (
       record {
         label = label;
         at = at;

@@ -1,15 +1,13 @@
 -- Labels of a tree are put together one by one.
-use Rattle.std.proofs.Common.{◌≡◌, ℕ, suc, ◌+◌, ◌<◌, ◌≤◌, List, [], ◌∷◌, ◌++◌, length, map, drop, get_or, reverse, option_map, Option, Some, None, sym, ap, subst, ◌∙◌, refl}
+use Rattle.std.proofs.Common.{◌≡◌, ℕ, suc, ◌+◌, ◌<◌, ◌≤◌, List, [], ◌∷◌, ◌++◌, length, map, drop, get_or, reverse, Option, Some, sym, ap, subst, ◌∙◌, refl}
 use Rattle.std.proofs.lemmas.List.{append_assoc, map-append, drop_all}
 use Rattle.cp_lists.specs.Lists.{IsIn, here, there}
 use Rattle.cp_lists.proofs.Items.{at_place, map_of_read}
 use Rattle.cp_lists.proofs.Members.{drop_read}
-use Rattle.cp_model.specs.Tree as tree
+use Rattle.cp_model.specs.declared.tree.Mark.{Mark}
 use Rattle.cp_model.specs.Tree.{Label}
 use Rattle.cp_skel.specs.View.{skeleton_view}
-use Rattle.cp_skel.specs.Trees.{mark_view, label_view}
-use Rattle.cp_skel.specs.declared.tree.Mark.{Mark}
-use Rattle.cp_skel.specs.declared.tree.Mark.TheVariants.{Shape, Dead, Seen, InstanceOf, LimitSteps, LimitStrands}
+use Rattle.cp_skel.specs.Trees.{label_view}
 use Rattle.cp_skel.specs.declared.tree.TreeNode.{TreeNode}
 use Rattle.cp_tree.specs.Searched.{IsMarked}
 use Rattle.cp_search.specs.declared.made.Made.{Made}
@@ -21,7 +19,7 @@ use Rattle.cp_search.specs.ResolvedLabels.{AreExpandedOf}
 
 -- The labels so far with those of the rest are all; of the rests, the marks alone are kept last first.
 pub record AreLabelledSoFar (all : List Label) (labels : List TreeNode) (ms : List Made) (ss : List Resolved) (marks : List Mark) : Type 0 where
-  pub told : map label_view labels ++ labels_with ms ss (map mark_view (reverse marks)) ≡ all
+  pub told : map label_view labels ++ labels_with ms ss (reverse marks) ≡ all
   pub same : AreExpandedOf ms ss
 
 module _ (all : List Label) (labels : List TreeNode) (ms ms' : List Made) (ss ss' : List Resolved) (marks : List Mark) (m : Made) (s : Resolved) (so_far : AreLabelledSoFar all labels ms ss marks) (m_first : ms ≡ m ∷ ms') (s_first : ss ≡ s ∷ ss') where
@@ -32,13 +30,13 @@ module _ (all : List Label) (labels : List TreeNode) (ms ms' : List Made) (ss ss
   same_here e is = both 0 m e refl (ap (λ x. Some x) is)
 
   pub next_labelled : (mark : Option Mark) (marks' : List Mark)
-      → ((x : Made) (xs : List Made) (ys : List Resolved) → labels_with (x ∷ xs) (s ∷ ys) (map mark_view (reverse marks)) ≡ label_with x s (option_map mark_view mark) ∷ labels_with xs ys (map mark_view (reverse marks')))
-      → (t : TreeNode) → label_view t ≡ label_with m s (option_map mark_view mark) → (new : List TreeNode) → new ≡ labels ++ t ∷ [] → AreLabelledSoFar all new ms' ss' marks'
+      → ((x : Made) (xs : List Made) (ys : List Resolved) → labels_with (x ∷ xs) (s ∷ ys) (reverse marks) ≡ label_with x s mark ∷ labels_with xs ys (reverse marks'))
+      → (t : TreeNode) → label_view t ≡ label_with m s mark → (new : List TreeNode) → new ≡ labels ++ t ∷ [] → AreLabelledSoFar all new ms' ss' marks'
   next_labelled mark marks' marked t is new pushed =
-      let rest = labels_with ms' ss' (map mark_view (reverse marks')) in
-      let taken : labels_with ms ss (map mark_view (reverse marks)) ≡ label_view t ∷ rest =
-      ap (λ (xs : List Made). labels_with xs ss (map mark_view (reverse marks))) m_first
-      ∙ (ap (λ (xs : List Resolved). labels_with (m ∷ ms') xs (map mark_view (reverse marks))) s_first
+      let rest = labels_with ms' ss' (reverse marks') in
+      let taken : labels_with ms ss (reverse marks) ≡ label_view t ∷ rest =
+      ap (λ (xs : List Made). labels_with xs ss (reverse marks)) m_first
+      ∙ (ap (λ (xs : List Resolved). labels_with (m ∷ ms') xs (reverse marks)) s_first
       ∙ (marked m ms' ss' ∙ ap (λ (l : Label). l ∷ rest) (sym is))) in
       record {
         told =
@@ -49,47 +47,24 @@ module _ (all : List Label) (labels : List TreeNode) (ms ms' : List Made) (ss ss
 
 -- ---- labels with a mark
 
-abbrev mark_back : tree.Mark → Mark
-mark_back tree.shape = Shape
-mark_back tree.dead = Dead
-mark_back (tree.seen n) = Seen n
-mark_back (tree.instance_of n) = InstanceOf n
-mark_back tree.limit_steps = LimitSteps
-mark_back tree.limit_strands = LimitStrands
-
-back_is : (m : Mark) → mark_back (mark_view m) ≡ m
-back_is Shape = refl
-back_is Dead = refl
-back_is (Seen n) = refl
-back_is (InstanceOf n) = refl
-back_is LimitSteps = refl
-back_is LimitStrands = refl
-
-one_mark : (m n : Mark) → mark_view m ≡ mark_view n → m ≡ n
-one_mark m n e = sym (back_is m) ∙ (ap mark_back e ∙ back_is n)
-
-some_mark : (m : Option Mark) (n : Mark) → option_map mark_view m ≡ Some (mark_view n) → m ≡ Some n
-some_mark None n e = absurd (cc)
-some_mark (Some m) n e = ap (λ x. Some x) (one_mark m n (cc))
-
 module _ (mark : Mark) where
   abbrev HasIt : List TreeNode → Type 0
-  HasIt labels = IsMarked (map label_view labels) (mark_view mark)
+  HasIt labels = IsMarked (map label_view labels) mark
 
   without : (l : TreeNode) (ls : List TreeNode) → (l.mark ≡ Some mark → ⊥) → HasIt (l ∷ ls) → HasIt ls
   without l ls other h = by h.0 h.1 h.2
     where
-      by : (x : Label) → IsIn x (map label_view (l ∷ ls)) → x.mark ≡ Some (mark_view mark) → HasIt ls
-      by x here e = absurd (other (some_mark l.mark mark e))
+      by : (x : Label) → IsIn x (map label_view (l ∷ ls)) → x.mark ≡ Some mark → HasIt ls
+      by x here e = absurd (other e)
       by x (there i) e = (x, i, e)
 
-  pub marked_here : (labels : List TreeNode) (i : ℕ) (l : TreeNode) → i < length labels → l ≡ get_or labels i l → l.mark ≡ Some mark → IsMarked (map label_view labels) (mark_view mark)
+  pub marked_here : (labels : List TreeNode) (i : ℕ) (l : TreeNode) → i < length labels → l ≡ get_or labels i l → l.mark ≡ Some mark → IsMarked (map label_view labels) mark
   marked_here labels i l lt is e =
-      (label_view l, at_place (map label_view labels) i (label_view l) (map_of_read label_view labels i l lt is), ap (option_map mark_view) e)
+      (label_view l, at_place (map label_view labels) i (label_view l) (map_of_read label_view labels i l lt is), e)
 
   -- If some label has the mark, one of those from place i on does.
   abbrev pub IsAmongRest : List TreeNode → ℕ → Type 0
-  IsAmongRest labels i = IsMarked (map label_view labels) (mark_view mark) → IsMarked (map label_view (drop i labels)) (mark_view mark)
+  IsAmongRest labels i = IsMarked (map label_view labels) mark → IsMarked (map label_view (drop i labels)) mark
 
   pub not_here : (labels : List TreeNode) (i : ℕ) (l : TreeNode) → i < length labels → l ≡ get_or labels i l → (l.mark ≡ Some mark → ⊥) → IsAmongRest labels i → IsAmongRest labels (i + 1)
   not_here labels i l lt is other so_far h = without l (drop (i + 1) labels) other (subst HasIt (drop_read labels i l lt is) (so_far h))
@@ -97,5 +72,5 @@ module _ (mark : Mark) where
   nowhere : HasIt [] → ⊥
   nowhere h = elim h.1 [ ]
 
-  pub none_marked : (labels : List TreeNode) (i : ℕ) → length labels ≤ i → IsAmongRest labels i → IsMarked (map label_view labels) (mark_view mark) → ⊥
+  pub none_marked : (labels : List TreeNode) (i : ℕ) → length labels ≤ i → IsAmongRest labels i → IsMarked (map label_view labels) mark → ⊥
   none_marked labels i done so_far h = nowhere (subst HasIt (drop_all i labels done) (so_far h))

@@ -4,7 +4,6 @@ use Rattle.std.proofs.lemmas.List.{append_assoc, append-nil, length-append, leng
 use Rattle.cp_model.specs.Problem.{numbers_from}
 use Rattle.cp_model.specs.Data.{SkeletonData}
 use Rattle.cp_skel.specs.View.{skeleton_view}
-use Rattle.cp_skel.specs.Trees.{variables_view, operation_view}
 use Rattle.cp_cohort.specs.declared.child.Child.{Child}
 use Rattle.cp_cohort.specs.Views.{child_view}
 use Rattle.cp_roots.specs.Roots.{in_report_order}
@@ -59,10 +58,10 @@ numbers_push n (y ∷ xs) x = let e : suc n + length xs ≡ n + suc (length xs) 
 
 -- The label of a child, whose skeleton is put into the order of a report.
 pub child_made : (parent : ℕ) (c : Child) (k : SkeletonData) (old new : List Made) → skeleton_view k ≡ in_report_order (skeleton_view c.skeleton) → k.variables ≡ c.skeleton.variables
-    → AddsMade (record { parent = Some parent; operation = operation_view c.operation; variables = variables_view k.variables; skeleton = skeleton_view k; dead = false }) old new → AddsMade (made_of_child parent (child_view c)) old new
+    → AddsMade (record { parent = Some parent; operation = c.operation; variables = k.variables; skeleton = skeleton_view k; dead = false }) old new → AddsMade (made_of_child parent (child_view c)) old new
 child_made parent c k old new listed same adds =
-    let made : plain.Made = record { parent = Some parent; operation = operation_view c.operation; variables = variables_view k.variables; skeleton = skeleton_view k; dead = false } in
-    let same_made : made ≡ made_of_child parent (child_view c) = λ i. record { parent = Some parent; operation = operation_view c.operation; variables = variables_view (same i); skeleton = listed i; dead = false } in
+    let made : plain.Made = record { parent = Some parent; operation = c.operation; variables = k.variables; skeleton = skeleton_view k; dead = false } in
+    let same_made : made ≡ made_of_child parent (child_view c) = λ i. record { parent = Some parent; operation = c.operation; variables = same i; skeleton = listed i; dead = false } in
     subst (λ (m : plain.Made). AddsMade m old new) same_made adds
 
 -- Of the children, which are taken in their order, those in front of what is left are made, with these numbers.

@@ -1,9 +1,12 @@
 -- The trees that are made of searches.
 use Rattle.std.proofs.Common.{◌≡◌, List, length, map, Result, Ok, Err, IfOk}
 use Rattle.cp_lists.specs.Lists.{IsIn}
-use Rattle.cp_model.specs.Strand.{Declaration, Protocol}
-use Rattle.cp_model.specs.Tree.{Mark, Tree, Limits}
-use Rattle.cp_skel.specs.Trees.{variables_view, tree_view}
+use Rattle.cp_model.specs.Strand.{Protocol}
+use Rattle.cp_model.specs.declared.variable.Declaration.{Declaration}
+use Rattle.cp_model.specs.Tree.{Tree}
+use Rattle.cp_model.specs.declared.tree.Mark.{Mark}
+use Rattle.cp_model.specs.declared.tree.Limits.{Limits}
+use Rattle.cp_skel.specs.Trees.{tree_view}
 use Rattle.cp_skel.specs.declared.tree.Tree.{Tree as ProgramTree}
 use Rattle.cp_roots.specs.RootView.{root_view}
 use Rattle.cp_roots.specs.declared.root.Root.{Root}
@@ -16,7 +19,7 @@ use Rattle.cp_search.specs.ResolvedLabels.{HasSearched}
 use Rattle.cp_search.proofs.FoundTrees.{is_tree}
 
 pub if_made : {E : Type 0} (protocol : Protocol) (variables : List Declaration) (limits : Limits) (roots : List Root) (s : Search) → HasSearched protocol limits (map root_made roots) s → length s.settled.items ≡ length s.made
-    → ((root : Root) → IsIn root roots → variables_view root.skeleton.variables ≡ variables) → (is : Tree → Type 0) → ((t : Tree) → IsTreeFrom protocol variables limits (map root_view roots) t → is t) → (r : Result ProgramTree E)
+    → ((root : Root) → IsIn root roots → root.skeleton.variables ≡ variables) → (is : Tree → Type 0) → ((t : Tree) → IsTreeFrom protocol variables limits (map root_view roots) t → is t) → (r : Result ProgramTree E)
     → IfOk r (λ t. (marks : List Mark) × AreCandidateMarks (open_from 0 s.made s.settled.items) marks × ((tree_view t).labels ≡ labels_with s.made s.settled.items marks)) → IfOk r (λ t. HasOutcome (tree_view t).labels (tree_view t).outcome)
     → IfOk r (λ t. is (tree_view t))
 if_made protocol variables limits roots s searched all named is law (Ok t) labels outcome =

@@ -3,10 +3,9 @@ use Rattle.std.proofs.Common.{◌≡◌, ℕ, ◌+◌, ◌≤◌, List, [], ◌�
 use Rattle.cp_lists.specs.Lists.{item_at}
 use Rattle.cp_model.specs.Strand.{Protocol}
 use Rattle.cp_model.specs.declared.node.Node.{Node}
-use Rattle.cp_model.specs.Tree.{Limits}
+use Rattle.cp_model.specs.declared.tree.Limits.{Limits}
 use Rattle.cp_skel.specs.View.{skeleton_view}
-use Rattle.cp_skel.specs.Trees.{variables_view}
-use Rattle.cp_skel.specs.declared.tree.Mark.{Mark as ProgramMark}
+use Rattle.cp_model.specs.declared.tree.Mark.{Mark}
 use Rattle.cp_general.specs.Generalisation.{IsMaximallyGeneral}
 use Rattle.cp_tree.specs.Made as plain
 use Rattle.cp_tree.specs.Made.{LabelLink, link_of, MayPointTo}
@@ -25,9 +24,9 @@ use Rattle.cp_search.proofs.ResolvedLeaves.{all_derivable, leaf_resolved, next_l
 record IsToGeneralise (m : Made) : Type 0 where
   lives : m.dead ≡ false
   new : m.seen_in ≡ None
-  realised : m.unrealised.items ≡ []
+  realised : m.unrealised ≡ []
 
-to_generalise : (limits : Limits) (m : Made) (n : ℕ) (o : Option (Option ProgramMark)) → IsLeafOf limits m n o → o ≡ Some None → IsToGeneralise m
+to_generalise : (limits : Limits) (m : Made) (n : ℕ) (o : Option (Option Mark)) → IsLeafOf limits m n o → o ≡ Some None → IsToGeneralise m
 to_generalise limits m n o (dead_leaf d) e = absurd (cc)
 to_generalise limits m n o (seen_leaf d s) e = absurd (cc)
 to_generalise limits m n o (open_leaf d s u) e = record { lives = d; new = s; realised = u }
@@ -51,9 +50,9 @@ module _ (protocol : Protocol) (limits : Limits) (i n child : ℕ) (old new : Li
   becomes : Becomes protocol limits links IsOpenMark i n (made_view m) (generalised_label m child) (map made_view (g.made.added ∷ []))
   becomes =
       let here : IsFound links i m = found.each i m g.at in
-      let one = is_generalised {child = child} to.lives (subst (FindsLeast (MayPointTo links i)) to.new (here.seen to.lives)) (all_derivable (skeleton_view m.skeleton) m.unrealised.items to.realised (here.listed to.lives)) g.generalises in
+      let one = is_generalised {child = child} to.lives (subst (FindsLeast (MayPointTo links i)) to.new (here.seen to.lives)) (all_derivable (skeleton_view m.skeleton) m.unrealised to.realised (here.listed to.lives)) g.generalises in
       subst (λ (x : plain.Made). Becomes protocol limits links IsOpenMark i n (made_view m) (generalised_label m child) (x ∷ [])) (sym g.made.same)
-      (subst (λ (ns : List Node). Becomes protocol limits links IsOpenMark i n (made_view m) (record (leaf (made_view m) ns None) { children = child ∷ [] }) (plain.made_of_generalisation i (variables_view m.skeleton.variables) g.skeleton ∷ [])) (sym to.realised) one)
+      (subst (λ (ns : List Node). Becomes protocol limits links IsOpenMark i n (made_view m) (record (leaf (made_view m) ns None) { children = child ∷ [] }) (plain.made_of_generalisation i m.skeleton.variables g.skeleton ∷ [])) (sym to.realised) one)
 
   way : link_of (generalised_label m child) ≡ made_link m
   way = ap (λ (o : Option ℕ). record { parent = m.parent; seen_in = o; skeleton = skeleton_view m.skeleton }) (sym to.new)
@@ -69,20 +68,20 @@ generalised_next protocol limits roots old new ss n child r g to last =
     subst (λ (ms : List Made). IsSearched protocol limits roots ms (ss ++ settled.Generalised child ∷ []) n) (sym behind)
     (subst (λ (k : ℕ). IsSearched protocol limits roots (old ++ g.made.added ∷ []) (ss ++ settled.Generalised child ∷ []) k) same next)
 
-module _ (protocol : Protocol) (limits : Limits) (roots : List plain.Made) (old new : List Made) (ss : List Resolved) (n : ℕ) (r : IsSearched protocol limits roots old ss n) (m : Made) (at : item_at old (length ss) ≡ Some m) (mark : Option ProgramMark) (leafs : IsLeafOf limits m n (Some mark)) where
+module _ (protocol : Protocol) (limits : Limits) (roots : List plain.Made) (old new : List Made) (ss : List Resolved) (n : ℕ) (r : IsSearched protocol limits roots old ss n) (m : Made) (at : item_at old (length ss) ≡ Some m) (mark : Option Mark) (leafs : IsLeafOf limits m n (Some mark)) where
   resolved_as : (s : Resolved) → ResolvesAs (length ss) old new mark s → IsSearched protocol limits roots new (ss ++ s ∷ []) n
   resolved_as (settled.Leaf own) h =
       let here = leaf_resolved protocol limits roots old ss n m mark r at leafs (λ open'. most_general old (length ss) m at (h.2 open')) in
       subst (λ (ms : List Made). IsSearched protocol limits roots ms (ss ++ settled.Leaf own ∷ []) n) (sym h.1)
-      (subst (λ (o : Option ProgramMark). IsSearched protocol limits roots old (ss ++ settled.Leaf o ∷ []) n) (sym h.0) here)
+      (subst (λ (o : Option Mark). IsSearched protocol limits roots old (ss ++ settled.Leaf o ∷ []) n) (sym h.0) here)
   resolved_as (settled.Generalised child) h =
       let g : Generalises (length ss) old new = h.2 in
-      let is : IsToGeneralise m = to_generalise limits m n (Some mark) leafs (ap (λ (o : Option ProgramMark). Some o) h.0) in
+      let is : IsToGeneralise m = to_generalise limits m n (Some mark) leafs (ap (λ (o : Option Mark). Some o) h.0) in
       generalised_next protocol limits roots old new ss n child r g (subst IsToGeneralise (same_label old (length ss) m g.label at g.at) is) h.1
   resolved_as (settled.Expanded e) h = absurd h
 
 -- A search in which one label more is resolved that is not expanded.
-pub resolved_pushed : (protocol : Protocol) (limits : Limits) (roots : List plain.Made) (old new : List Made) (ss then : List Resolved) (n : ℕ) (m : Made) (o : Option (Option ProgramMark)) (mark : Option ProgramMark) (s : Resolved) (i : ℕ) → IsSearched protocol limits roots old ss n
+pub resolved_pushed : (protocol : Protocol) (limits : Limits) (roots : List plain.Made) (old new : List Made) (ss then : List Resolved) (n : ℕ) (m : Made) (o : Option (Option Mark)) (mark : Option Mark) (s : Resolved) (i : ℕ) → IsSearched protocol limits roots old ss n
     → item_at old i ≡ Some m → IsLeafOf limits m n o → o ≡ Some mark → i ≡ length ss → ResolvesAs i old new mark s → then ≡ ss ++ s ∷ [] → IsSearched protocol limits roots new then n
 resolved_pushed protocol limits roots old new ss then n m o mark s i r at is e place h pushed =
     subst (λ (xs : List Resolved). IsSearched protocol limits roots new xs n) (sym pushed) (resolved_as protocol limits roots old new ss n r m (next_label old ss i m at place) mark (subst (IsLeafOf limits m n) e is) s (subst (λ (k : ℕ). ResolvesAs k old new mark s) place h))

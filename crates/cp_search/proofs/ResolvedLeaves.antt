@@ -1,5 +1,5 @@
 -- The next label is resolved as a leaf.
-use Rattle.std.proofs.Common.{◌≡◌, ◌≢◌, ⊎_elim, ℕ, ◌+◌, ◌<◌, ◌≤◌, List, [], ◌∷◌, ◌++◌, length, map, false, option_map, Option, Some, None, sym, ap, subst, ◌∙◌, refl, arith}
+use Rattle.std.proofs.Common.{◌≡◌, ◌≢◌, ⊎_elim, ℕ, ◌+◌, ◌<◌, ◌≤◌, List, [], ◌∷◌, ◌++◌, length, map, false, Option, Some, None, sym, ap, subst, ◌∙◌, refl, arith}
 use Rattle.std.proofs.lemmas.List.{append-nil, length-map}
 use Rattle.cp_lists.specs.Lists.{item_at, IsIn, here}
 use Rattle.cp_lists.proofs.Members.{not_in_none}
@@ -8,12 +8,11 @@ use Rattle.cp_model.specs.declared.node.Node.{Node}
 use Rattle.cp_model.specs.Skeleton.{Skeleton}
 use Rattle.cp_model.specs.Derivable.{IsUnrealised, DerivableAt}
 use Rattle.cp_model.specs.Realisation.{AllDerivable}
-use Rattle.cp_model.specs.Tree.{Mark, Limits}
+use Rattle.cp_model.specs.declared.tree.Mark.{Mark}
+use Rattle.cp_model.specs.declared.tree.Mark.TheVariants.{Dead as dead, Seen as seen, LimitSteps as limit_steps, LimitStrands as limit_strands}
+use Rattle.cp_model.specs.declared.tree.Limits.{Limits}
 use Rattle.cp_strand.specs.View.{strand_view}
 use Rattle.cp_skel.specs.View.{skeleton_view}
-use Rattle.cp_skel.specs.Trees.{mark_view}
-use Rattle.cp_skel.specs.declared.tree.Mark.{Mark as ProgramMark}
-use Rattle.cp_skel.specs.declared.tree.Mark.TheVariants as program
 use Rattle.cp_derive.specs.Unrealised.{ListsUnrealised, IsUnrealisedAt}
 use Rattle.cp_general.specs.Generalisation.{IsMaximallyGeneral}
 use Rattle.cp_tree.specs.Made as plain
@@ -64,49 +63,49 @@ module _ (protocol : Protocol) (limits : Limits) (links : List LabelLink) (i bef
   as_many : length (skeleton_view m.skeleton).strands ≡ length m.skeleton.strands
   as_many = length-map m.skeleton.strands strand_view
 
-  leaf_becomes : (o : Option (Option ProgramMark)) (mark : Option ProgramMark) → IsLeafOf limits m before o → o ≡ Some mark → (mark ≡ None → IsMaximallyGeneral (skeleton_view m.skeleton)) → Here m.unrealised.items (option_map mark_view mark)
+  leaf_becomes : (o : Option (Option Mark)) (mark : Option Mark) → IsLeafOf limits m before o → o ≡ Some mark → (mark ≡ None → IsMaximallyGeneral (skeleton_view m.skeleton)) → Here m.unrealised mark
   leaf_becomes o mark (dead_leaf d) e own =
-      let same : Some program.Dead ≡ mark = cc in
-      subst (λ (x : Option ProgramMark). Here m.unrealised.items (option_map mark_view x)) same (subst (λ (ns : List Node). Here ns (Some (mark_view program.Dead))) (sym (found.dead_none d)) (is_dead d))
+      let same : Some dead ≡ mark = cc in
+      subst (λ (x : Option Mark). Here m.unrealised x) same (subst (λ (ns : List Node). Here ns (Some dead)) (sym (found.dead_none d)) (is_dead d))
   leaf_becomes o mark (seen_leaf {n = n} d s) e own =
-      let same : Some (program.Seen n) ≡ mark = cc in
-      subst (λ (x : Option ProgramMark). Here m.unrealised.items (option_map mark_view x)) same (is_seen d (found.listed d) (subst (FindsLeast (MayPointTo links i)) s (found.seen d)))
+      let same : Some (seen n) ≡ mark = cc in
+      subst (λ (x : Option Mark). Here m.unrealised x) same (is_seen d (found.listed d) (subst (FindsLeast (MayPointTo links i)) s (found.seen d)))
   leaf_becomes o mark (open_leaf d s u) e own =
       let same : None ≡ mark = cc in
-      subst (λ (x : Option ProgramMark). Here m.unrealised.items (option_map mark_view x)) same
-      (subst (λ (ns : List Node). Here ns None) (sym u) (is_realised d (is_new d s) (all_derivable (skeleton_view m.skeleton) m.unrealised.items u (found.listed d)) (own (sym same)) refl))
+      subst (λ (x : Option Mark). Here m.unrealised x) same
+      (subst (λ (ns : List Node). Here ns None) (sym u) (is_realised d (is_new d s) (all_derivable (skeleton_view m.skeleton) m.unrealised u (found.listed d)) (own (sym same)) refl))
   leaf_becomes o mark (above_bound d s u b) e own =
-      let same : Some program.LimitStrands ≡ mark = cc in
+      let same : Some limit_strands ≡ mark = cc in
       let more : limits.strands < length m.skeleton.strands = b in
       let n = as_many in
-      subst (λ (x : Option ProgramMark). Here m.unrealised.items (option_map mark_view x)) same
-      (becomes.above_bound d (is_new d s) (found.listed d) (some_unrealised (skeleton_view m.skeleton) m.unrealised.items u (found.listed d)) (omega (arith, more, n)))
+      subst (λ (x : Option Mark). Here m.unrealised x) same
+      (becomes.above_bound d (is_new d s) (found.listed d) (some_unrealised (skeleton_view m.skeleton) m.unrealised u (found.listed d)) (omega (arith, more, n)))
   leaf_becomes o mark (at_limit d s u b l) e own =
-      let same : Some program.LimitSteps ≡ mark = cc in
+      let same : Some limit_steps ≡ mark = cc in
       let no_more : length m.skeleton.strands ≤ limits.strands = b in
       let reached : limits.steps ≤ before = l in
       let n = as_many in
       let w = below in
-      subst (λ (x : Option ProgramMark). Here m.unrealised.items (option_map mark_view x)) same
-      (becomes.at_limit d (is_new d s) (found.listed d) (some_unrealised (skeleton_view m.skeleton) m.unrealised.items u (found.listed d)) (omega (arith, no_more, n)) (omega (arith, reached, w)))
+      subst (λ (x : Option Mark). Here m.unrealised x) same
+      (becomes.at_limit d (is_new d s) (found.listed d) (some_unrealised (skeleton_view m.skeleton) m.unrealised u (found.listed d)) (omega (arith, no_more, n)) (omega (arith, reached, w)))
   leaf_becomes o mark (no_leaf x) e own = absurd (cc)
 
-  seen_as : (mark : Option ProgramMark) → m.seen_in ≡ seen_in_of (option_map mark_view mark) → link_of (leaf_label m (option_map mark_view mark)) ≡ made_link m
+  seen_as : (mark : Option Mark) → m.seen_in ≡ seen_in_of mark → link_of (leaf_label m mark) ≡ made_link m
   seen_as mark e = ap (λ (o : Option ℕ). record { parent = m.parent; seen_in = o; skeleton = skeleton_view m.skeleton }) (sym e)
 
-  leaf_link : (o : Option (Option ProgramMark)) (mark : Option ProgramMark) → IsLeafOf limits m before o → o ≡ Some mark → m.seen_in ≡ seen_in_of (option_map mark_view mark)
-  leaf_link o mark (dead_leaf d) e = let same : Some program.Dead ≡ mark = cc in found.dead_unseen d ∙ ap (λ (x : Option ProgramMark). seen_in_of (option_map mark_view x)) same
-  leaf_link o mark (seen_leaf {n = n} d s) e = let same : Some (program.Seen n) ≡ mark = cc in s ∙ ap (λ (x : Option ProgramMark). seen_in_of (option_map mark_view x)) same
-  leaf_link o mark (open_leaf d s u) e = let same : None ≡ mark = cc in s ∙ ap (λ (x : Option ProgramMark). seen_in_of (option_map mark_view x)) same
-  leaf_link o mark (above_bound d s u b) e = let same : Some program.LimitStrands ≡ mark = cc in s ∙ ap (λ (x : Option ProgramMark). seen_in_of (option_map mark_view x)) same
-  leaf_link o mark (at_limit d s u b l) e = let same : Some program.LimitSteps ≡ mark = cc in s ∙ ap (λ (x : Option ProgramMark). seen_in_of (option_map mark_view x)) same
+  leaf_link : (o : Option (Option Mark)) (mark : Option Mark) → IsLeafOf limits m before o → o ≡ Some mark → m.seen_in ≡ seen_in_of mark
+  leaf_link o mark (dead_leaf d) e = let same : Some dead ≡ mark = cc in found.dead_unseen d ∙ ap seen_in_of same
+  leaf_link o mark (seen_leaf {n = n} d s) e = let same : Some (seen n) ≡ mark = cc in s ∙ ap seen_in_of same
+  leaf_link o mark (open_leaf d s u) e = let same : None ≡ mark = cc in s ∙ ap seen_in_of same
+  leaf_link o mark (above_bound d s u b) e = let same : Some limit_strands ≡ mark = cc in s ∙ ap seen_in_of same
+  leaf_link o mark (at_limit d s u b l) e = let same : Some limit_steps ≡ mark = cc in s ∙ ap seen_in_of same
   leaf_link o mark (no_leaf x) e = absurd (cc)
 
-not_expanded : (mark : Option ProgramMark) {A : Type 0} → (e : _) → settled.Leaf mark ≡ settled.Expanded e → A
+not_expanded : (mark : Option Mark) {A : Type 0} → (e : _) → settled.Leaf mark ≡ settled.Expanded e → A
 not_expanded mark e q = absurd (cc)
 
 -- A search in which one leaf more is resolved.
-pub leaf_resolved : (protocol : Protocol) (limits : Limits) (roots : List plain.Made) (ms : List Made) (ss : List Resolved) (n : ℕ) (m : Made) (mark : Option ProgramMark) → IsSearched protocol limits roots ms ss n → item_at ms (length ss) ≡ Some m
+pub leaf_resolved : (protocol : Protocol) (limits : Limits) (roots : List plain.Made) (ms : List Made) (ss : List Resolved) (n : ℕ) (m : Made) (mark : Option Mark) → IsSearched protocol limits roots ms ss n → item_at ms (length ss) ≡ Some m
     → IsLeafOf limits m n (Some mark) → (mark ≡ None → IsMaximallyGeneral (skeleton_view m.skeleton)) → IsSearched protocol limits roots ms (ss ++ settled.Leaf mark ∷ []) n
 leaf_resolved protocol limits roots ms ss n m mark r at is own =
     let found = r.found.each (length ss) m at in
@@ -117,12 +116,12 @@ leaf_resolved protocol limits roots ms ss n m mark r at is own =
     (leaf_becomes protocol limits (map made_link ms) (length ss) n m found r.within_steps (Some mark) mark is refl own) refl (subst (λ (k : ℕ). k ≤ limits.steps) (sym same) r.within_steps) in
     subst (λ (k : ℕ). IsSearched protocol limits roots ms (ss ++ settled.Leaf mark ∷ []) k) same (subst (λ (xs : List Made). IsSearched protocol limits roots xs (ss ++ settled.Leaf mark ∷ []) (n + 0)) none next)
 
-pub expands_now : (limits : Limits) (m : Made) (n : ℕ) (o : Option (Option ProgramMark)) → IsLeafOf limits m n o → ((mark : Option ProgramMark) → o ≡ Some mark → ⊥) → IsToExpand limits m n
-expands_now limits m n o (dead_leaf d) none = absurd (none (Some program.Dead) refl)
-expands_now limits m n o (seen_leaf {n = k} d s) none = absurd (none (Some (program.Seen k)) refl)
+pub expands_now : (limits : Limits) (m : Made) (n : ℕ) (o : Option (Option Mark)) → IsLeafOf limits m n o → ((mark : Option Mark) → o ≡ Some mark → ⊥) → IsToExpand limits m n
+expands_now limits m n o (dead_leaf d) none = absurd (none (Some dead) refl)
+expands_now limits m n o (seen_leaf {n = k} d s) none = absurd (none (Some (seen k)) refl)
 expands_now limits m n o (open_leaf d s u) none = absurd (none None refl)
-expands_now limits m n o (above_bound d s u b) none = absurd (none (Some program.LimitStrands) refl)
-expands_now limits m n o (at_limit d s u b l) none = absurd (none (Some program.LimitSteps) refl)
+expands_now limits m n o (above_bound d s u b) none = absurd (none (Some limit_strands) refl)
+expands_now limits m n o (at_limit d s u b l) none = absurd (none (Some limit_steps) refl)
 expands_now limits m n o (no_leaf x) none = x
 
 -- The next label of which something has to become.

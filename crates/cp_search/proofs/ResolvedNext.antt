@@ -6,7 +6,8 @@ use Rattle.cp_lists.proofs.Items.{item_below, item_still, item_in_front, item_of
 use Rattle.cp_lists.proofs.Appended.{length_pushed}
 use Rattle.cp_model.specs.Strand.{Protocol}
 use Rattle.cp_model.specs.Problem.{numbers_from}
-use Rattle.cp_model.specs.Tree.{Label, Limits, is_expanded, expanded_count}
+use Rattle.cp_model.specs.Tree.{Label, is_expanded, expanded_count}
+use Rattle.cp_model.specs.declared.tree.Limits.{Limits}
 use Rattle.cp_skel.specs.View.{skeleton_view}
 use Rattle.cp_tree.specs.Made as plain
 use Rattle.cp_tree.specs.Made.{LabelLink, link_of}

@@ -4,7 +4,8 @@ use Rattle.std.proofs.lemmas.List.{append-nil}
 use Rattle.cp_lists.specs.Lists.{item_at}
 use Rattle.cp_lists.proofs.Items.{at_place, item_of_map, map_of_item}
 use Rattle.cp_model.specs.Strand.{Protocol}
-use Rattle.cp_model.specs.Tree.{Label, Limits, expanded_count}
+use Rattle.cp_model.specs.Tree.{Label, expanded_count}
+use Rattle.cp_model.specs.declared.tree.Limits.{Limits}
 use Rattle.cp_roots.specs.declared.root.Root.{Root}
 use Rattle.cp_tree.specs.Made as plain
 use Rattle.cp_tree.specs.Made.{link_of}

@@ -1,6 +1,7 @@
 -- Candidates for shapes among labels that are resolved, and their marks.
 use Rattle.std.specs.Prelude.{ℕ, suc, List, [], ◌∷◌, slice_index_or, Bool, true, false, Option, Some, None}
-use Rattle.cp_model.specs.Tree.{Mark, shape, instance_of}
+use Rattle.cp_model.specs.declared.tree.Mark.{Mark}
+use Rattle.cp_model.specs.declared.tree.Mark.TheVariants.{Shape as shape, InstanceOf as instance_of}
 use Rattle.cp_skel.specs.View.{skeleton_view}
 use Rattle.cp_tree.specs.Candidates.{Candidate}
 use Rattle.cp_search.specs.declared.made.Made.{Made}

@@ -4,8 +4,7 @@ use Rattle.cp_lists.specs.Lists.{item_at}
 use Rattle.cp_model.specs.Strand.{Protocol}
 use Rattle.cp_model.specs.Skeleton.{Skeleton}
 use Rattle.cp_skel.specs.View.{skeleton_view}
-use Rattle.cp_skel.specs.Trees.{variables_view}
-use Rattle.cp_skel.specs.declared.tree.Mark.{Mark}
+use Rattle.cp_model.specs.declared.tree.Mark.{Mark}
 use Rattle.cp_general.specs.Generalisation.{IsMaximallyGeneral, GeneralisesTo}
 use Rattle.cp_tree.specs.Made.{made_of_generalisation}
 use Rattle.cp_search.specs.declared.made.Made.{Made}
@@ -27,7 +26,7 @@ pub record Generalises (i : ℕ) (old new : List Made) : Type 0 where
   pub unknown : label.general ≡ false
   pub skeleton : Skeleton
   pub generalises : GeneralisesTo (skeleton_view label.skeleton) skeleton
-  pub made : AddsMade (made_of_generalisation i (variables_view label.skeleton.variables) skeleton) old new
+  pub made : AddsMade (made_of_generalisation i label.skeleton.variables skeleton) old new
   pub general : AddsGeneral true old new
   pub sound : (protocol : Protocol) → label.dead ≡ false → AreSoundMade protocol old → AreSoundMade protocol new
 

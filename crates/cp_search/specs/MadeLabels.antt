@@ -5,7 +5,6 @@ use Rattle.cp_model.specs.Strand.{Protocol}
 use Rattle.cp_model.specs.Skeleton.{Skeleton, IsSkeleton}
 use Rattle.cp_model.specs.PointOfView.{HasDeclaredVariables}
 use Rattle.cp_skel.specs.View.{skeleton_view}
-use Rattle.cp_skel.specs.Trees.{variables_view, operation_view}
 use Rattle.cp_derive.specs.Unrealised.{ListsUnrealised}
 use Rattle.cp_fingerprint.specs.Isomorphic.{IsIsomorphic}
 use Rattle.cp_fingerprint.specs.Signatures.{signature_of}
@@ -17,7 +16,7 @@ use Rattle.cp_search.specs.LeastNumber.{FindsLeast, IsFlagged}
 use Rattle.cp_general.specs.Generalisation.{IsMaximallyGeneral}
 
 abbrev pub made_view : Made → plain.Made
-made_view m = record { parent = m.parent; operation = operation_view m.operation; variables = variables_view m.skeleton.variables; skeleton = skeleton_view m.skeleton; dead = m.dead }
+made_view m = record { parent = m.parent; operation = m.operation; variables = m.skeleton.variables; skeleton = skeleton_view m.skeleton; dead = m.dead }
 
 abbrev pub made_link : Made → LabelLink
 made_link m = record { parent = m.parent; seen_in = m.seen_in; skeleton = skeleton_view m.skeleton }
@@ -46,9 +45,9 @@ AreParentsWithin ms n = (i p : ℕ) (m : Made) → item_at ms i ≡ Some m → m
 -- applies to a general one.
 pub record IsFound (links : List LabelLink) (i : ℕ) (m : Made) : Type 0 where
   pub signature : m.signature ≡ signature_of (skeleton_view m.skeleton)
-  pub dead_none : m.dead ≡ true → m.unrealised.items ≡ []
+  pub dead_none : m.dead ≡ true → m.unrealised ≡ []
   pub dead_unseen : m.dead ≡ true → m.seen_in ≡ None
-  pub listed : m.dead ≡ false → ListsUnrealised (skeleton_view m.skeleton) m.unrealised.items
+  pub listed : m.dead ≡ false → ListsUnrealised (skeleton_view m.skeleton) m.unrealised
   pub seen : m.dead ≡ false → FindsLeast (MayPointTo links i) m.seen_in
   pub general : m.general ≡ true → IsMaximallyGeneral (skeleton_view m.skeleton)
 
@@ -102,4 +101,4 @@ pub record AddMade (ms : List plain.Made) (old new : List Made) : Type 0 where
 
 -- Each label is a skeleton over the protocol, with declared variables.
 abbrev pub AreOver : Protocol → List Made → Type 0
-AreOver protocol ms = (i : ℕ) (m : Made) → item_at ms i ≡ Some m → IsSkeleton protocol (skeleton_view m.skeleton) × HasDeclaredVariables (variables_view m.skeleton.variables) (skeleton_view m.skeleton)
+AreOver protocol ms = (i : ℕ) (m : Made) → item_at ms i ≡ Some m → IsSkeleton protocol (skeleton_view m.skeleton) × HasDeclaredVariables m.skeleton.variables (skeleton_view m.skeleton)

@@ -1,15 +1,16 @@
 -- What has become of labels, as the program keeps it.
-use Rattle.std.specs.Prelude.{◌≡◌, ◌≢◌, ◌<◌, ◌≤◌, ℕ, List, [], ◌∷◌, ◌++◌, length, map, take, option_map, true, false, Option, Some, None}
+use Rattle.std.specs.Prelude.{◌≡◌, ◌≢◌, ◌<◌, ◌≤◌, ℕ, List, [], ◌∷◌, ◌++◌, length, map, take, true, false, Option, Some, None}
 use Rattle.cp_lists.specs.Lists.{item_at, IsIn}
-use Rattle.cp_model.specs.Strand.{Declaration, Protocol}
+use Rattle.cp_model.specs.Strand.{Protocol}
+use Rattle.cp_model.specs.declared.variable.Declaration.{Declaration}
 use Rattle.cp_model.specs.Skeleton.{Skeleton, IsSkeleton}
 use Rattle.cp_model.specs.Problem.{numbers_from}
 use Rattle.cp_model.specs.PointOfView.{IsPointOfView}
-use Rattle.cp_model.specs.Tree.{Mark, Label, Limits, expanded_count}
+use Rattle.cp_model.specs.Tree.{Label, expanded_count}
+use Rattle.cp_model.specs.declared.tree.Mark.{Mark}
+use Rattle.cp_model.specs.declared.tree.Mark.TheVariants.{Dead as dead, Seen as seen, LimitSteps as limit_steps, LimitStrands as limit_strands}
+use Rattle.cp_model.specs.declared.tree.Limits.{Limits}
 use Rattle.cp_skel.specs.View.{skeleton_view}
-use Rattle.cp_skel.specs.Trees.{variables_view, mark_view, test_view}
-use Rattle.cp_skel.specs.declared.tree.Mark.{Mark as ProgramMark}
-use Rattle.cp_skel.specs.declared.tree.Mark.TheVariants as program
 use Rattle.cp_cohort.specs.CoveringChildren.{Child}
 use Rattle.cp_expansion.specs.Expansion.{IsExpansionOf}
 use Rattle.cp_tree.specs.Made as plain
@@ -27,7 +28,7 @@ use Rattle.cp_search.specs.MadeLabels.{made_view, made_link, AreFound, AddMade}
 
 -- The label that was made so and is a leaf, with this mark; that of one that may be a shape is still open.
 abbrev pub leaf_label : Made → Option Mark → Label
-leaf_label m mark = leaf (made_view m) m.unrealised.items mark
+leaf_label m mark = leaf (made_view m) m.unrealised mark
 
 -- The label that was made so and generalises to the label of this number.
 abbrev pub generalised_label : Made → ℕ → Label
@@ -35,11 +36,11 @@ generalised_label m child = record (leaf_label m None) { children = child ∷ []
 
 -- The label that was made so and was expanded so.
 abbrev pub expanded_label : Made → Expanded → Label
-expanded_label m e = record (leaf_label m (mark_by_children e.children.items)) { variables = variables_view e.skeleton.variables; test = Some (test_view e.test); escape = e.patterns.items; children = e.children.items }
+expanded_label m e = record (leaf_label m (mark_by_children e.children)) { variables = e.skeleton.variables; test = Some e.test; escape = e.patterns; children = e.children }
 
 -- The label that was made so and of which this has become.
 abbrev pub resolved_label : Made → Resolved → Label
-resolved_label m (settled.Leaf mark) = leaf_label m (option_map mark_view mark)
+resolved_label m (settled.Leaf mark) = leaf_label m mark
 resolved_label m (settled.Generalised child) = generalised_label m child
 resolved_label m (settled.Expanded e) = expanded_label m e
 
@@ -51,17 +52,17 @@ resolved_labels _ _ = []
 pub record IsToExpand (limits : Limits) (m : Made) (expanded : ℕ) : Type 0 where
   pub lives : m.dead ≡ false
   pub new : m.seen_in ≡ None
-  pub unrealised : m.unrealised.items ≢ []
+  pub unrealised : m.unrealised ≢ []
   pub strands : length m.skeleton.strands ≤ limits.strands
   pub steps : expanded < limits.steps
 
 -- What a label becomes, when so many were expanded, where it is a leaf: its mark.
-pub data IsLeafOf (limits : Limits) (m : Made) (expanded : ℕ) : Option (Option ProgramMark) → Type 0 where
-  dead_leaf : m.dead ≡ true → IsLeafOf limits m expanded (Some (Some program.Dead))
-  seen_leaf : {n : ℕ} → m.dead ≡ false → m.seen_in ≡ Some n → IsLeafOf limits m expanded (Some (Some (program.Seen n)))
-  open_leaf : m.dead ≡ false → m.seen_in ≡ None → m.unrealised.items ≡ [] → IsLeafOf limits m expanded (Some None)
-  above_bound : m.dead ≡ false → m.seen_in ≡ None → m.unrealised.items ≢ [] → limits.strands < length m.skeleton.strands → IsLeafOf limits m expanded (Some (Some program.LimitStrands))
-  at_limit : m.dead ≡ false → m.seen_in ≡ None → m.unrealised.items ≢ [] → length m.skeleton.strands ≤ limits.strands → limits.steps ≤ expanded → IsLeafOf limits m expanded (Some (Some program.LimitSteps))
+pub data IsLeafOf (limits : Limits) (m : Made) (expanded : ℕ) : Option (Option Mark) → Type 0 where
+  dead_leaf : m.dead ≡ true → IsLeafOf limits m expanded (Some (Some dead))
+  seen_leaf : {n : ℕ} → m.dead ≡ false → m.seen_in ≡ Some n → IsLeafOf limits m expanded (Some (Some (seen n)))
+  open_leaf : m.dead ≡ false → m.seen_in ≡ None → m.unrealised ≡ [] → IsLeafOf limits m expanded (Some None)
+  above_bound : m.dead ≡ false → m.seen_in ≡ None → m.unrealised ≢ [] → limits.strands < length m.skeleton.strands → IsLeafOf limits m expanded (Some (Some limit_strands))
+  at_limit : m.dead ≡ false → m.seen_in ≡ None → m.unrealised ≢ [] → length m.skeleton.strands ≤ limits.strands → limits.steps ≤ expanded → IsLeafOf limits m expanded (Some (Some limit_steps))
   no_leaf : IsToExpand limits m expanded → IsLeafOf limits m expanded None
 
 -- The mark of a candidate is still open.
@@ -95,11 +96,11 @@ pub record ExpandsLabel (protocol : Protocol) (i : ℕ) (old new : List Made) (e
   pub label : Made
   pub at : item_at old i ≡ Some label
   pub children : List Child
-  pub expansion : IsExpansionOf protocol (variables_view label.skeleton.variables) (skeleton_view label.skeleton) (record { test = test_view e.test; variables = variables_view e.skeleton.variables; patterns = e.patterns.items; children = children })
+  pub expansion : IsExpansionOf protocol label.skeleton.variables (skeleton_view label.skeleton) (record { test = e.test; variables = e.skeleton.variables; patterns = e.patterns; children = children })
   pub same : skeleton_view e.skeleton ≡ skeleton_view label.skeleton
   pub made : AddMade (map (plain.made_of_child i) children) old new
   pub sound : AreSoundMade protocol new
-  pub numbers : e.children.items ≡ numbers_from (length old) children
+  pub numbers : e.children ≡ numbers_from (length old) children
 
 -- An expanded label keeps its skeleton.
 abbrev pub AreExpandedOf : List Made → List Resolved → Type 0

@@ -1,6 +1,5 @@
 // Candidates for shapes, and the marks that they get.
 ghost use Rattle.std.specs.Prelude.{◌≡◌, ◌<◌, length, map, IfOk, IfSome};
-ghost use Rattle.cp_skel.specs.Trees.{mark_view};
 ghost use Rattle.cp_skel.specs.View.{skeleton_view};
 ghost use Rattle.cp_search.specs.Candidates.{is_open, open_from, candidate_mark};
 ghost use Rattle.cp_search.specs.TreeLabels.{AreCandidateMarks};
@@ -58,7 +57,7 @@ fn skeletons<'a>(
 /// The mark of a candidate: a shape if `shape` is `None`, otherwise an instance of the shape at that place.
 fn candidate_mark(numbers: &[usize], shape: Option<usize>) -> Mark
     requires { IfSome shape (λ place. place < length numbers.now) }
-    ensures { mark_view result ≡ candidate_mark numbers.now shape }
+    ensures { result ≡ candidate_mark numbers.now shape }
 {
     match shape {
         Some(place) => Mark::InstanceOf(numbers[place]),
@@ -73,7 +72,7 @@ pub(crate) fn candidate_marks(
     settled: &[Resolved],
 ) -> Result<Vec<Mark>, AllocError>
     requires { length settled.now ≡ length made.now }
-    ensures { IfOk result (λ marks. AreCandidateMarks (open_from 0 made.now settled.now) (map mark_view marks.items)) }
+    ensures { IfOk result (λ marks. AreCandidateMarks (open_from 0 made.now settled.now) marks.items) }
 {
     let numbers = numbers(alloc, made, settled)?;
     let skeletons = skeletons(alloc, made, settled)?;

@@ -5,7 +5,6 @@ ghost use Rattle.cp_model.specs.Problem.{numbers_from};
 ghost use Rattle.cp_model.specs.PointOfView.{HasDeclaredVariables};
 ghost use Rattle.cp_model.specs.Skeleton.{IsSkeleton};
 ghost use Rattle.cp_model.specs.Strand.{Protocol as PlainProtocol};
-ghost use Rattle.cp_skel.specs.Trees.{limits_view, variables_view};
 ghost use Rattle.cp_skel.specs.View.{skeleton_view};
 ghost use Rattle.cp_cohort.specs.Views.{child_view};
 ghost use Rattle.cp_derive.specs.Unrealised.{ListsUnrealised};
@@ -26,7 +25,8 @@ use crate::resolved::{Expanded, Resolved};
 use crate::roots::make_roots;
 use cp_expansion::{Expansion, expand, test_of};
 use cp_roots::Root;
-use cp_skel::{Limits, Mark, Protocol, Test};
+use cp_skel::{Limits, Mark, Numbers, Protocol, Test};
+use cp_term::Patterns;
 use cp_tree::expansions_are_sound;
 use std::alloc::{AllocError, Global};
 
@@ -42,7 +42,7 @@ pub(crate) struct Search {
 /// How this label is resolved if it is not expanded, given that `expanded` labels were: a leaf with a mark, or a leaf whose mark
 /// is open because all its receptions are derivable. `None` if the label is to be expanded.
 fn leaf_of(label: &Made, limits: Limits, expanded: usize) -> Option<Option<Mark>>
-    ensures { IsLeafOf (limits_view limits) label.now expanded result }
+    ensures { IsLeafOf limits label.now expanded result }
 {
     if label.dead {
         return Some(Some(Mark::Dead));
@@ -50,7 +50,7 @@ fn leaf_of(label: &Made, limits: Limits, expanded: usize) -> Option<Option<Mark>
     if let Some(number) = label.seen_in {
         return Some(Some(Mark::Seen(number)));
     }
-    if label.unrealised.is_empty() {
+    if label.unrealised.as_slice().is_empty() {
         return Some(None);
     }
     if label.skeleton.strands().len() > limits.strands as usize {
@@ -86,8 +86,8 @@ fn resolve_leaf(
 /// Resolves labels up to the next one that is to be expanded. Returns whether there is one.
 fn resolve_leaves(alloc: Global, limits: Limits, search: &mut Search) -> Result<bool, AllocError>
     requires found { AreFound search.old.made }
-    ensures searched { OnOk result ((protocol : PlainProtocol) (made : List plain.Made) → HasSearched protocol (limits_view limits) made search.old → HasSearched protocol (limits_view limits) made search.new) }
-    ensures next { IfOk result (λ some. some ≡ true → IsNextToExpand (limits_view limits) search.new) }
+    ensures searched { OnOk result ((protocol : PlainProtocol) (made : List plain.Made) → HasSearched protocol limits made search.old → HasSearched protocol limits made search.new) }
+    ensures next { IfOk result (λ some. some ≡ true → IsNextToExpand limits search.new) }
     ensures all { IfOk result (λ some. some ≡ false → length search.old.settled.items ≤ length search.old.made → length search.new.settled.items ≡ length search.new.made) }
     ensures expanded { search.new.expanded ≡ search.old.expanded }
 {
@@ -109,13 +109,13 @@ fn expansion_of(
     label: &Made,
 ) -> Result<(Test, Expansion), AllocError>
     requires skeleton { IsSkeleton protocol.now (skeleton_view label.now.skeleton) }
-    requires declared { HasDeclaredVariables (variables_view label.now.skeleton.variables) (skeleton_view label.now.skeleton) }
-    requires listed { ListsUnrealised (skeleton_view label.now.skeleton) label.now.unrealised.items }
-    requires unrealised { label.now.unrealised.items ≢ [] }
-    ensures exact { IfOk result (λ r. IsExpansionOf protocol.now (variables_view label.now.skeleton.variables) (skeleton_view label.now.skeleton) (expansion_view r.0 r.1)) }
+    requires declared { HasDeclaredVariables label.now.skeleton.variables (skeleton_view label.now.skeleton) }
+    requires listed { ListsUnrealised (skeleton_view label.now.skeleton) label.now.unrealised }
+    requires unrealised { label.now.unrealised ≢ [] }
+    ensures exact { IfOk result (λ r. IsExpansionOf protocol.now label.now.skeleton.variables (skeleton_view label.now.skeleton) (expansion_view r.0 r.1)) }
     ensures same { IfOk result (λ r. skeleton_view r.1.skeleton ≡ skeleton_view label.now.skeleton) }
 {
-    let Some(test) = test_of(alloc, &label.skeleton, &label.unrealised)? else {
+    let Some(test) = test_of(alloc, &label.skeleton, label.unrealised.as_slice())? else {
         unreachable!()
     };
     let expansion = expand(alloc, protocol, &label.skeleton, &test)?;
@@ -132,7 +132,7 @@ fn expand_to(
 ) -> Result<Expanded, AllocError>
     requires found { AreFound made.old }
     requires there { number < length made.old }
-    ensures { IfOk result (λ e. AddMade (map (plain.made_of_child number) (map child_view expansion.children.items)) made.old made.new × (e.children.items ≡ numbers_from (length made.old) expansion.children.items) × (e.skeleton ≡ expansion.skeleton) × (e.test ≡ test) × (e.patterns.items ≡ expansion.patterns.items)) }
+    ensures { IfOk result (λ e. AddMade (map (plain.made_of_child number) (map child_view expansion.children.items)) made.old made.new × (e.children ≡ numbers_from (length made.old) expansion.children.items) × (e.skeleton ≡ expansion.skeleton) × (e.test ≡ test) × (e.patterns ≡ expansion.patterns.items)) }
 {
     let Expansion {
         skeleton,
@@ -143,8 +143,8 @@ fn expand_to(
     Ok(Expanded {
         skeleton,
         test,
-        patterns,
-        children,
+        patterns: Patterns::of(patterns),
+        children: Numbers::of(children),
     })
 }
 
@@ -158,7 +158,7 @@ fn expand_label(
     requires there { number < length made.old }
     requires found { AreFound made.old }
     requires sound { AreSoundMade protocol.now made.old }
-    requires unrealised { (m : program.Made) → item_at made.old number ≡ Some m → (m.dead ≡ false) × (m.unrealised.items ≢ []) }
+    requires unrealised { (m : program.Made) → item_at made.old number ≡ Some m → (m.dead ≡ false) × (m.unrealised ≢ []) }
     ensures { IfOk result (ExpandsLabel protocol.now number made.old made.new) }
 {
     expansions_are_sound();
@@ -175,10 +175,10 @@ fn expand_next(
     limits: Limits,
     search: &mut Search,
 ) -> Result<(), AllocError>
-    requires next { IsNextToExpand (limits_view limits) search.old }
+    requires next { IsNextToExpand limits search.old }
     requires found { AreFound search.old.made }
     requires sound { AreSoundMade protocol.now search.old.made }
-    ensures searched { OnOk result ((made : List plain.Made) → HasSearched protocol.now (limits_view limits) made search.old → HasSearched protocol.now (limits_view limits) made search.new) }
+    ensures searched { OnOk result ((made : List plain.Made) → HasSearched protocol.now limits made search.old → HasSearched protocol.now limits made search.new) }
     ensures expanded { OnOk result (search.new.expanded ≡ search.old.expanded + 1) }
 {
     let number = search.settled.len();
@@ -196,7 +196,7 @@ pub(crate) fn search_from(
     roots: Vec<Root>,
 ) -> Result<Search, AllocError>
     requires sound { AreSoundRoots protocol.now roots.items }
-    ensures searched { IfOk result (HasSearched protocol.now (limits_view limits) (map root_made roots.items)) }
+    ensures searched { IfOk result (HasSearched protocol.now limits (map root_made roots.items)) }
     ensures all { IfOk result (λ s. length s.settled.items ≡ length s.made) }
 {
     let made = make_roots(alloc, roots)?;

@@ -1,6 +1,6 @@
 // Labels as they are made.
 use cp_fingerprint::Signature;
-use cp_skel::{Node, Operation, Skeleton};
+use cp_skel::{Nodes, Operation, Skeleton};
 
 /// A label as it is made: its parent, if it has one, the operation that made it, and its skeleton; whether it is `general`, which
 /// is set only if no step of generalising applies to it any more; and whether it is dead from the start. Then what was found when
@@ -14,5 +14,5 @@ pub(crate) struct Made {
     pub dead: bool,
     pub signature: Signature,
     pub seen_in: Option<usize>,
-    pub unrealised: Vec<Node>,
+    pub unrealised: Nodes,
 }

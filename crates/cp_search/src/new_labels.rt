@@ -1,7 +1,6 @@
 // Makes labels.
 ghost use Rattle.std.specs.Prelude.{◌≡◌, ◌<◌, length, true, false, None, IfSome, IfOk, OnOk};
 ghost use Rattle.cp_skel.specs.View.{skeleton_view};
-ghost use Rattle.cp_skel.specs.Trees.{variables_view, operation_view};
 ghost use Rattle.cp_derive.specs.Unrealised.{ListsUnrealised};
 ghost use Rattle.cp_fingerprint.specs.Signatures.{signature_of};
 ghost use Rattle.cp_general.specs.Generalisation.{IsMaximallyGeneral};
@@ -13,7 +12,7 @@ use crate::labels::Labels;
 use crate::made::Made;
 use cp_derive::unrealised;
 use cp_fingerprint::Signature;
-use cp_skel::{Node, Operation, Skeleton};
+use cp_skel::{Nodes, Operation, Skeleton};
 use std::alloc::{AllocError, Global};
 
 /// What is found when a label is made: its signature, the label in which it is seen, if any, and its unrealised receptions.
@@ -21,7 +20,7 @@ use std::alloc::{AllocError, Global};
 struct Findings {
     signature: Signature,
     seen_in: Option<usize>,
-    unrealised: Vec<Node>,
+    unrealised: Nodes,
 }
 
 /// Computes the findings for a new label with this skeleton and this parent, if it has one.
@@ -35,15 +34,15 @@ fn find(
     requires parent { IfSome parent (λ p. p < length made.now) }
     ensures signature { IfOk result (λ f. f.signature ≡ signature_of (skeleton_view skeleton.now)) }
     ensures seen { IfOk result (λ f. FindsLeast (MayBeSeen made.now parent (skeleton_view skeleton.now)) f.seen_in) }
-    ensures listed { IfOk result (λ f. ListsUnrealised (skeleton_view skeleton.now) f.unrealised.items) }
+    ensures listed { IfOk result (λ f. ListsUnrealised (skeleton_view skeleton.now) f.unrealised) }
 {
     let signature = Signature::of(alloc, skeleton)?;
     let seen_in = copied_label(alloc, made, parent, &signature, skeleton)?;
-    let unrealised = unrealised(alloc, skeleton)?;
+    let receptions = unrealised(alloc, skeleton)?;
     Ok(Findings {
         signature,
         seen_in,
-        unrealised,
+        unrealised: Nodes::of(receptions),
     })
 }
 
@@ -60,7 +59,7 @@ pub(crate) fn make(
     requires parent { IfSome parent (λ p. p < length made.old) }
     requires general { general ≡ true → IsMaximallyGeneral (skeleton_view skeleton) }
     ensures general { OnOk result (AddsGeneral general made.old made.new) }
-    ensures made { OnOk result (AddsMade (record { parent = parent; operation = operation_view operation; variables = variables_view skeleton.variables; skeleton = skeleton_view skeleton; dead = false }) made.old made.new) }
+    ensures made { OnOk result (AddsMade (record { parent = parent; operation = operation; variables = skeleton.variables; skeleton = skeleton_view skeleton; dead = false }) made.old made.new) }
 {
     let Findings {
         signature,
@@ -90,7 +89,7 @@ pub(crate) fn make_dead(
     skeleton: Skeleton,
 ) -> Result<(), AllocError>
     requires found { AreFound made.old }
-    ensures { OnOk result (AddsMade (record { parent = None; operation = operation_view operation; variables = variables_view skeleton.variables; skeleton = skeleton_view skeleton; dead = true }) made.old made.new) }
+    ensures { OnOk result (AddsMade (record { parent = None; operation = operation; variables = skeleton.variables; skeleton = skeleton_view skeleton; dead = true }) made.old made.new) }
 {
     let signature = Signature::of(alloc, &skeleton)?;
     made.push(
@@ -103,7 +102,7 @@ pub(crate) fn make_dead(
             dead: true,
             signature,
             seen_in: None,
-            unrealised: Vec::new(alloc),
+            unrealised: Nodes::new(alloc),
         },
     )
 }

@@ -1,10 +1,10 @@
 // Builds the tree once all labels are resolved.
-ghost use Rattle.std.specs.Prelude.{◌≡◌, ◌↔◌, List, ◌∷◌, length, map, reverse, option_map, Some, IsTrue, IfOk};
-ghost use Rattle.cp_skel.specs.Trees.{mark_view, outcome_view, label_view, tree_view};
+ghost use Rattle.std.specs.Prelude.{◌≡◌, ◌↔◌, List, ◌∷◌, length, map, reverse, Some, IsTrue, IfOk};
+ghost use Rattle.cp_skel.specs.Trees.{label_view, tree_view};
 ghost use Rattle.cp_tree.specs.Searched.{mark_by_children, IsMarked, HasOutcome};
 ghost use Rattle.cp_search.specs.Candidates.{open_from};
 ghost use Rattle.cp_skel.specs.View.{skeleton_view};
-ghost use Rattle.cp_model.specs.Tree.{Mark as PlainMark};
+ghost use Rattle.cp_model.specs.declared.tree.Mark.{Mark as PlainMark};
 ghost use Rattle.cp_search.specs.TreeLabels.{label_with, labels_with, AreCandidateMarks};
 ghost use Rattle.cp_search.specs.ResolvedLabels.{leaf_label, generalised_label, expanded_label, AreExpandedOf};
 ghost use Rattle.cp_search.specs.declared.made.Made as program;
@@ -16,12 +16,13 @@ use crate::candidates::candidate_marks;
 use crate::label_search::Search;
 use crate::made::Made;
 use crate::resolved::{Expanded, Resolved};
-use cp_skel::{Mark, Outcome, Tree, TreeNode};
+use cp_skel::{Mark, Numbers, Outcome, Tree, TreeNode};
+use cp_term::Patterns;
 use std::alloc::{AllocError, Global};
 
 /// A leaf of the tree with this mark.
 fn leaf(alloc: Global, made: Made, mark: Option<Mark>) -> TreeNode
-    ensures { label_view result ≡ leaf_label made (option_map mark_view mark) }
+    ensures { label_view result ≡ leaf_label made mark }
 {
     let Made {
         parent,
@@ -36,8 +37,8 @@ fn leaf(alloc: Global, made: Made, mark: Option<Mark>) -> TreeNode
         skeleton,
         unrealised,
         test: None,
-        patterns: Vec::new(alloc),
-        children: Vec::new(alloc),
+        patterns: Patterns::new(alloc),
+        children: Numbers::new(alloc),
         mark,
     }
 }
@@ -53,7 +54,7 @@ fn generalised(alloc: Global, made: Made, child: usize) -> Result<TreeNode, Allo
 
 /// The mark of an expanded label with these children.
 fn mark_by(children: &[usize]) -> Option<Mark>
-    ensures { option_map mark_view result ≡ mark_by_children children.now }
+    ensures { result ≡ mark_by_children children.now }
 {
     if children.is_empty() {
         return Some(Mark::Dead);
@@ -66,7 +67,7 @@ fn expanded(made: Made, settled: Expanded) -> TreeNode
     requires { skeleton_view settled.skeleton ≡ skeleton_view made.skeleton }
     ensures { label_view result ≡ expanded_label made settled }
 {
-    let mark = mark_by(&settled.children);
+    let mark = mark_by(settled.children.as_slice());
     let Made {
         parent,
         operation,
@@ -99,7 +100,7 @@ fn label(
     mark: Option<Mark>,
 ) -> Result<TreeNode, AllocError>
     requires { (e : program_expanded.Expanded) → settled ≡ resolved_as.Expanded e → skeleton_view e.skeleton ≡ skeleton_view made.skeleton }
-    ensures { IfOk result (λ l. label_view l ≡ label_with made settled (option_map mark_view mark)) }
+    ensures { IfOk result (λ l. label_view l ≡ label_with made settled mark) }
 {
     match settled {
         Resolved::Expanded(expansion) => Ok(expanded(made, expansion)),
@@ -111,7 +112,7 @@ fn label(
 
 /// Takes the next mark, the last of these, if the label's own mark is open.
 fn next_mark(settled: &Resolved, marks: &mut Vec<Mark>) -> Option<Mark>
-    ensures { (m : program.Made) (ms : List program.Made) (ss : List program_resolved.Resolved) → labels_with (m ∷ ms) (settled.now ∷ ss) (map mark_view (reverse marks.old.items)) ≡ label_with m settled.now (option_map mark_view result) ∷ labels_with ms ss (map mark_view (reverse marks.new.items)) }
+    ensures { (m : program.Made) (ms : List program.Made) (ss : List program_resolved.Resolved) → labels_with (m ∷ ms) (settled.now ∷ ss) (reverse marks.old.items) ≡ label_with m settled.now result ∷ labels_with ms ss (reverse marks.new.items) }
 {
     match settled {
         Resolved::Leaf(None) => marks.pop(),
@@ -127,7 +128,7 @@ fn labels(
     marks: Vec<Mark>,
 ) -> Result<Vec<TreeNode>, AllocError>
     requires same { AreExpandedOf made.items settled.items }
-    ensures { IfOk result (λ ls. map label_view ls.items ≡ labels_with made.items settled.items (map mark_view marks.items)) }
+    ensures { IfOk result (λ ls. map label_view ls.items ≡ labels_with made.items settled.items marks.items) }
 {
     let mut labels = Vec::with_capacity(alloc, made.len())?;
     let mut rest_resolved = settled.into_iter();
@@ -153,7 +154,7 @@ fn has_mark(label: &TreeNode, mark: Mark) -> bool
 
 /// Whether some label has this mark.
 fn is_marked(labels: &[TreeNode], mark: Mark) -> bool
-    ensures { IsTrue result ↔ IsMarked (map label_view labels.now) (mark_view mark) }
+    ensures { IsTrue result ↔ IsMarked (map label_view labels.now) mark }
 {
     for label in labels {
         if has_mark(label, mark) {
@@ -165,7 +166,7 @@ fn is_marked(labels: &[TreeNode], mark: Mark) -> bool
 
 /// The outcome of a search that ended with these labels.
 fn outcome_of(labels: &[TreeNode]) -> Outcome
-    ensures { HasOutcome (map label_view labels.now) (outcome_view result) }
+    ensures { HasOutcome (map label_view labels.now) result }
 {
     if is_marked(labels, Mark::LimitSteps) {
         return Outcome::LimitSteps;

@@ -4,9 +4,11 @@ ghost use Rattle.cp_lists.specs.Lists.{item_at};
 ghost use Rattle.cp_model.specs.Bundle.{Bundle, IsBundle};
 ghost use Rattle.cp_model.specs.Standing.{Standing, StandsIn, StandsApart};
 ghost use Rattle.cp_model.specs.PointOfView.{IsPointOfView};
-ghost use Rattle.cp_model.specs.Tree.{dead, at_step_limit, at_strand_limit, Label, ReachedSteps, ReachedStrands, IsTrueOf};
+ghost use Rattle.cp_model.specs.Tree.{Label, ReachedSteps, ReachedStrands, IsTrueOf};
+ghost use Rattle.cp_model.specs.declared.tree.Mark.TheVariants.{Dead as dead};
+ghost use Rattle.cp_model.specs.declared.tree.Outcome.TheVariants.{LimitSteps as at_step_limit, LimitStrands as at_strand_limit};
 ghost use Rattle.cp_skel.specs.View.{skeleton_view};
-ghost use Rattle.cp_skel.specs.Trees.{variables_view, limits_view, tree_view};
+ghost use Rattle.cp_skel.specs.Trees.{tree_view};
 ghost use Rattle.cp_theory.specs.Lawful.{IsLawful};
 ghost use Rattle.cp_roots.specs.Over.{IsOver};
 ghost use Rattle.cp_tree.specs.Searched.{IsTreeOf};
@@ -44,7 +46,8 @@ use std::alloc::{AllocError, Global};
 /// standings on to the labels to which its edges lead. A dead label stands apart in no bundle.
 ///
 /// The problem's strands must have roles of the protocol, and the problem must be a point-of-view skeleton: it maps to itself, it
-/// declares the variables that occur in it, and its assumptions and pairs are the ones that it states.
+/// declares the variables that occur in it, its assumptions are those that it states and those that its strands' roles give, and
+/// the pairs that it states generate its order.
 pub fn search(
     alloc: Global,
     protocol: &Protocol,
@@ -52,13 +55,13 @@ pub fn search(
     limits: Limits,
 ) -> Result<Tree, AllocError>
     requires over { IsOver protocol.now (skeleton_view problem.now) }
-    requires own { IsPointOfView (variables_view problem.now.variables) (skeleton_view problem.now) }
-    ensures true_tree { IfOk result (λ t. IsTrueOf protocol.now (skeleton_view problem.now) (limits_view limits) (tree_view t)) }
-    ensures exact { IfOk result (λ t. IsTreeOf protocol.now (skeleton_view problem.now) (variables_view problem.now.variables) (limits_view limits) (tree_view t)) }
-    ensures variables { IfOk result (λ t. (i : ℕ) (l : Label) → item_at (tree_view t).labels i ≡ Some l → DeclaresItsOwn (variables_view problem.now.variables) l) }
+    requires own { IsPointOfView problem.now.variables (skeleton_view problem.now) }
+    ensures true_tree { IfOk result (λ t. IsTrueOf protocol.now (skeleton_view problem.now) limits (tree_view t)) }
+    ensures exact { IfOk result (λ t. IsTreeOf protocol.now (skeleton_view problem.now) problem.now.variables limits (tree_view t)) }
+    ensures variables { IfOk result (λ t. (i : ℕ) (l : Label) → item_at (tree_view t).labels i ≡ Some l → DeclaresItsOwn problem.now.variables l) }
     ensures lawful { IfOk result (λ t. IsLawful protocol.now (skeleton_view problem.now) (tree_view t).labels (edges (tree_view t).labels)) }
     ensures dead_nowhere { IfOk result (λ t. (i : ℕ) (l : Label) → item_at (tree_view t).labels i ≡ Some l → l.mark ≡ Some dead → (b : Bundle) (h : Standing) → IsBundle protocol.now b → StandsIn l.skeleton b h → StandsApart l.skeleton h → ⊥) }
-    ensures limits { IfOk result (λ t. (((tree_view t).outcome ≡ at_step_limit) ↔ ReachedSteps (limits_view limits) (tree_view t)) × (((tree_view t).outcome ≡ at_strand_limit) ↔ ReachedStrands (limits_view limits) (tree_view t))) }
+    ensures limits { IfOk result (λ t. (((tree_view t).outcome ≡ at_step_limit) ↔ ReachedSteps limits (tree_view t)) × (((tree_view t).outcome ≡ at_strand_limit) ↔ ReachedStrands limits (tree_view t))) }
 {
     roots_have_declared_variables();
     search_trees_are_true();

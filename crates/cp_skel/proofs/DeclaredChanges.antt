@@ -3,8 +3,10 @@ use Rattle.std.proofs.Common.{◌≡◌, ◌≢◌, ◌⊎◌, inl, inr, ℕ, Li
 use Rattle.std.specs.Prelude.{Some}
 use Rattle.std.proofs.lemmas.Bool.{cases_eq}
 use Rattle.cp_lists.specs.Lists.{item_at, IsIn, here, there}
-use Rattle.cp_model.specs.Term.{Variable, AtomTerm, Term, atom_term, atom_of_variable, variables_of_atom, variables_of, Substitution, apply_to_atom}
-use Rattle.cp_model.specs.Strand.{Declaration, Role, prefix_of, variables_of_trace, variables_of_prefix}
+use Rattle.cp_model.specs.Term.{AtomTerm, Term, variable_term, variables_of_atom, variables_of, Substitution, apply_to}
+use Rattle.cp_model.specs.declared.variable.Variable.{Variable}
+use Rattle.cp_model.specs.Strand.{Role, prefix_of, variables_of_trace, variables_of_prefix}
+use Rattle.cp_model.specs.declared.variable.Declaration.{Declaration}
 use Rattle.cp_model.specs.Skeleton.{SkeletonStrand, instance, listener, skeleton_trace, UniqueAt, Assumptions, FromProblem, Skeleton}
 use Rattle.cp_model.specs.declared.node.OrderPair.{OrderPair}
 use Rattle.cp_model.specs.Same.{has_variable}
@@ -32,7 +34,7 @@ more_declared ds more k h = record {
 
 -- ---- lists that grow
 
-in_terms : (s : Substitution) (xs : List Variable) (x : Variable) → IsIn x xs → IsIn (atom_term (apply_to_atom s (atom_of_variable x))) (terms_of s xs)
+in_terms : (s : Substitution) (xs : List Variable) (x : Variable) → IsIn x xs → IsIn (apply_to s (variable_term x)) (terms_of s xs)
 in_terms s (y ∷ xs) x here = here
 in_terms s (y ∷ xs) x (there i) = there (in_terms s xs x i)
 in_terms s [] x i = elim i [ ]
@@ -55,7 +57,7 @@ module _ (ds : List Declaration) where
 
   -- ---- what an instance has
 
-  module _ (role : Role) (height : ℕ) (terms : Substitution) (each : (z : Variable) → IsIn z (variables_of_prefix role height) → (y : Variable) → IsIn y (variables_of_atom (apply_to_atom terms (atom_of_variable z))) → IsOne y) where
+  module _ (role : Role) (height : ℕ) (terms : Substitution) (each : (z : Variable) → IsIn z (variables_of_prefix role height) → (y : Variable) → IsIn y (variables_of (apply_to terms (variable_term z))) → IsOne y) where
     instance_declared : (y : Variable) → IsIn y (variables_of_trace (skeleton_trace (instance role height terms))) → IsOne y
     instance_declared = of_trace IsOne terms (prefix_of role height) each
 
@@ -124,23 +126,23 @@ module _ (ds : List Declaration) where
       by_parts old new h adds.from_problem (behind old new h adds.from_problem (instance role height adds.terms) adds.strands (instance_declared role height adds.terms each))
       (grown_assumptions role height adds.terms each (length old.strands) old.assumptions new.assumptions adds.assumptions (old_assumptions old new h adds.from_problem))
     where
-      each : (z : Variable) → IsIn z (variables_of_prefix role height) → (y : Variable) → IsIn y (variables_of_atom (apply_to_atom adds.terms (atom_of_variable z))) → IsOne y
+      each : (z : Variable) → IsIn z (variables_of_prefix role height) → (y : Variable) → IsIn y (variables_of (apply_to adds.terms (variable_term z))) → IsOne y
       each z i y j =
-          of_values (atom_term (apply_to_atom adds.terms (atom_of_variable z))) y
-          (subst (IsIn (atom_term (apply_to_atom adds.terms (atom_of_variable z)))) adds.gives (in_terms adds.terms (prefix_variables role height) z ((in-prefix role z height).1 (closed z i, i)))) j
+          of_values (apply_to adds.terms (variable_term z)) y
+          (subst (IsIn (apply_to adds.terms (variable_term z))) adds.gives (in_terms adds.terms (prefix_variables role height) z ((in-prefix role z height).1 (closed z i, i)))) j
 
   module _ (s height : ℕ) (values : List Term) (old new : Skeleton) (x : Extends s height values old new) (closed : IsClosedPrefix x.role height) (of_values : AreOfDeclared values) (h : HasDeclaredVariables ds old) where
-    of_old : (z : Variable) → IsIn z (variables_of_prefix x.role x.before) → (y : Variable) → IsIn y (variables_of_atom (apply_to_atom x.terms (atom_of_variable z))) → IsOne y
+    of_old : (z : Variable) → IsIn z (variables_of_prefix x.role x.before) → (y : Variable) → IsIn y (variables_of (apply_to x.terms (variable_term z))) → IsOne y
     of_old z i y j =
         old_strand old new h x.from_problem s (instance x.role x.before x.old_terms) x.was_instance y
-        (in_trace_under x.old_terms (prefix_of x.role x.before) z y i (subst (λ (v : AtomTerm). IsIn y (variables_of_atom v)) (sym (x.keeps z i)) j))
+        (in_trace_under x.old_terms (prefix_of x.role x.before) z y i (subst (λ (t : Term). IsIn y (variables_of t)) (sym (x.keeps z i)) j))
 
-    of_new : (z : Variable) → IsIn z (variables_of_prefix x.role height) → (IsIn z (variables_of_prefix x.role x.before) → ⊥) → (y : Variable) → IsIn y (variables_of_atom (apply_to_atom x.terms (atom_of_variable z))) → IsOne y
+    of_new : (z : Variable) → IsIn z (variables_of_prefix x.role height) → (IsIn z (variables_of_prefix x.role x.before) → ⊥) → (y : Variable) → IsIn y (variables_of (apply_to x.terms (variable_term z))) → IsOne y
     of_new z i never y j =
-        of_values (atom_term (apply_to_atom x.terms (atom_of_variable z))) y
-        (subst (IsIn (atom_term (apply_to_atom x.terms (atom_of_variable z)))) x.gives (in_terms x.terms (added_variables x.role x.before height) z ((in-added x.role z x.before height).1 (closed z i, i, never)))) j
+        of_values (apply_to x.terms (variable_term z)) y
+        (subst (IsIn (apply_to x.terms (variable_term z))) x.gives (in_terms x.terms (added_variables x.role x.before height) z ((in-added x.role z x.before height).1 (closed z i, i, never)))) j
 
-    each_term : (z : Variable) → IsIn z (variables_of_prefix x.role height) → (y : Variable) → IsIn y (variables_of_atom (apply_to_atom x.terms (atom_of_variable z))) → IsOne y
+    each_term : (z : Variable) → IsIn z (variables_of_prefix x.role height) → (y : Variable) → IsIn y (variables_of (apply_to x.terms (variable_term z))) → IsOne y
     each_term z i y j = by_test (has_variable (variables_of_prefix x.role x.before) z) refl
       where
         by_test : (b : Bool) → has_variable (variables_of_prefix x.role x.before) z ≡ b → IsOne y

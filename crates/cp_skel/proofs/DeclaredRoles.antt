@@ -1,6 +1,6 @@
 -- The variables of a prefix are among those of the whole trace.
 use Rattle.cp_lists.specs.Lists.{IsIn}
-use Rattle.cp_model.specs.Term.{Variable}
+use Rattle.cp_model.specs.declared.variable.Variable.{Variable}
 use Rattle.cp_model.specs.Strand.{Role, Protocol, variables_of_trace}
 use Rattle.cp_model.specs.Skeleton.{Skeleton, IsSkeleton}
 use Rattle.cp_model.specs.Problem.{IsDeclared}

@@ -1,15 +1,12 @@
 -- What is in the list of a skeleton's events, and the loops that make it.
 use Rattle.std.proofs.Common.{ℕ, zero, suc, ◌+◌, ◌<◌, Bool, true, false, List, [], ◌∷◌, ◌++◌, length, drop, add-one, Option, Some, None, ◌≡◌, inl, inr, refl, sym, subst, ap, ◌∙◌, arith}
-use Rattle.std.specs.Prelude.{option_map}
 use Rattle.cp_lists.specs.Lists.{item_at, IsIn, here, there}
 use Rattle.cp_model.specs.Term.{Term}
-use Rattle.cp_model.specs.Strand.{Event}
+use Rattle.cp_model.specs.declared.strand.Event.{Event}
 use Rattle.cp_model.specs.Bundle.{node_at}
 use Rattle.cp_model.specs.declared.node.Node.{Node}
 use Rattle.cp_model.specs.Skeleton.{SkeletonStrand, instance, listener, skeleton_trace, skeleton_trace_or_none, term_event_at, Skeleton}
 use Rattle.cp_model.specs.Derivable.{IsOnInstance}
-use Rattle.cp_strand.specs.View.{event_view}
-use Rattle.cp_strand.specs.declared.protocol.Event.{Event as ProgramEvent}
 use Rattle.cp_skel.specs.Events.{LocatedEvent, is_role_strand, located_events_on, located_events_from, events_of}
 use Rattle.cp_lists.proofs.Members.{in_cases, in_append, in_append_left, in_append_right}
 use Rattle.cp_lists.proofs.Items.{drop_of_item, some_within}
@@ -17,17 +14,17 @@ use Rattle.cp_lists.proofs.Appended.{moved_behind}
 
 -- ---- the loops that list them
 
-pub event_added : (s i : ℕ) (r : Bool) (es : List (Event Term)) (found : Option ProgramEvent) (e : ProgramEvent) (old new whole : List LocatedEvent) →
-    option_map event_view found ≡ item_at es i → found ≡ Some e → new ≡ old ++ (record { node = node_at s i; event = event_view e; by_role = r } ∷ []) →
+pub event_added : (s i : ℕ) (r : Bool) (es : List (Event Term)) (found : Option (Event Term)) (e : Event Term) (old new whole : List LocatedEvent) →
+    found ≡ item_at es i → found ≡ Some e → new ≡ old ++ (record { node = node_at s i; event = e; by_role = r } ∷ []) →
     old ++ located_events_on s i r (drop i es) ≡ whole → new ++ located_events_on s (i + 1) r (drop (i + 1) es) ≡ whole
 event_added s i r es found e old new whole at is n all =
-    let here : item_at es i ≡ Some (event_view e) = sym at ∙ ap (option_map event_view) is in
+    let here : item_at es i ≡ Some e = sym at ∙ is in
     rw add-one
     (moved_behind old new (located_events_on s i r (drop i es)) (located_events_on s (suc i) r (drop (suc i) es)) whole
-    (record { node = node_at s i; event = event_view e; by_role = r }) n (ap (located_events_on s i r) (drop_of_item es i (event_view e) here)) all)
+    (record { node = node_at s i; event = e; by_role = r }) n (ap (located_events_on s i r) (drop_of_item es i e here)) all)
 
-pub event_there : (i n : ℕ) (es : List (Event Term)) (found : Option ProgramEvent) → option_map event_view found ≡ item_at es i → i < n → n ≡ length es →
-    ((e : ProgramEvent) → found ≡ Some e → ⊥) → ⊥
+pub event_there : (i n : ℕ) (es : List (Event Term)) (found : Option (Event Term)) → found ≡ item_at es i → i < n → n ≡ length es →
+    ((e : Event Term) → found ≡ Some e → ⊥) → ⊥
 event_there i n es None at h l none = some_within es i (omega arith) (sym at)
 event_there i n es (Some e) at h l none = none e refl
 

@@ -2,13 +2,15 @@
 use Rattle.std.proofs.Common.{◌≡◌, ℕ, List, refl, sym, ap, ◌∙◌, true}
 use Rattle.std.specs.Prelude.{Option, Some, None}
 use Rattle.cp_lists.specs.Lists.{item_at}
-use Rattle.cp_model.specs.Term.{Sort, text_sort, datum_sort, name_sort, skey_sort, akey_sort, symmetric_term, asymmetric_term, text_variable, datum_variable, name_variable, key_term, AtomTerm, Term, atom_term, atom_of_variable, apply_to_atom}
+use Rattle.cp_model.specs.Term.{symmetric_term, asymmetric_term, text_variable, datum_variable, name_variable, key_term, Term, atom_term, variable_term, apply_to}
+use Rattle.cp_model.specs.declared.sort.Sort.{Sort}
+use Rattle.cp_model.specs.declared.sort.Sort.TheVariants.{Text as text_sort, Datum as datum_sort, Name as name_sort, Skey as skey_sort, Akey as akey_sort}
 use Rattle.cp_model.specs.Homomorphism.{text_in, datum_in, name_in, skey_in, akey_in, substitution_by}
 use Rattle.cp_model.specs.PrefixVariables.{fits}
 use Rattle.cp_strand.specs.Valued.{term_or}
 
 -- A term of the variable's sort that stands at its number is what the variable becomes.
-pub placed : (s : Sort) (n : ℕ) (t : Term) (ts : List Term) → fits s t ≡ true → item_at ts n ≡ Some t → atom_term (apply_to_atom (substitution_by ts) (atom_of_variable (record { sort = s; number = n }))) ≡ t
+pub placed : (s : Sort) (n : ℕ) (t : Term) (ts : List Term) → fits s t ≡ true → item_at ts n ≡ Some t → apply_to (substitution_by ts) (variable_term (record { sort = s; number = n })) ≡ t
 placed text_sort n (atom_term (text_variable m)) ts h e = ap (λ o. atom_term (text_variable (text_in n o))) e
 placed datum_sort n (atom_term (datum_variable m)) ts h e = ap (λ o. atom_term (datum_variable (datum_in n o))) e
 placed name_sort n (atom_term (name_variable m)) ts h e = ap (λ o. atom_term (name_variable (name_in n o))) e
@@ -17,12 +19,12 @@ placed akey_sort n (atom_term (key_term (asymmetric_term flag k))) ts h e = ap (
 placed _ n _ ts h e = absurd (cc)
 
 -- What the variable of this sort and number becomes, where this stands at its number.
-abbrev becomes : Sort → ℕ → Option Term → AtomTerm
-becomes text_sort n o = text_variable (text_in n o)
-becomes datum_sort n o = datum_variable (datum_in n o)
-becomes name_sort n o = name_variable (name_in n o)
-becomes skey_sort n o = key_term (symmetric_term (skey_in n o))
-becomes akey_sort n o = key_term (asymmetric_term (akey_in n o).0 (akey_in n o).1)
+abbrev becomes : Sort → ℕ → Option Term → Term
+becomes text_sort n o = atom_term (text_variable (text_in n o))
+becomes datum_sort n o = atom_term (datum_variable (datum_in n o))
+becomes name_sort n o = atom_term (name_variable (name_in n o))
+becomes skey_sort n o = atom_term (key_term (symmetric_term (skey_in n o)))
+becomes akey_sort n o = atom_term (key_term (asymmetric_term (akey_in n o).0 (akey_in n o).1))
 
 alike : (s : Sort) (n : ℕ) (o : Option Term) → becomes s n o ≡ becomes s n (Some (term_or (record { sort = s; number = n }) o))
 alike s n (Some t) = refl
@@ -32,7 +34,7 @@ alike name_sort n None = refl
 alike skey_sort n None = refl
 alike akey_sort n None = refl
 
-under_list : (s : Sort) (n : ℕ) (ts : List Term) → apply_to_atom (substitution_by ts) (atom_of_variable (record { sort = s; number = n })) ≡ becomes s n (item_at ts n)
+under_list : (s : Sort) (n : ℕ) (ts : List Term) → apply_to (substitution_by ts) (variable_term (record { sort = s; number = n })) ≡ becomes s n (item_at ts n)
 under_list text_sort n ts = refl
 under_list datum_sort n ts = refl
 under_list name_sort n ts = refl
@@ -41,5 +43,5 @@ under_list akey_sort n ts = refl
 
 -- Where the variable's own term, or else the variable, stands at its number, it becomes what it was.
 pub stays : (s : Sort) (n : ℕ) (old ts : List Term) → item_at ts n ≡ Some (term_or (record { sort = s; number = n }) (item_at old n)) →
-    apply_to_atom (substitution_by old) (atom_of_variable (record { sort = s; number = n })) ≡ apply_to_atom (substitution_by ts) (atom_of_variable (record { sort = s; number = n }))
+    apply_to (substitution_by old) (variable_term (record { sort = s; number = n })) ≡ apply_to (substitution_by ts) (variable_term (record { sort = s; number = n }))
 stays s n old ts e = under_list s n old ∙ alike s n (item_at old n) ∙ sym (under_list s n ts ∙ ap (becomes s n) e)

@@ -1,4 +1,5 @@
 -- Skeletons that are sound stay so when they change.
+use Rattle.cp_model.specs.declared.variable.Declaration.{Declaration}
 use Rattle.std.proofs.Common.{◌≡◌, ℕ, List, [], ◌∷◌, ◌++◌, refl, sym, ap, subst}
 use Rattle.std.specs.Prelude.{Some, Result, Ok, Err, OnOk, OnErr}
 use Rattle.std.specs.List.{remove}
@@ -12,7 +13,7 @@ use Rattle.cp_model.specs.Given.{listed}
 use Rattle.cp_model.proofs.LawPrefixes.{in_front_of_trace}
 use Rattle.cp_model.specs.Extensions.{AddsListener, AddsStrand, CanExtend, Extends, IsClosedPrefix}
 use Rattle.cp_order.specs.Closed.{KeepsOrder}
-use Rattle.cp_model.specs.Data.{StrandData, SkeletonData, skeleton_of, Declared}
+use Rattle.cp_model.specs.Data.{StrandData, SkeletonData, skeleton_of}
 use Rattle.cp_skel.specs.View.{skeleton_view}
 use Rattle.cp_skel.specs.Deletion.{ForgetsAssumptions, KeepsFromProblem, KeepsOrderOfOthers}
 use Rattle.cp_skel.specs.Ordered.{IsOrdered, ordered_by}
@@ -29,7 +30,7 @@ use Rattle.cp_skel.proofs.SkeletonWithout.{skeleton_kept}
 use Rattle.cp_skel.proofs.StaySkeletons.{listener-stays-skeleton, strand-stays-skeleton, extended-stays-skeleton}
 
 -- The skeleton of the same parts.
-pub parts_sound : (k : SkeletonData) (variables : List Declared) (strands : List StrandData) (order : List OrderPair) (assumptions : Assumptions) (from_problem : FromProblem)
+pub parts_sound : (k : SkeletonData) (variables : List Declaration) (strands : List StrandData) (order : List OrderPair) (assumptions : Assumptions) (from_problem : FromProblem)
     → variables ≡ k.variables → strands ≡ k.strands → order ≡ k.order → assumptions ≡ k.assumptions → from_problem ≡ k.from_problem
     → IsSound (skeleton_view k) → IsSound (skeleton_view (skeleton_of variables strands order assumptions from_problem))
 parts_sound k variables strands order assumptions from_problem v s o a f is =

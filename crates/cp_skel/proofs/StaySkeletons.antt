@@ -4,7 +4,9 @@ use Rattle.std.specs.Prelude.{Option, Some, None}
 use Rattle.std.proofs.lemmas.Bool.{cases_eq}
 use Rattle.cp_lists.specs.Lists.{item_at, IsIn}
 use Rattle.cp_model.specs.Term.{Term, Substitution, apply_to, apply_to_atom}
-use Rattle.cp_model.specs.Strand.{Event, send, event_map, Role, Protocol, prefix_of, IsHeight}
+use Rattle.cp_model.specs.Strand.{event_map, Role, Protocol, prefix_of, IsHeight}
+use Rattle.cp_model.specs.declared.strand.Event.{Event}
+use Rattle.cp_model.specs.declared.strand.Event.TheVariants.{Send as send}
 use Rattle.cp_model.specs.Bundle.{node_at}
 use Rattle.cp_model.specs.declared.node.Node.{Node}
 use Rattle.cp_model.specs.Skeleton.{SkeletonStrand, instance, listener, skeleton_trace, skeleton_trace_or_none, term_event_at, UniqueAt, Skeleton, IsOrigin, GivesAssumptions, IsSkeleton}

@@ -5,8 +5,11 @@ use Rattle.std.specs.List.{filter}
 use Rattle.std.proofs.Math.Bool.{and-true}
 use Rattle.std.proofs.lemmas.Bool.{cases_Bool}
 use Rattle.cp_lists.specs.Lists.{item_at}
-use Rattle.cp_model.specs.Term.{Sort, Variable, Term, atom_of_variable, apply_to_atom, AgreeOnTerms}
-use Rattle.cp_model.specs.Strand.{Declaration, Role, variables_of_prefix}
+use Rattle.cp_model.specs.Term.{Term, variable_term, AgreeOnTerms, apply_to}
+use Rattle.cp_model.specs.declared.sort.Sort.{Sort}
+use Rattle.cp_model.specs.declared.variable.Variable.{Variable}
+use Rattle.cp_model.specs.Strand.{Role, variables_of_prefix}
+use Rattle.cp_model.specs.declared.variable.Declaration.{Declaration}
 use Rattle.cp_model.specs.Problem.{declared_sort, IsDeclared}
 use Rattle.cp_model.specs.Homomorphism.{substitution_by}
 use Rattle.cp_model.proofs.LawPrefixes.{variables_of_higher}
@@ -66,7 +69,7 @@ declared-at (Some d) s e = (d, refl, cc)
 
 -- A declared variable that is not wanted becomes what it was.
 pub kept-term : (wanted : Variable → Bool) (old : List Term) (ds : List Declaration) (vs : List Term) (x : Variable) → IsDeclared ds x → wanted x ≡ false →
-    apply_to_atom (substitution_by old) (atom_of_variable x) ≡ apply_to_atom (substitution_by (valued wanted old 0 ds vs)) (atom_of_variable x)
+    apply_to (substitution_by old) (variable_term x) ≡ apply_to (substitution_by (valued wanted old 0 ds vs)) (variable_term x)
 kept-term wanted old ds vs x declared no-value =
     let r = declared-at (item_at ds x.number) x.sort declared in
     let same : r.0.sort ≡ x.sort = r.2 in

@@ -1,15 +1,14 @@
 -- How the plain data of skeletons are told apart. What they mean is in View.
-use Rattle.std.specs.Prelude.{◌≡◌, ℕ, ◌==◌, if◌then◌else◌, List, refl}
+use Rattle.std.specs.Prelude.{ℕ, List, refl}
 use Rattle.std.specs.Coded.{Coded, code_by, coded_ℕ, coded_list, coded×}
 use Rattle.cp_model.specs.Term.{AtomTerm, Term}
 use Rattle.cp_model.specs.declared.node.Node.{Node}
 use Rattle.cp_model.specs.Skeleton.{UniqueAt, Assumptions, FromProblem}
 use Rattle.cp_model.specs.declared.node.OrderPair.{OrderPair}
 use Rattle.cp_term.specs.Code.{coded_atom_term, coded_term}
-use Rattle.cp_model.specs.Data.{Declared, StrandData, SkeletonData}
-use Rattle.cp_model.specs.declared.sort.Sort as program
-use Rattle.cp_model.specs.declared.sort.Sort.TheVariants as sorts
-use Rattle.cp_strand.specs.Code.{coded_atoms, coded_strand}
+use Rattle.cp_model.specs.Data.{StrandData, SkeletonData}
+use Rattle.cp_model.specs.declared.variable.Declaration.{Declaration}
+use Rattle.cp_strand.specs.Code.{coded_atoms, coded_declaration, coded_strand}
 
 abbrev coded_node : Coded Node
 coded_node = code_by (ℕ × ℕ) (coded× coded_ℕ coded_ℕ) (λ n. (n.strand, n.index)) (λ p. record { strand = p.0; index = p.1 }) (λ n. refl)
@@ -34,30 +33,10 @@ coded_from_problem =
     (λ p. record { strands = p.0.0; values = p.0.1; assumptions = p.1.0; pairs = p.1.1 })
     (λ f. refl)
 
-abbrev sort_number : program.Sort → ℕ
-sort_number sorts.Text = 0
-sort_number sorts.Datum = 1
-sort_number sorts.Name = 2
-sort_number sorts.Skey = 3
-sort_number sorts.Akey = 4
-
-abbrev sort_from : ℕ → program.Sort
-sort_from n = if n == 0 then sorts.Text else if n == 1 then sorts.Datum else if n == 2 then sorts.Name else if n == 3 then sorts.Skey else sorts.Akey
-
-pub program_sort_back : (s : program.Sort) → sort_from (sort_number s) ≡ s
-program_sort_back sorts.Text = refl
-program_sort_back sorts.Datum = refl
-program_sort_back sorts.Name = refl
-program_sort_back sorts.Skey = refl
-program_sort_back sorts.Akey = refl
-
-abbrev coded_declared : Coded Declared
-coded_declared = code_by (List ℕ × program.Sort) (coded× (coded_list coded_ℕ) (code_by ℕ coded_ℕ sort_number sort_from program_sort_back)) (λ d. (d.root, d.sort)) (λ p. record { root = p.0; sort = p.1 }) (λ d. refl)
-
 abbrev pub coded_skeleton : Coded SkeletonData
 coded_skeleton =
-    code_by ((List Declared × List StrandData) × (List OrderPair × (Assumptions × FromProblem)))
-    (coded× (coded× (coded_list coded_declared) (coded_list coded_strand)) (coded× (coded_list coded_pair) (coded× coded_assumptions coded_from_problem)))
+    code_by ((List Declaration × List StrandData) × (List OrderPair × (Assumptions × FromProblem)))
+    (coded× (coded× (coded_list coded_declaration) (coded_list coded_strand)) (coded× (coded_list coded_pair) (coded× coded_assumptions coded_from_problem)))
     (λ k. ((k.variables, k.strands), (k.order, (k.assumptions, k.from_problem))))
     (λ p. record { variables = p.0.0; strands = p.0.1; order = p.1.0; assumptions = p.1.1.0; from_problem = p.1.1.1 })
     (λ k. refl)

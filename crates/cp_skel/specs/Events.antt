@@ -1,21 +1,11 @@
 -- The events of a skeleton in a list, each with its node.
 use Rattle.std.specs.Prelude.{ℕ, suc, Bool, true, false, List, [], ◌∷◌, ◌++◌}
 use Rattle.cp_model.specs.Term.{Term}
-use Rattle.cp_model.specs.Strand.{Event}
+use Rattle.cp_model.specs.declared.strand.Event.{Event}
 use Rattle.cp_model.specs.Bundle.{node_at}
-use Rattle.cp_model.specs.declared.node.Node.{Node}
 use Rattle.cp_model.specs.Skeleton.{SkeletonStrand, instance, listener, skeleton_trace, Skeleton}
-use Rattle.cp_strand.specs.View.{event_view}
-use Rattle.cp_skel.specs.declared.events.LocatedEvent as program
-
 -- An event, the node where it stands, and whether a role strand is there.
-pub record LocatedEvent : Type 0 where
-  pub node : Node
-  pub event : Event Term
-  pub by_role : Bool
-
-abbrev pub located_event_view : program.LocatedEvent → LocatedEvent
-located_event_view o = record { node = o.node; event = event_view o.event; by_role = o.by_role }
+pub use Rattle.cp_skel.specs.declared.events.LocatedEvent.{LocatedEvent}
 
 -- The strand is an instance of a role.
 abbrev pub is_role_strand : SkeletonStrand → Bool

@@ -1,7 +1,7 @@
 // The events of a skeleton in a list, each with its node.
-ghost use Rattle.std.specs.Prelude.{◌≡◌, ◌++◌, length, map, IfOk, OnOk};
+ghost use Rattle.std.specs.Prelude.{◌≡◌, ◌++◌, length, IfOk, OnOk};
 ghost use Rattle.cp_model.specs.Skeleton.{skeleton_trace};
-ghost use Rattle.cp_skel.specs.Events.{located_event_view, is_role_strand, located_events_on, events_of};
+ghost use Rattle.cp_skel.specs.Events.{is_role_strand, located_events_on, events_of};
 ghost use Rattle.cp_strand.specs.View.{strand_view};
 ghost use Rattle.cp_skel.specs.View.{skeleton_view};
 
@@ -41,7 +41,7 @@ fn add_events(
     strand: &Strand,
     occurrences: &mut Vec<LocatedEvent>,
 ) -> Result<(), AllocError>
-    ensures { OnOk result (map located_event_view occurrences.new.items ≡ map located_event_view occurrences.old.items ++ located_events_on number 0 (is_role_strand (strand_view strand.now)) (skeleton_trace (strand_view strand.now))) }
+    ensures { OnOk result (occurrences.new.items ≡ occurrences.old.items ++ located_events_on number 0 (is_role_strand (strand_view strand.now)) (skeleton_trace (strand_view strand.now))) }
 {
     let by_role = is_role_strand(strand);
     for index in 0..event_count(strand) {
@@ -63,7 +63,7 @@ fn add_events(
 impl Skeleton {
     /// The events of the skeleton, each with its node, by strand and then by index.
     pub fn events(&self, alloc: Global) -> Result<Vec<LocatedEvent>, AllocError>
-        ensures listed { IfOk result (λ os. map located_event_view os.items ≡ events_of (skeleton_view self.now)) }
+        ensures listed { IfOk result (λ os. os.items ≡ events_of (skeleton_view self.now)) }
     {
         let mut occurrences = Vec::new(alloc);
         for (number, strand) in self.strands().iter().enumerate() {

@@ -2,7 +2,8 @@
 ghost use Rattle.std.specs.Prelude.{◌≡◌, ◌↔◌, ℕ, List, IsTrue};
 ghost use Rattle.std.specs.List.{remove};
 ghost use Rattle.cp_lists.specs.Lists.{IsIn};
-ghost use Rattle.cp_model.specs.Term.{Variable, AtomTerm, Term};
+ghost use Rattle.cp_model.specs.Term.{AtomTerm, Term};
+ghost use Rattle.cp_model.specs.declared.variable.Variable.{Variable};
 ghost use Rattle.cp_model.specs.Strand.{Role, Protocol, variables_of_trace, variables_of_prefix, IsHeight};
 ghost use Rattle.cp_model.specs.Skeleton.{UniqueAt, Skeleton, IsSkeleton};
 ghost use Rattle.cp_model.specs.Problem.{IsDeclared};

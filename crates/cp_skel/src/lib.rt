@@ -31,6 +31,7 @@ pub use assumptions::{Assumptions, UniqueAt};
 pub use changes_laws::{
     changes_keep_homomorphisms, changes_keep_what_is_stated, extensions_fit, order_keeps_skeletons,
 };
+pub use cp_model::{Limits, Mark, Nodes, Numbers, Operation, Outcome};
 pub use cp_order::{Order, Predecessors, SortedPairs};
 pub use cp_strand::{
     Atom, Declaration, Event, Instance, Protocol, Role, Strand, StrandShape, all_occur, applied,
@@ -48,5 +49,5 @@ pub use node_order::comes_before;
 pub use report_order::listed;
 pub use role_assumptions::{has_unique, missing};
 pub use skeleton::{Node, OrderPair, Skeleton};
-pub use tree::{Limits, Mark, Operation, Outcome, Test, Tree, TreeNode};
+pub use tree::{Test, Tree, TreeNode};
 pub use variables_laws::changes_keep_declared_variables;

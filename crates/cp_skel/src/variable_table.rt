@@ -10,7 +10,7 @@ impl Skeleton {
     /// has changed.
     pub fn declare(&mut self, root: &str, sort: Sort) -> Result<VarId, AllocError>
         ensures later { IfOk result (λ v. v ≡ length self.old.variables) }
-        ensures declared { OnOk result (self.new ≡ record self.old { variables = self.old.variables ++ record { root = root.now; sort = sort } ∷ [] }) }
+        ensures declared { OnOk result (self.new ≡ record self.old { variables = self.old.variables ++ record { identifier = root.now; sort = sort } ∷ [] }) }
         ensures unchanged { OnErr result (self.new ≡ self.old) }
     {
         self.variables.fresh(root, sort)

@@ -1,8 +1,10 @@
 // Laws on the variables of skeletons that change. Each is the contract of a function that does nothing.
 ghost use Rattle.std.specs.Prelude.{ℕ, List, ◌++◌};
 ghost use Rattle.cp_lists.specs.Lists.{IsIn};
-ghost use Rattle.cp_model.specs.Term.{Variable, Term, variables_of};
-ghost use Rattle.cp_model.specs.Strand.{Declaration, Role};
+ghost use Rattle.cp_model.specs.Term.{Term, variables_of};
+ghost use Rattle.cp_model.specs.declared.variable.Variable.{Variable};
+ghost use Rattle.cp_model.specs.Strand.{Role};
+ghost use Rattle.cp_model.specs.declared.variable.Declaration.{Declaration};
 ghost use Rattle.cp_model.specs.Skeleton.{Skeleton};
 ghost use Rattle.cp_model.specs.declared.node.OrderPair.{OrderPair};
 ghost use Rattle.cp_model.specs.Problem.{IsDeclared};

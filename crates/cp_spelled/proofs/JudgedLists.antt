@@ -4,12 +4,15 @@ use Rattle.std.specs.Prelude.{Option, Some, None, codes}
 use Rattle.cp_base.specs.declared.place.Place.{Place}
 use Rattle.cp_model.specs.Same.{same_text}
 use Rattle.cp_sexpr.specs.Syntax.{Form, symbol, string, number, list, forms_of}
-use Rattle.cp_language.specs.Words.{TermHead, cat, encrypt, long_term_key, public_key, private_key, inverse_key, operation_out_of_profile, no_operation, term_head}
+use Rattle.cp_language.specs.declared.words.TermHead.{TermHead}
+use Rattle.cp_language.specs.declared.words.TermHead.TheVariants.{Cat as cat, Enc as encrypt, Ltk as long_term_key, Pubk as public_key, Privk as private_key, Invk as inverse_key, OutOfProfile as operation_out_of_profile, Unknown as no_operation}
+use Rattle.cp_language.specs.Words.{term_head}
 use Rattle.cp_language.specs.Faults.{items_of}
 use Rattle.cp_language.specs.Roles.{Headed, headed, front_of, last_form}
 use Rattle.cp_report.specs.Misfits.{place_before, lacking, all_misfits, each_misfits}
 use Rattle.cp_report.specs.Spelled.{Scope, local_misfits, name_misfits, variables_misfits, spread_misfits, last_key_misfits, applied_misfits, term_misfits, each_term_misfits, value_misfits}
-use Rattle.cp_model.specs.Term.{Variable, name_sort}
+use Rattle.cp_model.specs.declared.variable.Variable.{Variable}
+use Rattle.cp_model.specs.declared.sort.Sort.TheVariants.{Name as name_sort}
 use Rattle.cp_spelled.specs.FirstMisfit.{first_onto}
 use Rattle.cp_spelled.specs.Own.{wanted_sort_misfits, own_misfits, judged_in_report, headed_misfits, headed_judged}
 use Rattle.cp_scope.proofs.FirstOf.{moved_behind, moved_behind_two}

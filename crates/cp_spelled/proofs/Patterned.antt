@@ -6,27 +6,34 @@ use Rattle.cp_lists.specs.Lists.{IsIn, here}
 use Rattle.cp_lists.proofs.Members.{in_append, in_append_left, in_append_right, only_item}
 use Rattle.cp_lists.proofs.Appended.{none_in_both, some_behind}
 use Rattle.cp_base.specs.declared.place.Place.{Place}
-use Rattle.cp_model.specs.Term.{Sort, text_sort, datum_sort, name_sort, skey_sort, akey_sort, Variable, symmetric_term, skey_variable, ltk_term, asymmetric_term, akey_variable, pubk_term, KeyTerm, Term, tag_term, enc_term, inverse_term, variables_of, variables_of_key}
-use Rattle.cp_model.specs.Strand.{Declaration}
+use Rattle.cp_model.specs.Term.{symmetric_term, skey_variable, ltk_term, asymmetric_term, akey_variable, pubk_term, KeyTerm, Term, tag_term, enc_term, inverse_term, variables_of, variables_of_key}
+use Rattle.cp_model.specs.declared.sort.Sort.{Sort}
+use Rattle.cp_model.specs.declared.sort.Sort.TheVariants.{Text as text_sort, Datum as datum_sort, Name as name_sort, Skey as skey_sort, Akey as akey_sort}
+use Rattle.cp_model.specs.declared.variable.Variable.{Variable}
+use Rattle.cp_model.specs.declared.variable.Declaration.{Declaration}
 use Rattle.cp_model.specs.Same.{same_text, same_sort}
 use Rattle.cp_model.proofs.SameTests.{sort_is}
 use Rattle.cp_sexpr.specs.Syntax.{Form, symbol, string, number, list, Forms, none, more}
-use Rattle.cp_language.specs.Words.{sort_word, TermHead, cat, encrypt, long_term_key, public_key, private_key, inverse_key, operation_out_of_profile, no_operation, term_head}
+use Rattle.cp_language.specs.declared.words.TermHead.{TermHead}
+use Rattle.cp_language.specs.declared.words.TermHead.TheVariants.{Cat as cat, Enc as encrypt, Ltk as long_term_key, Pubk as public_key, Privk as private_key, Invk as inverse_key, OutOfProfile as operation_out_of_profile, Unknown as no_operation}
+use Rattle.cp_language.specs.Words.{sort_word, term_head}
 use Rattle.cp_language.specs.Faults.{place_of, items_of}
 use Rattle.cp_language.specs.Roles.{front_of, last_form}
 use Rattle.cp_language.specs.Problems.{is_known}
-use Rattle.cp_language.specs.Terms.{TermSort, variable_named, sort_of_variable, is_sort, term_of_variable, paired, all_but_last, last_of, as_key, as_name, key_as_term, applied, key_of_name}
+use Rattle.cp_language.specs.declared.sorts.TermSort.{TermSort}
+use Rattle.cp_language.specs.Terms.{variable_named, sort_of_variable, is_sort, term_of_variable, paired, all_but_last, last_of, as_key, as_name, key_as_term, applied, key_of_name}
+use Rattle.cp_report.specs.declared.locals.LocalAt.{LocalAt}
 use Rattle.cp_report.specs.Misfits.{misfit, misfit_unless, unless_misfit, lacking, all_misfits, symbol_misfits, any_number_misfits}
 use Rattle.cp_report.specs.Spelled as report
-use Rattle.cp_report.specs.Spelled.{Local, LocalAt, Scope, sort_or_none, names_sort, local_with, local_by, local_at, variable_of_local, place_of_local, sort_of_head, known_or, key_misfits, local_misfits, is_found_of_sort, variable_misfits, variables_misfits, name_misfits, last_key_misfits, applied_misfits, term_misfits, each_term_misfits, term_in, terms_in, locals_in, locals_in_each}
+use Rattle.cp_report.specs.Spelled.{Scope, sort_or_none, names_sort, local_with, local_by, local_at, variable_of_local, place_of_local, sort_of_head, known_or, key_misfits, local_misfits, is_found_of_sort, variable_misfits, variables_misfits, name_misfits, last_key_misfits, applied_misfits, term_misfits, each_term_misfits, term_in, terms_in, locals_in, locals_in_each}
 use Rattle.cp_spelled.proofs.Gathered.{holds}
 
 -- The variables of a label, and the locals of a pattern.
-module _ (ds : List Declaration) (ls : List Local) where
+module _ (ds : List Declaration) (ls : List Variable) where
   abbrev scope : Scope
   scope = record { variables = ds; in_pattern = true; locals = ls }
 
-  abbrev pub variable_at : Local → Variable
+  abbrev pub variable_at : Variable → Variable
   variable_at l = record { sort = l.sort; number = length ds + place_of_local ls l.number }
 
   -- A variable is declared, or that of a local that stands there.
@@ -80,11 +87,11 @@ module _ (ds : List Declaration) (ls : List Local) where
   -- ---- locals
 
   record IsStated (fs : Forms) : Type 0 where
-    pub local : Local
+    pub local : Variable
     pub is : local_by (items_of fs) ≡ Some local
     pub inside : locals_in_each fs ≡ []
 
-  known_sort : (o : Option Sort) (q : Place) (p : Place) (n : ℕ) → misfit_unless (is_known o) p ≡ [] → (l : Local) × (local_with o (number q n) ≡ Some l)
+  known_sort : (o : Option Sort) (q : Place) (p : Place) (n : ℕ) → misfit_unless (is_known o) p ≡ [] → (l : Variable) × (local_with o (number q n) ≡ Some l)
   known_sort None q p n e = absurd (cc)
   known_sort (Some r) q p n e = (record { sort = r; number = n }, refl)
 
@@ -119,23 +126,23 @@ module _ (ds : List Declaration) (ls : List Local) where
   sort-named r (Some x) e = (x, refl, sym (sort_is r x.sort e))
 
   -- the locals of a list that states one
-  one-local : (at p : Place) (t : List ℕ) (fs : Forms) (l : Local) → same_text t (codes "any") ≡ true → local_by (items_of fs) ≡ Some l → locals_in_each fs ≡ []
-      → locals_in (list at (more (symbol p t) fs)) ≡ record { at = at; local = l } ∷ []
+  one-local : (at p : Place) (t : List ℕ) (fs : Forms) (l : Variable) → same_text t (codes "any") ≡ true → local_by (items_of fs) ≡ Some l → locals_in_each fs ≡ []
+      → locals_in (list at (more (symbol p t) fs)) ≡ record { place = at; local = l } ∷ []
   one-local at p t fs l q is inside =
       ap (λ (b : Bool). local_at at (if (b || false) then local_by (items_of fs) else None) ++ locals_in_each fs) q
-      ∙ ap (λ (o : Option Local). local_at at o ++ locals_in_each fs) is
-      ∙ ap (λ (ms : List LocalAt). record { at = at; local = l } ∷ ms) inside
+      ∙ ap (λ (o : Option Variable). local_at at o ++ locals_in_each fs) is
+      ∙ ap (λ (ms : List LocalAt). record { place = at; local = l } ∷ ms) inside
 
-  local-term : (at p : Place) (t : List ℕ) (fs : Forms) (l : Local) → same_text t (codes "any") ≡ true → local_by (items_of fs) ≡ Some l
+  local-term : (at p : Place) (t : List ℕ) (fs : Forms) (l : Variable) → same_text t (codes "any") ≡ true → local_by (items_of fs) ≡ Some l
       → term_in scope (list at (more (symbol p t) fs)) ≡ term_of_variable (Some (variable_at l))
   local-term at p t fs l q is =
       ap (λ (b : Bool). if (b && true) then term_of_variable (variable_of_local scope (local_by (items_of fs))) else applied (term_head t) (items_of fs) (terms_in scope fs)) q
-      ∙ ap (λ (o : Option Local). term_of_variable (variable_of_local scope o)) is
+      ∙ ap (λ (o : Option Variable). term_of_variable (variable_of_local scope o)) is
 
-  local-agrees : (at p : Place) (t : List ℕ) (fs : Forms) (l : Local) → same_text t (codes "any") ≡ true → local_by (items_of fs) ≡ Some l → locals_in_each fs ≡ []
+  local-agrees : (at p : Place) (t : List ℕ) (fs : Forms) (l : Variable) → same_text t (codes "any") ≡ true → local_by (items_of fs) ≡ Some l → locals_in_each fs ≡ []
       → Agree (locals_in (list at (more (symbol p t) fs))) (variable_at l ∷ [])
   local-agrees at p t fs l q is inside =
-      subst (λ (ms : List LocalAt). Agree ms (variable_at l ∷ [])) (sym (one-local at p t fs l q is inside)) (agree-stated (record { at = at; local = l }))
+      subst (λ (ms : List LocalAt). Agree ms (variable_at l ∷ [])) (sym (one-local at p t fs l q is inside)) (agree-stated (record { place = at; local = l }))
 
   variable-is : (r : Sort) (f : Form) → variable_misfits scope r f ≡ [] → IsVariable r f
   variable-is r (symbol at t) e =
@@ -269,7 +276,7 @@ module _ (ds : List Declaration) (ls : List Local) where
           → (k : KeyTerm) × ((if b && true then term_of_variable (variable_of_local scope (local_by (items_of fs))) else applied (term_head t) (items_of fs) (terms_in scope fs)) ≡ key_as_term k)
       by_any true q h i =
           let st = local-stated at fs h in
-          let known : misfit_unless (is_known (variable_of_local scope (local_by (items_of fs)))) at ≡ [] = ap (λ (o : Option Local). misfit_unless (is_known (variable_of_local scope o)) at) st.is in
+          let known : misfit_unless (is_known (variable_of_local scope (local_by (items_of fs)))) at ≡ [] = ap (λ (o : Option Variable). misfit_unless (is_known (variable_of_local scope o)) at) st.is in
           known-key (variable_of_local scope (local_by (items_of fs))) (sort_of_head (term_head t)) at at known i
       by_any false q h i = applied-key at (term_head t) fs h i
 

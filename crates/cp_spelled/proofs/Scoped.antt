@@ -2,16 +2,19 @@
 use Rattle.std.proofs.Common.{◌≡◌, ℕ, List, Bool, true, false, if◌then◌else◌, refl, sym, ap, ◌∙◌}
 use Rattle.std.specs.Prelude.{Option, Some, None, option_map}
 use Rattle.std.proofs.lemmas.Option.{same_Some}
-use Rattle.cp_model.specs.Term.{Sort, Variable}
+use Rattle.cp_model.specs.declared.sort.Sort.{Sort}
+use Rattle.cp_model.specs.declared.variable.Variable.{Variable}
 use Rattle.cp_model.specs.Same.{same_sort}
 use Rattle.cp_sexpr.specs.Syntax.{Form, symbol, string, number, list}
 use Rattle.cp_language.specs.Words.{term_head}
 use Rattle.cp_language.specs.Roles.{Headed, headed}
-use Rattle.cp_language.specs.Terms.{TermSort, of_atoms, variable_named, sort_of_variable}
+use Rattle.cp_language.specs.declared.sorts.TermSort.{TermSort}
+use Rattle.cp_language.specs.declared.sorts.TermSort.TheVariants.{Atoms as of_atoms}
+use Rattle.cp_language.specs.Terms.{variable_named, sort_of_variable}
 use Rattle.cp_scope.specs.Forms.{symbol_in}
 use Rattle.cp_scope.proofs.Views.{headed_is}
 use Rattle.cp_report.specs.Heads.{forms_after_head}
-use Rattle.cp_report.specs.Spelled.{Scope, Local, is_local, local_by, variable_of_local, variable_in, sort_of_head, sort_by_shape, known_or, sort_in, is_found_of_sort}
+use Rattle.cp_report.specs.Spelled.{Scope, is_local, local_by, variable_of_local, variable_in, sort_of_head, sort_by_shape, known_or, sort_in, is_found_of_sort}
 
 -- ---- variables
 
@@ -28,7 +31,7 @@ module _ (s : Scope) where
   variable-other (number at n) e = refl
   variable-other (list at fs) e = refl
 
-  sort_of_local : (o : Option Local) → option_map (λ l. l.sort) o ≡ option_map (λ x. x.sort) (variable_of_local s o)
+  sort_of_local : (o : Option Variable) → option_map (λ l. l.sort) o ≡ option_map (λ x. x.sort) (variable_of_local s o)
   sort_of_local None = refl
   sort_of_local (Some l) = refl
 

@@ -2,17 +2,17 @@
 use Rattle.std.proofs.Common.{◌≡◌, ℕ, suc, ◌+◌, ◌<◌, ◌≤◌, List, [], ◌∷◌, ◌++◌, length, get_or, map, drop, Vec, Global, refl, sym, ap, ◌∙◌, arith}
 use Rattle.std.specs.Prelude.{None}
 use Rattle.std.proofs.lemmas.List.{append_assoc, append-nil, drop_all}
-use Rattle.cp_lists.proofs.Members.{drop_read, first_left}
+use Rattle.cp_lists.proofs.Members.{drop_read}
 use Rattle.cp_base.specs.declared.place.Place.{Place}
+use Rattle.cp_model.specs.declared.variable.Variable.{Variable}
 use Rattle.cp_sexpr.specs.Syntax.{Form, symbol, string, number, list, forms_of}
 use Rattle.cp_sexpr.specs.View.{view, views}
 use Rattle.cp_sexpr.specs.declared.form.Form as program
 use Rattle.cp_scope.proofs.Views.{view-List}
 use Rattle.cp_scope.proofs.Sizes.{form_size, forms_size}
-use Rattle.cp_report.specs.Spelled.{LocalAt, local_by, local_at, local_of, locals_in, locals_in_each, variables_of_locals}
+use Rattle.cp_report.specs.declared.locals.LocalAt.{LocalAt}
+use Rattle.cp_report.specs.Spelled.{local_by, local_at, local_of, locals_in, locals_in_each, variables_of_locals}
 use Rattle.cp_spelled.specs.LocalParts.{sort_symbol, local_alone}
-use Rattle.cp_spelled.specs.LocalViews.{local_view}
-use Rattle.cp_spelled.specs.declared.locals.Local as plain
 
 -- the items of a list are smaller
 pub list_smaller : (f : program.Form) (at : Place) (v : Vec program.Form Global) (fs : List program.Form) → f ≡ program.List at v → fs ≡ v.items → forms_size (map view fs) < form_size (view f)
@@ -55,17 +55,16 @@ local-stated (string at t) fs = none-alone fs
 local-stated (number at n) fs = none-alone fs
 local-stated (list at gs) fs = none-alone fs
 
--- ---- numbers of locals
+-- ---- locals as variables
 
-pub numbers-taken : (count : ℕ) (ls : List plain.Local) (k : ℕ) → k < length ls → (ns ms all : List ℕ) (n : ℕ) → n ≡ count + k → ms ≡ ns ++ n ∷ []
-    → ns ++ map (λ x. x.number) (variables_of_locals (count + k) (map local_view (drop k ls))) ≡ all
-    → ms ++ map (λ x. x.number) (variables_of_locals (count + (k + 1)) (map local_view (drop (k + 1) ls))) ≡ all
-numbers-taken count ls k h ns ms all n e g i =
-    let one = first_left ls k h in
-    let rest = map local_view (drop (k + 1) ls) in
+pub variables-taken : (count : ℕ) (ls : List Variable) (k : ℕ) (l : Variable) → k < length ls → l ≡ get_or ls k l → (xs ys all : List Variable) (n : ℕ) → n ≡ count + k
+    → ys ≡ xs ++ record { sort = l.sort; number = n } ∷ [] → xs ++ variables_of_locals (count + k) (drop k ls) ≡ all
+    → ys ++ variables_of_locals (count + (k + 1)) (drop (k + 1) ls) ≡ all
+variables-taken count ls k l h r xs ys all n e g i =
+    let rest = drop (k + 1) ls in
     let next : count + (k + 1) ≡ suc (count + k) = omega arith in
-    ap (λ xs. xs ++ map (λ x. x.number) (variables_of_locals (count + (k + 1)) rest)) g
-    ∙ append_assoc ns (n ∷ []) (map (λ x. x.number) (variables_of_locals (count + (k + 1)) rest))
-    ∙ ap (λ m. ns ++ n ∷ map (λ x. x.number) (variables_of_locals m rest)) next
-    ∙ ap (λ m. ns ++ m ∷ map (λ x. x.number) (variables_of_locals (suc (count + k)) rest)) e
-    ∙ sym (ap (λ xs. ns ++ map (λ x. x.number) (variables_of_locals (count + k) (map local_view xs))) one.1) ∙ i
+    ap (λ zs. zs ++ variables_of_locals (count + (k + 1)) rest) g
+    ∙ append_assoc xs (record { sort = l.sort; number = n } ∷ []) (variables_of_locals (count + (k + 1)) rest)
+    ∙ ap (λ m. xs ++ record { sort = l.sort; number = n } ∷ variables_of_locals m rest) next
+    ∙ ap (λ m. xs ++ record { sort = l.sort; number = m } ∷ variables_of_locals (suc (count + k)) rest) e
+    ∙ sym (ap (λ zs. xs ++ variables_of_locals (count + k) zs) (drop_read ls k l h r)) ∙ i

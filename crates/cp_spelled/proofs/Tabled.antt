@@ -1,23 +1,19 @@
 -- Tables after one more entry.
-use Rattle.std.proofs.Common.{◌≡◌, ℕ, suc, ◌+◌, List, [], ◌∷◌, ◌++◌, length, map, Bool, true, false, ◌||◌, ◌==◌, if◌then◌else◌, is_some, eqb-true, refl, sym, ap, ◌∙◌, Vec, arith}
-use Rattle.std.specs.Prelude.{Option, Some, None, option_map, nat_eq, cond}
+use Rattle.std.proofs.Common.{◌≡◌, ℕ, suc, ◌+◌, List, [], ◌∷◌, ◌++◌, length, Bool, true, false, ◌||◌, ◌==◌, if◌then◌else◌, is_some, eqb-true, refl, sym, ap, ◌∙◌, Vec, arith}
+use Rattle.std.specs.Prelude.{Option, Some, None, nat_eq, cond}
 use Rattle.std.specs.Cmp.Lexicographic.{nat_list_eq_equiv}
 use Rattle.std.specs.HashMap.{HashMap, get, get_by, UpdatesBy}
 use Rattle.std.specs.Str.{bytes_eq}
 use Rattle.std.proofs.lemmas.Bool.{cond-false, cond-true}
-use Rattle.cp_model.specs.Term as model
-use Rattle.cp_model.specs.Strand.{Declaration}
+use Rattle.cp_model.specs.declared.variable.Declaration.{Declaration}
 use Rattle.cp_model.specs.Same.{same_text}
+use Rattle.cp_model.specs.declared.variable.Variable.{Variable}
 use Rattle.cp_language.specs.Words.{is_one_of}
 use Rattle.cp_language.specs.Names.{identifiers_in}
 use Rattle.cp_language.specs.Terms.{variable_from, variable_named}
 use Rattle.cp_language.specs.Problems.{is_known}
-use Rattle.cp_report.specs.Spelled.{Local, place_of_local, has_local}
-use Rattle.cp_scope.specs.Terms.{variable_view}
+use Rattle.cp_report.specs.Spelled.{place_of_local, has_local}
 use Rattle.cp_scope.proofs.NamesInUse.{same_text-is, otherwise, otherwise-none, count, count-all, one_more, none_is, entry-pushed, entry-again}
-use Rattle.cp_scope.specs.declared.sorts.Variable.{Variable}
-use Rattle.cp_spelled.specs.LocalViews.{local_view}
-use Rattle.cp_spelled.specs.declared.locals.Local as program
 use Rattle.cp_spelled.specs.Tables.{AreVariablesOf, local_from, AreLocalsOf}
 
 -- ---- texts
@@ -32,16 +28,12 @@ variable-append : (n : ℕ) (ds : List Declaration) (d : Declaration) (t : List 
 variable-append n [] d t = refl
 variable-append n (e ∷ es) d t = one_more (same_text e.identifier t) (record { sort = e.sort; number = n }) _ _ _ (variable-append (suc n) es d t)
 
-local-append : (k : ℕ) (ls : List Local) (l : Local) (n : ℕ)
+local-append : (k : ℕ) (ls : List Variable) (l : Variable) (n : ℕ)
     → local_from k (ls ++ l ∷ []) n ≡ otherwise (local_from k ls n) (if l.number == n then Some (record { sort = l.sort; number = count k ls }) else None)
 local-append k [] l n = refl
 local-append k (m ∷ ms) l n = one_more (m.number == n) (record { sort = m.sort; number = k }) _ _ _ (local-append (suc k) ms l n)
 
 -- ---- variables that are found by their identifiers
-
-pub known-seen : {A B : Type 0} (f : A → B) (o : Option A) → is_some o ≡ is_known (option_map f o)
-known-seen f None = refl
-known-seen f (Some x) = refl
 
 pub known-identifier : (n : ℕ) (ds : List Declaration) (t : List ℕ) → is_known (variable_from n ds t) ≡ is_one_of t (identifiers_in ds)
 known-identifier n [] t = refl
@@ -54,31 +46,27 @@ known-identifier n (d ∷ ds) t = by_test (same_text d.identifier t) (same_text 
     by_test false true e h = absurd (cc)
     by_test false false e h = h
 
-seen_some : {A B : Type 0} (f : A → B) (o : Option A) → is_some (option_map f o) ≡ is_some o
-seen_some f None = refl
-seen_some f (Some x) = refl
-
 module _ {A S : Type 0} (ds : List Declaration) (d : Declaration) (m n : HashMap (Vec ℕ A) Variable S) (k : Vec ℕ A) (v : Variable) where
-  pub variables-pushed : variable_view v ≡ record { sort = d.sort; number = length ds } → AreVariablesOf ds m → is_some (get_by (λ y. bytes_eq d.identifier y.items) m) ≡ false → k.items ≡ d.identifier
+  pub variables-pushed : v ≡ record { sort = d.sort; number = length ds } → AreVariablesOf ds m → is_some (get_by (λ y. bytes_eq d.identifier y.items) m) ≡ false → k.items ≡ d.identifier
       → UpdatesBy (λ x y. bytes_eq x.items y.items) (λ y. bytes_eq k.items y.items) m n (Some v) → AreVariablesOf (ds ++ d ∷ []) n
   variables-pushed e h none ek u t =
-      entry-pushed d.identifier m n k v (option_map variable_view) (variable_named ds) (same_text d.identifier) (record { sort = d.sort; number = count 0 ds }) (same_text-is d.identifier)
-      (ap Some e ∙ ap (λ (c : ℕ). Some (record { sort = d.sort; number = c })) (count-all ds))
-      h (none_is _ (ap is_some (sym (h d.identifier)) ∙ seen_some variable_view (get_by (λ y. bytes_eq d.identifier y.items) m) ∙ none)) ek u t
+      entry-pushed d.identifier m n k v (variable_named ds) (same_text d.identifier) (record { sort = d.sort; number = count 0 ds }) (same_text-is d.identifier)
+      (e ∙ ap (λ (c : ℕ). record { sort = d.sort; number = c }) (count-all ds))
+      h (none_is _ (ap is_some (sym (h d.identifier)) ∙ none)) ek u t
       ∙ sym (variable-append 0 ds d t)
 
   pub variables-again : AreVariablesOf ds m → is_some (get_by (λ y. bytes_eq d.identifier y.items) m) ≡ true → AreVariablesOf (ds ++ d ∷ []) m
   variables-again h some t =
       h t ∙ entry-again d.identifier (variable_named ds) (same_text d.identifier) (record { sort = d.sort; number = count 0 ds }) (same_text-is d.identifier)
-      (ap is_some (sym (h d.identifier)) ∙ seen_some variable_view (get_by (λ y. bytes_eq d.identifier y.items) m) ∙ some) t
+      (ap is_some (sym (h d.identifier)) ∙ some) t
       ∙ sym (variable-append 0 ds d t)
 
 -- ---- locals that are found by their numbers
 
-pub locals-again : (ls : List Local) (n : ℕ) → is_some (local_from 0 ls n) ≡ has_local ls n
+pub locals-again : (ls : List Variable) (n : ℕ) → is_some (local_from 0 ls n) ≡ has_local ls n
 locals-again ls n = at_place 0 ls
   where
-    at_place : (k : ℕ) (ms : List Local) → is_some (local_from k ms n) ≡ has_local ms n
+    at_place : (k : ℕ) (ms : List Variable) → is_some (local_from k ms n) ≡ has_local ms n
     at_place k [] = refl
     at_place k (m ∷ ms) = by_test (m.number == n) (at_place (suc k) ms)
       where
@@ -86,11 +74,11 @@ locals-again ls n = at_place 0 ls
         by_test true e = refl
         by_test false e = e
 
-abbrev place_found : Option model.Variable → ℕ → ℕ
+abbrev place_found : Option Variable → ℕ → ℕ
 place_found None n = n
 place_found (Some x) n = x.number
 
-place_by : (k : ℕ) (ls : List Local) (n : ℕ) → place_found (local_from k ls n) (count k ls) ≡ k + place_of_local ls n
+place_by : (k : ℕ) (ls : List Variable) (n : ℕ) → place_found (local_from k ls n) (count k ls) ≡ k + place_of_local ls n
 place_by k [] n = omega arith
 place_by k (l ∷ ls) n = by_test (l.number == n) (place_by (suc k) ls n)
   where
@@ -99,39 +87,39 @@ place_by k (l ∷ ls) n = by_test (l.number == n) (place_by (suc k) ls n)
     by_test true e = omega arith
     by_test false e = omega (arith, e)
 
-pub place-found : (ls : List Local) (n : ℕ) (x : model.Variable) → Some x ≡ local_from 0 ls n → x.number ≡ place_of_local ls n
+pub place-found : (ls : List Variable) (n : ℕ) (x : Variable) → Some x ≡ local_from 0 ls n → x.number ≡ place_of_local ls n
 place-found ls n x e = let all = ap (λ o. place_found o (count 0 ls)) e ∙ place_by 0 ls n in omega (arith, all)
 
-pub place-missing : (ls : List Local) (n : ℕ) → None ≡ local_from 0 ls n → length ls ≡ place_of_local ls n
+pub place-missing : (ls : List Variable) (n : ℕ) → None ≡ local_from 0 ls n → length ls ≡ place_of_local ls n
 place-missing ls n e = let all = ap (λ o. place_found o (count 0 ls)) e ∙ place_by 0 ls n in let most = count-all ls in omega (arith, all, most)
 
-module _ (ls : List Local) (l : Local) {S : Type 0} (m n : HashMap ℕ Variable S) (v : Variable) where
-  pub locals-pushed : variable_view v ≡ record { sort = l.sort; number = length ls } → AreLocalsOf ls m → local_from 0 ls l.number ≡ None
+module _ (ls : List Variable) (l : Variable) {S : Type 0} (m n : HashMap ℕ Variable S) (v : Variable) where
+  pub locals-pushed : v ≡ record { sort = l.sort; number = length ls } → AreLocalsOf ls m → local_from 0 ls l.number ≡ None
       → ((q : ℕ) → get nat_eq n q ≡ cond (nat_eq l.number q) (Some v) (get nat_eq m q)) → AreLocalsOf (ls ++ l ∷ []) n
-  locals-pushed e h none u q = ap (option_map variable_view) (u q) ∙ by_number (nat_eq l.number q) refl ∙ sym (local-append 0 ls l q)
+  locals-pushed e h none u q = u q ∙ by_number (nat_eq l.number q) refl ∙ sym (local-append 0 ls l q)
     where
-      shown : option_map variable_view (Some v) ≡ Some (record { sort = l.sort; number = count 0 ls })
+      shown : Some v ≡ Some (record { sort = l.sort; number = count 0 ls })
       shown = ap Some e ∙ ap (λ (c : ℕ). Some (record { sort = l.sort; number = c })) (count-all ls)
 
       by_number : (b : Bool) → nat_eq l.number q ≡ b
-          → option_map variable_view (cond b (Some v) (get nat_eq m q)) ≡ otherwise (local_from 0 ls q) (if b then Some (record { sort = l.sort; number = count 0 ls }) else None)
+          → cond b (Some v) (get nat_eq m q) ≡ otherwise (local_from 0 ls q) (if b then Some (record { sort = l.sort; number = count 0 ls }) else None)
       by_number true f =
           let missing : local_from 0 ls q ≡ None = ap (local_from 0 ls) (sym (eqb-true l.number q f)) ∙ none in
           shown ∙ sym (ap (λ o. otherwise o (Some (record { sort = l.sort; number = count 0 ls }))) missing)
       by_number false f = h q ∙ sym (otherwise-none (local_from 0 ls q))
 
 -- the table is asked for a number
-module _ {S : Type 0} (ls : List program.Local) (l : program.Local) (m : HashMap ℕ Variable S) where
-  pub locals-asked : AreLocalsOf (map local_view ls) m → is_some (get nat_eq m l.number) ≡ false → local_from 0 (map local_view ls) l.number ≡ None
-  locals-asked h e = none_is _ (ap is_some (sym (h l.number)) ∙ seen_some variable_view (get nat_eq m l.number) ∙ e)
+module _ {S : Type 0} (ls : List Variable) (l : Variable) (m : HashMap ℕ Variable S) where
+  pub locals-asked : AreLocalsOf ls m → is_some (get nat_eq m l.number) ≡ false → local_from 0 ls l.number ≡ None
+  locals-asked h e = none_is _ (ap is_some (sym (h l.number)) ∙ e)
 
-  known : AreLocalsOf (map local_view ls) m → is_some (get nat_eq m l.number) ≡ true → has_local (map local_view ls) l.number ≡ true
-  known h e = sym (locals-again (map local_view ls) l.number) ∙ ap is_some (sym (h l.number)) ∙ seen_some variable_view (get nat_eq m l.number) ∙ e
+  known : AreLocalsOf ls m → is_some (get nat_eq m l.number) ≡ true → has_local ls l.number ≡ true
+  known h e = sym (locals-again ls l.number) ∙ ap is_some (sym (h l.number)) ∙ e
 
-  pub locals-known : (now : List program.Local) → AreLocalsOf (map local_view ls) m → ls ≡ now → is_some (get nat_eq m l.number) ≡ true → now ≡ (if has_local (map local_view now) l.number then now else now ++ l ∷ [])
-  locals-known now h e g = sym (cond-true (has_local (map local_view now) l.number) now (now ++ l ∷ []) (ap (λ ks. has_local (map local_view ks) l.number) (sym e) ∙ known h g))
+  pub locals-known : (now : List Variable) → AreLocalsOf ls m → ls ≡ now → is_some (get nat_eq m l.number) ≡ true → now ≡ (if has_local now l.number then now else now ++ l ∷ [])
+  locals-known now h e g = sym (cond-true (has_local now l.number) now (now ++ l ∷ []) (ap (λ ks. has_local ks l.number) (sym e) ∙ known h g))
 
-  pub locals-new : (now : List program.Local) → AreLocalsOf (map local_view ls) m → ls ≡ now → is_some (get nat_eq m l.number) ≡ false → now ++ l ∷ [] ≡ (if has_local (map local_view now) l.number then now else now ++ l ∷ [])
+  pub locals-new : (now : List Variable) → AreLocalsOf ls m → ls ≡ now → is_some (get nat_eq m l.number) ≡ false → now ++ l ∷ [] ≡ (if has_local now l.number then now else now ++ l ∷ [])
   locals-new now h e g =
-      let missing : has_local (map local_view ls) l.number ≡ false = sym (locals-again (map local_view ls) l.number) ∙ ap is_some (locals-asked h g) in
-      sym (cond-false (has_local (map local_view now) l.number) now (now ++ l ∷ []) (ap (λ ks. has_local (map local_view ks) l.number) (sym e) ∙ missing))
+      let missing : has_local ls l.number ≡ false = sym (locals-again ls l.number) ∙ ap is_some (locals-asked h g) in
+      sym (cond-false (has_local now l.number) now (now ++ l ∷ []) (ap (λ ks. has_local ks l.number) (sym e) ∙ missing))

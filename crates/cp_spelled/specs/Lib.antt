@@ -1,6 +1,5 @@
 pub mod FirstMisfit
 pub mod Tables
-pub mod LocalViews
 pub mod LocalParts
 pub mod Views
 pub mod Own

@@ -1,23 +1,20 @@
 -- Tables that find variables by their identifiers, and locals by their numbers.
-use Rattle.std.specs.Prelude.{◌≡◌, ◌==◌, ℕ, suc, List, [], ◌∷◌, Option, Some, None, option_map, nat_eq, Vec, if◌then◌else◌}
+use Rattle.std.specs.Prelude.{◌≡◌, ◌==◌, ℕ, suc, List, [], ◌∷◌, Option, Some, None, nat_eq, Vec, if◌then◌else◌}
 use Rattle.std.specs.HashMap.{HashMap, get, get_by}
 use Rattle.std.specs.Str.{bytes_eq}
-use Rattle.cp_model.specs.Term as model
-use Rattle.cp_model.specs.Strand.{Declaration}
+use Rattle.cp_model.specs.declared.variable.Declaration.{Declaration}
+use Rattle.cp_model.specs.declared.variable.Variable.{Variable}
 use Rattle.cp_language.specs.Terms.{variable_named}
-use Rattle.cp_report.specs.Spelled.{Local}
-use Rattle.cp_scope.specs.Terms.{variable_view}
-use Rattle.cp_scope.specs.declared.sorts.Variable.{Variable}
 
 -- The table has for each identifier the variable that is declared by it.
 abbrev pub AreVariablesOf : List Declaration → {A S : Type 0} → HashMap (Vec ℕ A) Variable S → Type 0
-AreVariablesOf ds table = (t : List ℕ) → option_map variable_view (get_by (λ k. bytes_eq t k.items) table) ≡ variable_named ds t
+AreVariablesOf ds table = (t : List ℕ) → get_by (λ k. bytes_eq t k.items) table ≡ variable_named ds t
 
 -- The first of the locals with this number: its sort, and its place, where the first of the list has place k.
-abbrev pub local_from : ℕ → List Local → ℕ → Option model.Variable
+abbrev pub local_from : ℕ → List Variable → ℕ → Option Variable
 local_from k [] n = None
 local_from k (l ∷ ls) n = if l.number == n then Some (record { sort = l.sort; number = k }) else local_from (suc k) ls n
 
 -- The table has for each number the first of the locals with it.
-abbrev pub AreLocalsOf : List Local → {S : Type 0} → HashMap ℕ Variable S → Type 0
-AreLocalsOf ls table = (n : ℕ) → option_map variable_view (get nat_eq table n) ≡ local_from 0 ls n
+abbrev pub AreLocalsOf : List Variable → {S : Type 0} → HashMap ℕ Variable S → Type 0
+AreLocalsOf ls table = (n : ℕ) → get nat_eq table n ≡ local_from 0 ls n

@@ -1,13 +1,11 @@
 // Entries of lists, and lists by their heads.
-ghost use Rattle.std.specs.Prelude.{◌≡◌, [], ◌∷◌, map, option_map};
+ghost use Rattle.std.specs.Prelude.{◌≡◌, [], ◌∷◌, map};
 ghost use Rattle.cp_base.specs.declared.place.Place.{Place as Where};
 ghost use Rattle.cp_sexpr.specs.View.{view};
 ghost use Rattle.cp_language.specs.Problems.{is_known};
 ghost use Rattle.cp_report.specs.Misfits.{lacking, entries_misfits, any_number_misfits, symbol_misfits};
 ghost use Rattle.cp_report.specs.Heads.{has_head, entries_under};
 ghost use Rattle.cp_report.specs.Spelled.{names_sort, sort_or_none};
-ghost use Rattle.cp_strand.specs.View.{sort_view};
-ghost use Rattle.cp_scope.specs.Heads.{sort_word_view};
 ghost use Rattle.cp_spelled.specs.FirstMisfit.{first_onto};
 
 use crate::first_misfit::FirstMisfit;
@@ -69,7 +67,7 @@ pub fn any_number_misfits(form: &Form, first: &mut FirstMisfit)
 
 /// The atom sort that a word names, if it names one.
 pub(crate) fn sort_or_none(word: SortWord) -> Option<Sort>
-    ensures { option_map sort_view result ≡ sort_or_none (sort_word_view word) }
+    ensures { result ≡ sort_or_none word }
 {
     match word {
         SortWord::Atoms(sort) => Some(sort),
@@ -79,7 +77,7 @@ pub(crate) fn sort_or_none(word: SortWord) -> Option<Sort>
 
 /// Whether a word names an atom sort.
 fn is_sort(word: SortWord) -> bool
-    ensures { result ≡ is_known (sort_or_none (sort_word_view word)) }
+    ensures { result ≡ is_known (sort_or_none word) }
 {
     matches!(word, SortWord::Atoms(_))
 }

@@ -16,14 +16,13 @@ mod scope;
 mod terms;
 mod variables;
 
+pub use cp_report::LocalAt;
 pub use entries::{
     any_number_misfits, entries_under, has_head, lacking, no_more, one_number_misfits,
 };
 pub use first_misfit::FirstMisfit;
 pub use laws::first_misfit_is_found;
-pub use locals::{
-    Local, LocalAt, Locals, is_any, is_same_sort, local_by, local_misfits, locals_in, locals_of,
-};
+pub use locals::{Locals, is_any, is_same_sort, local_by, local_misfits, locals_in, locals_of};
 pub use maplets::{mapping_misfits, values_mapped};
 pub use misfits::{atom_misfits, term_misfits, value_misfits};
 pub use patterns::{pattern_misfits, pattern_of};

@@ -1,18 +1,16 @@
 // Locals of patterns.
-ghost use Rattle.std.specs.Prelude.{◌≡◌, ◌++◌, ◌∷◌, [], map, option_map, IfOk, OnOk, if◌then◌else◌};
+ghost use Rattle.std.specs.Prelude.{◌≡◌, ◌++◌, ◌∷◌, [], map, IfOk, OnOk, if◌then◌else◌};
 ghost use Rattle.cp_model.specs.Same.{same_sort};
 ghost use Rattle.cp_sexpr.specs.View.{view};
 ghost use Rattle.cp_report.specs.Spelled.{is_any, local_with, local_by, local_of, local_at, locals_in, place_of_local, keeps_sort, has_local, locals_onto, clash_misfits, local_misfits};
-ghost use Rattle.cp_strand.specs.View.{sort_view};
-ghost use Rattle.cp_scope.specs.Terms.{variable_view};
 ghost use Rattle.cp_spelled.specs.FirstMisfit.{first_onto};
-ghost use Rattle.cp_spelled.specs.LocalViews.{local_view, local_at_view};
 ghost use Rattle.cp_spelled.specs.Tables.{local_from};
 ghost use Rattle.cp_spelled.specs.LocalParts.{sort_symbol, local_alone};
 
 use crate::entries::{has_head, one_number_misfits, sort_or_none, sort_symbol_misfits};
 use crate::first_misfit::FirstMisfit;
 use cp_base::Place;
+use cp_report::LocalAt;
 use cp_scope::{Variable, items_behind, sort_word};
 use cp_sexpr::Form;
 use cp_term::Sort;
@@ -20,23 +18,9 @@ use std::alloc::{AllocError, Global};
 use std::collections::HashMap;
 use std::marker::Model;
 
-/// A local of a pattern, as `(any SORT I)` states it.
-#[derive(Clone, Copy)]
-pub struct Local {
-    pub sort: Sort,
-    pub number: usize,
-}
-
-/// A local, and where it stands.
-#[derive(Clone, Copy)]
-pub struct LocalAt {
-    pub place: Place,
-    pub local: Local,
-}
-
 /// Whether the sorts are the same.
 pub fn is_same_sort(first: Sort, second: Sort) -> bool
-    ensures { result ≡ same_sort (sort_view first) (sort_view second) }
+    ensures { result ≡ same_sort first second }
 {
     first == second
 }
@@ -55,7 +39,7 @@ pub fn local_misfits(place: Place, items: &[Form], first: &mut FirstMisfit)
 
 /// The sort that a form names, if it names one.
 fn sort_named(form: &Form) -> Option<Sort>
-    ensures { option_map sort_view result ≡ sort_symbol (view form.now) }
+    ensures { result ≡ sort_symbol (view form.now) }
 {
     match form {
         Form::Symbol(_, word) => sort_or_none(sort_word(word.as_bytes())),
@@ -64,14 +48,14 @@ fn sort_named(form: &Form) -> Option<Sort>
 }
 
 /// The local of this sort whose number a form states, if it states one.
-fn local_with(sort: Option<Sort>, form: &Form) -> Option<Local>
-    ensures { option_map local_view result ≡ local_with (option_map sort_view sort) (view form.now) }
+fn local_with(sort: Option<Sort>, form: &Form) -> Option<Variable>
+    ensures { result ≡ local_with sort (view form.now) }
 {
     let Some(sort) = sort else {
         return None;
     };
     match form {
-        Form::Number(_, number) => Some(Local {
+        Form::Number(_, number) => Some(Variable {
             sort,
             number: *number,
         }),
@@ -80,8 +64,8 @@ fn local_with(sort: Option<Sort>, form: &Form) -> Option<Local>
 }
 
 /// The local of this sort, if the list is its number alone.
-fn local_alone(sort: Option<Sort>, items: &[Form]) -> Option<Local>
-    ensures { option_map local_view result ≡ local_alone (option_map sort_view sort) (map view items.now) }
+fn local_alone(sort: Option<Sort>, items: &[Form]) -> Option<Variable>
+    ensures { result ≡ local_alone sort (map view items.now) }
 {
     match items {
         [] => None,
@@ -91,8 +75,8 @@ fn local_alone(sort: Option<Sort>, items: &[Form]) -> Option<Local>
 }
 
 /// The local that the entries after a head state, if they state one.
-pub fn local_by(items: &[Form]) -> Option<Local>
-    ensures { option_map local_view result ≡ local_by (map view items.now) }
+pub fn local_by(items: &[Form]) -> Option<Variable>
+    ensures { result ≡ local_by (map view items.now) }
 {
     match items.split_first() {
         Some((word, rest)) => local_alone(sort_named(word), rest),
@@ -108,8 +92,8 @@ pub fn is_any(form: &Form) -> bool
 }
 
 /// The local that a form states, if it states one.
-fn local_of(form: &Form) -> Option<Local>
-    ensures { option_map local_view result ≡ local_of (view form.now) }
+fn local_of(form: &Form) -> Option<Variable>
+    ensures { result ≡ local_of (view form.now) }
 {
     if is_any(form) {
         local_by(items_behind(form))
@@ -120,7 +104,7 @@ fn local_of(form: &Form) -> Option<Local>
 
 /// Appends the local that a form at this place states, if it states one.
 fn add_local(place: Place, form: &Form, out: &mut Vec<LocalAt>) -> Result<(), AllocError>
-    ensures { OnOk result (map local_at_view out.new.items ≡ map local_at_view out.old.items ++ local_at place (local_of (view form.now))) }
+    ensures { OnOk result (out.new.items ≡ out.old.items ++ local_at place (local_of (view form.now))) }
 {
     let Some(local) = local_of(form) else {
         return Ok(());
@@ -131,7 +115,7 @@ fn add_local(place: Place, form: &Form, out: &mut Vec<LocalAt>) -> Result<(), Al
 
 /// Appends the locals of a form in the order of the text.
 fn add_locals(form: &Form, out: &mut Vec<LocalAt>) -> Result<(), AllocError>
-    ensures { OnOk result (map local_at_view out.new.items ≡ map local_at_view out.old.items ++ locals_in (view form.now)) }
+    ensures { OnOk result (out.new.items ≡ out.old.items ++ locals_in (view form.now)) }
 {
     let Form::List(place, items) = form else {
         return Ok(());
@@ -146,7 +130,7 @@ fn add_locals(form: &Form, out: &mut Vec<LocalAt>) -> Result<(), AllocError>
 
 /// The locals of a form in the order of the text, each as often as it stands.
 pub fn locals_in(alloc: Global, form: &Form) -> Result<Vec<LocalAt>, AllocError>
-    ensures { IfOk result (λ v. map local_at_view v.items ≡ locals_in (view form.now)) }
+    ensures { IfOk result (λ v. v.items ≡ locals_in (view form.now)) }
 {
     let mut found = Vec::new(alloc);
     add_locals(form, &mut found)?;
@@ -156,21 +140,20 @@ pub fn locals_in(alloc: Global, form: &Form) -> Result<Vec<LocalAt>, AllocError>
 /// Locals in order, no two with the same number. Each is found by its number.
 #[derive(Drop)]
 pub struct Locals {
-    locals: Vec<Local>,
+    locals: Vec<Variable>,
     table: HashMap<usize, Variable>,
 }
 
 impl Model for Locals {
-    ghost use Rattle.std.specs.Prelude.{List, map};
-    ghost use Rattle.cp_spelled.specs.declared.locals.Local.{Local as Stated};
-    ghost use Rattle.cp_spelled.specs.LocalViews.{local_view};
+    ghost use Rattle.std.specs.Prelude.{List};
+    ghost use Rattle.cp_model.specs.declared.variable.Variable.{Variable as Plain};
     ghost use Rattle.cp_spelled.specs.Tables.{AreLocalsOf};
 
-    ghost Value = { List Stated };
+    ghost Value = { List Plain };
 
     ghost view = { λ l. l.locals.items };
 
-    ghost invariant = { λ l. AreLocalsOf (map local_view l.locals.items) l.table };
+    ghost invariant = { λ l. AreLocalsOf l.locals.items l.table };
 }
 
 impl Locals {
@@ -185,7 +168,7 @@ impl Locals {
     }
 
     /// The locals, in order.
-    pub fn as_slice(&self) -> &[Local]
+    pub fn as_slice(&self) -> &[Variable]
         ensures { result.now ≡ self.now }
     {
         self.locals.as_slice()
@@ -193,7 +176,7 @@ impl Locals {
 
     /// The first local with this number: its sort, and its place, from 0.
     fn found(&self, number: usize) -> Option<Variable>
-        ensures { option_map variable_view result ≡ local_from 0 (map local_view self.now) number }
+        ensures { result ≡ local_from 0 self.now number }
     {
         match self.table.get(&number) {
             Some(variable) => Some(*variable),
@@ -203,7 +186,7 @@ impl Locals {
 
     /// The place of the local with this number, from 0; if there is none, the number of locals.
     pub fn place_of(&self, number: usize) -> usize
-        ensures { result ≡ place_of_local (map local_view self.now) number }
+        ensures { result ≡ place_of_local self.now number }
     {
         match self.found(number) {
             Some(variable) => variable.number,
@@ -212,8 +195,8 @@ impl Locals {
     }
 
     /// Whether the local has the sort of the one with its number, if there is one.
-    pub fn keeps_sort(&self, local: Local) -> bool
-        ensures { result ≡ keeps_sort (map local_view self.now) (local_view local) }
+    pub fn keeps_sort(&self, local: Variable) -> bool
+        ensures { result ≡ keeps_sort self.now local }
     {
         match self.found(local.number) {
             Some(variable) => is_same_sort(variable.sort, local.sort),
@@ -222,8 +205,8 @@ impl Locals {
     }
 
     /// Appends a local, unless there is one with its number.
-    pub fn add(&mut self, local: Local) -> Result<(), AllocError>
-        ensures { OnOk result (self.new ≡ (if has_local (map local_view self.old) local.number then self.old else self.old ++ local ∷ [])) }
+    pub fn add(&mut self, local: Variable) -> Result<(), AllocError>
+        ensures { OnOk result (self.new ≡ (if has_local self.old local.number then self.old else self.old ++ local ∷ [])) }
     {
         if self.table.contains_key(&local.number) {
             return Ok(());
@@ -248,8 +231,8 @@ pub fn locals_of(
     found: &[LocalAt],
     first: &mut FirstMisfit,
 ) -> Result<Locals, AllocError>
-    ensures misfits { OnOk result (first.new ≡ first_onto first.old (clash_misfits [] (map local_at_view found.now))) }
-    ensures locals { IfOk result (λ l. map local_view l ≡ locals_onto [] (map local_at_view found.now)) }
+    ensures misfits { OnOk result (first.new ≡ first_onto first.old (clash_misfits [] found.now)) }
+    ensures locals { IfOk result (λ l. l ≡ locals_onto [] found.now) }
 {
     let mut locals = Locals::new(alloc);
     for next in found {

@@ -7,8 +7,6 @@ ghost use Rattle.cp_language.specs.Problems.{is_known};
 ghost use Rattle.cp_report.specs.Misfits.{symbol_misfits, entries_misfits, list_misfits};
 ghost use Rattle.cp_report.specs.Spelled.{value_misfits};
 ghost use Rattle.cp_report.specs.Skeletons.{identifier_of, maplet_misfits, maplets_misfits, are_mapped, mapping_misfits, value_mapped, values_mapped};
-ghost use Rattle.cp_strand.specs.View.{declaration_view};
-ghost use Rattle.cp_scope.specs.Terms.{variable_view};
 ghost use Rattle.cp_spelled.specs.FirstMisfit.{first_onto};
 ghost use Rattle.cp_spelled.specs.Own.{value_of_item};
 ghost use Rattle.cp_spelled.specs.Views.{scope_view};
@@ -27,7 +25,7 @@ use std::alloc::{AllocError, Global};
 /// The form must be the identifier of a wanted variable that was not mapped before.
 fn identifier_misfits(wanted: &Variables, before: &NameSet, form: &Form, first: &mut FirstMisfit)
     ensures { first.new ≡ first_onto first.old
-        (symbol_misfits (λ t. is_known (variable_named (map declaration_view wanted.now) t) && not (is_one_of t before.now)) (view form.now)) }
+        (symbol_misfits (λ t. is_known (variable_named wanted.now t) && not (is_one_of t before.now)) (view form.now)) }
 {
     let Form::Symbol(place, identifier) = form else {
         first.note(place_of(form));
@@ -48,7 +46,7 @@ fn one_value_misfits(
     first: &mut FirstMisfit,
 )
     ensures { first.new ≡ first_onto first.old (entries_misfits
-        (value_misfits (scope_view scope.entry) (option_map variable_view variable) ∷ []) place (map view items.now)) }
+        (value_misfits (scope_view scope.entry) variable ∷ []) place (map view items.now)) }
 {
     let Some((term, rest)) = items.split_first() else {
         first.note(place);
@@ -68,7 +66,7 @@ fn maplet_entries_misfits(
     first: &mut FirstMisfit,
 )
     ensures { first.new ≡ first_onto first.old
-        (maplet_misfits (scope_view scope.entry) (map declaration_view wanted.now) before.now place (map view items.now)) }
+        (maplet_misfits (scope_view scope.entry) wanted.now before.now place (map view items.now)) }
 {
     let Some((identifier, rest)) = items.split_first() else {
         first.note(place);
@@ -88,7 +86,7 @@ fn maplet_misfits(
     first: &mut FirstMisfit,
 )
     ensures { first.new ≡ first_onto first.old
-        (list_misfits (maplet_misfits (scope_view scope.entry) (map declaration_view wanted.now) before.now) (view form.now)) }
+        (list_misfits (maplet_misfits (scope_view scope.entry) wanted.now before.now) (view form.now)) }
 {
     let Form::List(place, items) = form else {
         first.note(place_of(form));
@@ -106,7 +104,7 @@ fn maplets_misfits(
     first: &mut FirstMisfit,
 ) -> Result<NameSet, AllocError>
     ensures misfits { OnOk result (first.new ≡ first_onto first.old
-        (maplets_misfits (scope_view scope.entry) (map declaration_view wanted.now) [] (map view maplets.now))) }
+        (maplets_misfits (scope_view scope.entry) wanted.now [] (map view maplets.now))) }
     ensures mapped { IfOk result (λ names. names ≡ map identifier_of (map view maplets.now)) }
 {
     let mut mapped = NameSet::new(alloc);
@@ -120,7 +118,7 @@ fn maplets_misfits(
 
 /// Whether each of the wanted variables is among those that are mapped.
 fn are_mapped(wanted: &[Declaration], mapped: &NameSet) -> bool
-    ensures { result ≡ are_mapped (map declaration_view wanted.now) mapped.now }
+    ensures { result ≡ are_mapped wanted.now mapped.now }
 {
     for declaration in wanted {
         if !mapped.has(declaration.identifier.as_str()) {
@@ -140,7 +138,7 @@ pub fn mapping_misfits(
     first: &mut FirstMisfit,
 ) -> Result<(), AllocError>
     ensures { OnOk result (first.new ≡ first_onto first.old
-        (mapping_misfits (scope_view scope.entry) (map declaration_view wanted.now) place (map view maplets.now))) }
+        (mapping_misfits (scope_view scope.entry) wanted.now place (map view maplets.now))) }
 {
     let mut inner = FirstMisfit::new();
     let mapped = maplets_misfits(alloc, scope, wanted, maplets, &mut inner)?;
@@ -195,7 +193,7 @@ pub fn values_mapped(
     maplets: &[Form],
     wanted: &[Declaration],
 ) -> Result<Vec<Term>, AllocError>
-    ensures { IfOk result (λ v. v.items ≡ values_mapped (scope_view scope.entry) (map view maplets.now) (map declaration_view wanted.now)) }
+    ensures { IfOk result (λ v. v.items ≡ values_mapped (scope_view scope.entry) (map view maplets.now) wanted.now) }
 {
     let identifiers = identifiers_of(alloc, maplets)?;
     let mut values = Vec::new(alloc);

@@ -1,15 +1,14 @@
 // Where terms do not fit.
 ghost use Rattle.std.specs.Prelude.{◌≡◌, ◌++◌, [], ◌∷◌, map, option_map, None, if◌then◌else◌};
-ghost use Rattle.cp_model.specs.Term.{name_sort};
+ghost use Rattle.cp_model.specs.declared.sort.Sort.TheVariants.{Name as name_sort};
 ghost use Rattle.cp_sexpr.specs.View.{view};
-ghost use Rattle.cp_language.specs.Words.{encrypt, term_head};
+ghost use Rattle.cp_language.specs.declared.words.TermHead.TheVariants.{Enc as encrypt};
+ghost use Rattle.cp_language.specs.Words.{term_head};
 ghost use Rattle.cp_language.specs.Roles.{headed, last_form};
 ghost use Rattle.cp_report.specs.Misfits.{lacking};
 ghost use Rattle.cp_report.specs.Heads.{forms_after_head};
 ghost use Rattle.cp_report.specs.Spelled.{is_local, local_misfits, sort_misfits, variable_misfits, variables_misfits, name_misfits, spread_misfits, last_key_misfits, term_misfits, value_misfits, atom_misfits};
 ghost use Rattle.cp_language.specs.Faults.{place_of};
-ghost use Rattle.cp_strand.specs.View.{sort_view};
-ghost use Rattle.cp_scope.specs.Terms.{variable_view};
 ghost use Rattle.cp_scope.specs.OwnFaults.{is_purpose, behind_purpose};
 ghost use Rattle.cp_spelled.specs.FirstMisfit.{first_onto};
 ghost use Rattle.cp_spelled.specs.Views.{scope_view};
@@ -29,7 +28,7 @@ use cp_term::Sort;
 
 /// The term must have this sort.
 pub(crate) fn sort_misfits(scope: Scope<'_>, sort: Sort, form: &Form, first: &mut FirstMisfit)
-    ensures { first.new ≡ first_onto first.old (sort_misfits (scope_view scope.entry) (sort_view sort) (view form.now)) }
+    ensures { first.new ≡ first_onto first.old (sort_misfits (scope_view scope.entry) sort (view form.now)) }
 {
     first.note_unless(has_sort(scope, sort, form), place_of(form));
 }
@@ -46,7 +45,7 @@ fn stated_local_misfits(scope: Scope<'_>, form: &Form, first: &mut FirstMisfit)
 
 /// The form must be a variable of this sort.
 fn variable_misfits(scope: Scope<'_>, sort: Sort, form: &Form, first: &mut FirstMisfit)
-    ensures { first.new ≡ first_onto first.old (variable_misfits (scope_view scope.entry) (sort_view sort) (view form.now)) }
+    ensures { first.new ≡ first_onto first.old (variable_misfits (scope_view scope.entry) sort (view form.now)) }
 {
     let mut inner = FirstMisfit::new();
     stated_local_misfits(scope, form, &mut inner);
@@ -62,7 +61,7 @@ fn one_variable_misfits(
     items: &[Form],
     first: &mut FirstMisfit,
 )
-    ensures { first.new ≡ first_onto first.old (variables_misfits (scope_view scope.entry) (sort_view sort ∷ []) place (map view items.now)) }
+    ensures { first.new ≡ first_onto first.old (variables_misfits (scope_view scope.entry) (sort ∷ []) place (map view items.now)) }
 {
     let Some((item, rest)) = items.split_first() else {
         first.note(place);
@@ -230,7 +229,7 @@ fn wanted_sort_misfits(
     form: &Form,
     first: &mut FirstMisfit,
 )
-    ensures { first.new ≡ first_onto first.old (wanted_sort_misfits (scope_view scope.entry) (option_map variable_view variable) (view form.now)) }
+    ensures { first.new ≡ first_onto first.old (wanted_sort_misfits (scope_view scope.entry) variable (view form.now)) }
 {
     if let Some(variable) = variable {
         sort_misfits(scope, variable.sort, form, first);
@@ -244,7 +243,7 @@ pub fn value_misfits(
     form: &Form,
     first: &mut FirstMisfit,
 )
-    ensures { first.new ≡ first_onto first.old (value_misfits (scope_view scope.entry) (option_map variable_view variable) (view form.now)) }
+    ensures { first.new ≡ first_onto first.old (value_misfits (scope_view scope.entry) variable (view form.now)) }
 {
     wanted_sort_misfits(scope, variable, form, first);
     term_misfits(scope, form, first);

@@ -1,18 +1,16 @@
 // Patterns: where they do not fit, and what they are.
-ghost use Rattle.std.specs.Prelude.{◌≡◌, ◌≢◌, [], map, IfOk, OnOk, MatchOption};
+ghost use Rattle.std.specs.Prelude.{◌≡◌, ◌≢◌, [], IfOk, OnOk, MatchOption};
 ghost use Rattle.cp_sexpr.specs.View.{view};
-ghost use Rattle.cp_strand.specs.View.{declaration_view};
 ghost use Rattle.cp_report.specs.Spelled.{pattern_misfits, pattern_scope, pattern_of, variables_of_locals};
 ghost use Rattle.cp_spelled.specs.FirstMisfit.{first_onto};
-ghost use Rattle.cp_spelled.specs.LocalViews.{local_view};
 
 use crate::misfits::term_misfits;
 use crate::scope::Scope;
 use crate::terms::{number_behind, term_in};
-use crate::{FirstMisfit, Local, Locals, Variables, has_head, locals_in, locals_of};
-use cp_scope::place_of;
+use crate::{FirstMisfit, Locals, Variables, has_head, locals_in, locals_of};
+use cp_scope::{Variable, place_of};
 use cp_sexpr::Form;
-use cp_term::{Locals as Numbers, Pattern, VarId};
+use cp_term::{Locals as PatternLocals, Pattern};
 use std::alloc::{AllocError, Global};
 
 /// Notes where a form is no pattern. Returns its locals.
@@ -22,8 +20,8 @@ fn misfits_and_locals(
     form: &Form,
     first: &mut FirstMisfit,
 ) -> Result<Locals, AllocError>
-    ensures misfits { OnOk result (first.new ≡ first_onto first.old (pattern_misfits (map declaration_view variables.now) (view form.now))) }
-    ensures locals { IfOk result (λ l. map local_view l ≡ (pattern_scope (map declaration_view variables.now) (view form.now)).locals) }
+    ensures misfits { OnOk result (first.new ≡ first_onto first.old (pattern_misfits variables.now (view form.now))) }
+    ensures locals { IfOk result (λ l. l ≡ (pattern_scope variables.now (view form.now)).locals) }
 {
     let found = locals_in(alloc, form)?;
     let locals = locals_of(alloc, &found, first)?;
@@ -44,22 +42,29 @@ pub fn pattern_misfits(
     form: &Form,
     first: &mut FirstMisfit,
 ) -> Result<(), AllocError>
-    ensures { OnOk result (first.new ≡ first_onto first.old (pattern_misfits (map declaration_view variables.now) (view form.now))) }
+    ensures { OnOk result (first.new ≡ first_onto first.old (pattern_misfits variables.now (view form.now))) }
 {
     let _locals = misfits_and_locals(alloc, variables, form, first)?;
     Ok(())
 }
 
-/// The numbers of the locals, which follow those of so many variables.
-fn numbers_of(alloc: Global, count: usize, locals: &[Local]) -> Result<Numbers, AllocError>
-    ensures { IfOk result (λ numbers. numbers ≡ map (λ x. x.number) (variables_of_locals count (map local_view locals.now))) }
+/// The locals with the numbers that follow those of so many variables.
+fn variables_of_locals(
+    alloc: Global,
+    count: usize,
+    locals: &[Variable],
+) -> Result<PatternLocals, AllocError>
+    ensures { IfOk result (λ found. found ≡ variables_of_locals count locals.now) }
 {
-    let mut numbers = Numbers::new(alloc);
-    for (place, _) in locals.iter().enumerate() {
+    let mut found = PatternLocals::new(alloc);
+    for (place, local) in locals.iter().enumerate() {
         let number = number_behind(count, place)?;
-        numbers.push(VarId::numbered(number))?;
+        found.push(Variable {
+            sort: local.sort,
+            number,
+        })?;
     }
-    Ok(numbers)
+    Ok(found)
 }
 
 /// The pattern that a form is. The form must be a pattern and have these locals.
@@ -69,9 +74,9 @@ fn pattern_with(
     locals: &Locals,
     form: &Form,
 ) -> Result<Pattern, AllocError>
-    requires { (pattern_misfits (map declaration_view variables.now) (view form.now) ≡ [])
-        × (map local_view locals.now ≡ (pattern_scope (map declaration_view variables.now) (view form.now)).locals) }
-    ensures { IfOk result (λ p. p ≡ pattern_of (map declaration_view variables.now) (view form.now)) }
+    requires { (pattern_misfits variables.now (view form.now) ≡ [])
+        × (locals.now ≡ (pattern_scope variables.now (view form.now)).locals) }
+    ensures { IfOk result (λ p. p ≡ pattern_of variables.now (view form.now)) }
 {
     let scope = Scope {
         variables,
@@ -79,8 +84,8 @@ fn pattern_with(
         locals,
     };
     let term = term_in(alloc, scope, form)?;
-    let numbers = numbers_of(alloc, variables.len(), locals.as_slice())?;
-    Ok(Pattern::new(term, numbers))
+    let found = variables_of_locals(alloc, variables.len(), locals.as_slice())?;
+    Ok(Pattern::new(term, found))
 }
 
 /// The pattern that a form is, or `None` if it is none.
@@ -89,8 +94,8 @@ pub fn pattern_of(
     variables: &Variables,
     form: &Form,
 ) -> Result<Option<Pattern>, AllocError>
-    ensures { IfOk result (λ found. MatchOption found (pattern_misfits (map declaration_view variables.now) (view form.now) ≢ [])
-        (λ p. p ≡ pattern_of (map declaration_view variables.now) (view form.now))) }
+    ensures { IfOk result (λ found. MatchOption found (pattern_misfits variables.now (view form.now) ≢ [])
+        (λ p. p ≡ pattern_of variables.now (view form.now))) }
 {
     let mut first = FirstMisfit::new();
     let locals = misfits_and_locals(alloc, variables, form, &mut first)?;

@@ -1,20 +1,16 @@
 // What may stand for a variable, and the sorts of terms.
 ghost use Rattle.std.specs.Prelude.{◌≡◌, ◌&&◌, ◌||◌, option_map, None, codes, if◌then◌else◌};
-ghost use Rattle.cp_model.specs.Term.{skey_sort, akey_sort};
+ghost use Rattle.cp_model.specs.declared.sort.Sort.TheVariants.{Skey as skey_sort, Akey as akey_sort};
 ghost use Rattle.cp_model.specs.Same.{same_text};
 ghost use Rattle.cp_sexpr.specs.View.{view};
 ghost use Rattle.cp_language.specs.Roles.{headed};
 ghost use Rattle.cp_language.specs.Terms.{variable_named, is_sort, admits_atom};
 ghost use Rattle.cp_report.specs.Heads.{forms_after_head};
 ghost use Rattle.cp_report.specs.Spelled.{is_local, local_by, variable_of_local, variable_in, sort_of_head, sort_by_shape, sort_in, is_found_of_sort};
-ghost use Rattle.cp_scope.specs.Heads.{term_head_view};
-ghost use Rattle.cp_strand.specs.View.{sort_view};
-ghost use Rattle.cp_scope.specs.Terms.{term_sort_view};
-ghost use Rattle.cp_spelled.specs.LocalViews.{local_view};
 ghost use Rattle.cp_spelled.specs.Views.{scope_view};
 
-use crate::{Local, Locals, Variables, is_any, is_same_sort, local_by};
-use cp_scope::{TermHead, TermSort, headed, is_word, items_behind, symbol, term_head};
+use crate::{Locals, Variables, is_any, is_same_sort, local_by};
+use cp_scope::{TermHead, TermSort, Variable, headed, is_word, items_behind, symbol, term_head};
 use cp_sexpr::Form;
 use cp_term::Sort;
 
@@ -41,8 +37,8 @@ pub(crate) fn is_local_head(scope: Scope<'_>, head: &[u8]) -> bool
 }
 
 /// The sort of a local, if there is one.
-fn sort_of_local(local: Option<Local>) -> Option<Sort>
-    ensures { option_map sort_view result ≡ option_map (λ l. l.sort) (option_map local_view local) }
+fn sort_of_local(local: Option<Variable>) -> Option<Sort>
+    ensures { result ≡ option_map (λ l. l.sort) local }
 {
     match local {
         Some(local) => Some(local.sort),
@@ -52,7 +48,7 @@ fn sort_of_local(local: Option<Local>) -> Option<Sort>
 
 /// The sort of the local that a form states.
 fn local_sort(scope: Scope<'_>, form: &Form) -> Option<Sort>
-    ensures { option_map sort_view result ≡ option_map (λ x. x.sort)
+    ensures { result ≡ option_map (λ x. x.sort)
         (if is_local (scope_view scope.entry) (view form.now) then variable_of_local (scope_view scope.entry) (local_by (forms_after_head (view form.now))) else None) }
 {
     if is_local(scope, form) {
@@ -64,7 +60,7 @@ fn local_sort(scope: Scope<'_>, form: &Form) -> Option<Sort>
 
 /// The sort of the variable with this identifier.
 fn named_sort(scope: Scope<'_>, identifier: &[u8]) -> Option<Sort>
-    ensures { option_map sort_view result ≡ option_map (λ x. x.sort) (variable_named (scope_view scope.entry).variables identifier.now) }
+    ensures { result ≡ option_map (λ x. x.sort) (variable_named (scope_view scope.entry).variables identifier.now) }
 {
     match scope.variables.named(identifier) {
         Some(variable) => Some(variable.sort),
@@ -74,7 +70,7 @@ fn named_sort(scope: Scope<'_>, identifier: &[u8]) -> Option<Sort>
 
 /// The sort of the variable that a form stands for.
 fn variable_sort(scope: Scope<'_>, form: &Form) -> Option<Sort>
-    ensures { option_map sort_view result ≡ option_map (λ x. x.sort) (variable_in (scope_view scope.entry) (view form.now)) }
+    ensures { result ≡ option_map (λ x. x.sort) (variable_in (scope_view scope.entry) (view form.now)) }
 {
     match symbol(form) {
         Some(identifier) => named_sort(scope, identifier),
@@ -84,7 +80,7 @@ fn variable_sort(scope: Scope<'_>, form: &Form) -> Option<Sort>
 
 /// Whether a form stands for a variable of this sort.
 pub(crate) fn is_variable_of(scope: Scope<'_>, sort: Sort, form: &Form) -> bool
-    ensures { result ≡ is_found_of_sort (sort_view sort) (variable_in (scope_view scope.entry) (view form.now)) }
+    ensures { result ≡ is_found_of_sort sort (variable_in (scope_view scope.entry) (view form.now)) }
 {
     match variable_sort(scope, form) {
         Some(other) => is_same_sort(sort, other),
@@ -94,7 +90,7 @@ pub(crate) fn is_variable_of(scope: Scope<'_>, sort: Sort, form: &Form) -> bool
 
 /// The sort of a list with this head.
 fn sort_of_head(head: TermHead) -> Option<TermSort>
-    ensures { option_map term_sort_view result ≡ sort_of_head (term_head_view head) }
+    ensures { result ≡ sort_of_head head }
 {
     match head {
         TermHead::Cat | TermHead::Enc => Some(TermSort::All),
@@ -106,7 +102,7 @@ fn sort_of_head(head: TermHead) -> Option<TermSort>
 
 /// The sort of a form that is no list with a head, if it is no variable.
 fn sort_of_leaf(form: &Form) -> Option<TermSort>
-    ensures { headed (view form.now) ≡ None → option_map term_sort_view result ≡ sort_by_shape (view form.now) }
+    ensures { headed (view form.now) ≡ None → result ≡ sort_by_shape (view form.now) }
 {
     match form {
         Form::String(..) => Some(TermSort::All),
@@ -116,7 +112,7 @@ fn sort_of_leaf(form: &Form) -> Option<TermSort>
 
 /// The sort of a form that is no variable.
 fn sort_by_shape(form: &Form) -> Option<TermSort>
-    ensures { option_map term_sort_view result ≡ sort_by_shape (view form.now) }
+    ensures { result ≡ sort_by_shape (view form.now) }
 {
     match headed(form) {
         Some(list) => sort_of_head(term_head(list.head)),
@@ -126,7 +122,7 @@ fn sort_by_shape(form: &Form) -> Option<TermSort>
 
 /// The sort of a term, decided by its head alone; `None` if it cannot be known.
 fn sort_in(scope: Scope<'_>, form: &Form) -> Option<TermSort>
-    ensures { option_map term_sort_view result ≡ sort_in (scope_view scope.entry) (view form.now) }
+    ensures { result ≡ sort_in (scope_view scope.entry) (view form.now) }
 {
     match variable_sort(scope, form) {
         Some(sort) => Some(TermSort::Atoms(sort)),
@@ -136,7 +132,7 @@ fn sort_in(scope: Scope<'_>, form: &Form) -> Option<TermSort>
 
 /// Whether a term has this sort; also `true` if its sort cannot be known.
 pub(crate) fn has_sort(scope: Scope<'_>, sort: Sort, form: &Form) -> bool
-    ensures { result ≡ is_sort (sort_view sort) (sort_in (scope_view scope.entry) (view form.now)) }
+    ensures { result ≡ is_sort sort (sort_in (scope_view scope.entry) (view form.now)) }
 {
     match sort_in(scope, form) {
         None => true,

@@ -8,8 +8,6 @@ ghost use Rattle.cp_language.specs.Problems.{is_known, name_in_front, second_for
 ghost use Rattle.cp_report.specs.Misfits.{symbol_misfits, entries_misfits, list_misfits};
 ghost use Rattle.cp_report.specs.Spelled.{names_sort};
 ghost use Rattle.cp_report.specs.Skeletons.{vars_misfits, declaration_of, declarations_of_label, identifier_of};
-ghost use Rattle.cp_scope.specs.Terms.{variable_view};
-ghost use Rattle.cp_strand.specs.View.{declaration_view};
 ghost use Rattle.cp_spelled.specs.FirstMisfit.{first_onto};
 
 use crate::entries::{entries_under, one_sort_misfits};
@@ -30,16 +28,15 @@ pub struct Variables {
 }
 
 impl Model for Variables {
-    ghost use Rattle.std.specs.Prelude.{List, map};
-    ghost use Rattle.cp_strand.specs.declared.protocol.Declaration.{Declaration as Declared};
-    ghost use Rattle.cp_strand.specs.View.{declaration_view};
+    ghost use Rattle.std.specs.Prelude.{List};
+    ghost use Rattle.cp_model.specs.declared.variable.Declaration.{Declaration};
     ghost use Rattle.cp_spelled.specs.Tables.{AreVariablesOf};
 
-    ghost Value = { List Declared };
+    ghost Value = { List Declaration };
 
     ghost view = { λ v. v.declarations.items };
 
-    ghost invariant = { λ v. AreVariablesOf (map declaration_view v.declarations.items) v.table };
+    ghost invariant = { λ v. AreVariablesOf v.declarations.items v.table };
 }
 
 impl Variables {
@@ -69,7 +66,7 @@ impl Variables {
 
     /// The variable with this identifier; of several the first.
     pub fn named(&self, identifier: &[u8]) -> Option<Variable>
-        ensures { option_map variable_view result ≡ variable_named (map declaration_view self.now) identifier.now }
+        ensures { result ≡ variable_named self.now identifier.now }
     {
         match self.table.get(identifier) {
             Some(variable) => Some(*variable),
@@ -79,7 +76,7 @@ impl Variables {
 
     /// Whether one of them has this identifier.
     pub fn has(&self, identifier: &[u8]) -> bool
-        ensures { result ≡ is_known (variable_named (map declaration_view self.now) identifier.now) }
+        ensures { result ≡ is_known (variable_named self.now identifier.now) }
     {
         match self.named(identifier) {
             Some(_) => true,
@@ -89,7 +86,7 @@ impl Variables {
 
     /// Whether one of them is declared by this identifier.
     fn declares(&self, identifier: &[u8]) -> bool
-        ensures { result ≡ is_one_of identifier.now (identifiers_in (map declaration_view self.now)) }
+        ensures { result ≡ is_one_of identifier.now (identifiers_in self.now) }
     {
         self.has(identifier)
     }
@@ -120,7 +117,7 @@ impl Variables {
 /// The form must be an identifier that is none of those before it.
 fn identifier_misfits(before: &Variables, form: &Form, first: &mut FirstMisfit)
     ensures { first.new ≡ first_onto first.old
-        (symbol_misfits (λ t. not (is_one_of t (identifiers_in (map declaration_view before.now)))) (view form.now)) }
+        (symbol_misfits (λ t. not (is_one_of t (identifiers_in before.now))) (view form.now)) }
 {
     let Form::Symbol(place, identifier) = form else {
         first.note(place_of(form));
@@ -137,7 +134,7 @@ fn declaration_entries_misfits(
     first: &mut FirstMisfit,
 )
     ensures { first.new ≡ first_onto first.old (entries_misfits
-        (symbol_misfits (λ t. not (is_one_of t (identifiers_in (map declaration_view before.now)))) ∷ symbol_misfits names_sort ∷ [])
+        (symbol_misfits (λ t. not (is_one_of t (identifiers_in before.now))) ∷ symbol_misfits names_sort ∷ [])
         place (map view items.now)) }
 {
     let Some((identifier, rest)) = items.split_first() else {
@@ -151,7 +148,7 @@ fn declaration_entries_misfits(
 /// The form must be a list of an identifier, none of those before it, and a sort.
 fn declaration_misfits(before: &Variables, form: &Form, first: &mut FirstMisfit)
     ensures { first.new ≡ first_onto first.old (list_misfits (entries_misfits
-        (symbol_misfits (λ t. not (is_one_of t (identifiers_in (map declaration_view before.now)))) ∷ symbol_misfits names_sort ∷ [])) (view form.now)) }
+        (symbol_misfits (λ t. not (is_one_of t (identifiers_in before.now))) ∷ symbol_misfits names_sort ∷ [])) (view form.now)) }
 {
     let Form::List(place, items) = form else {
         first.note(place_of(form));
@@ -189,7 +186,7 @@ pub fn second(items: &[Form]) -> Option<&Form>
 
 /// The declaration that an entry states. For an entry with a misfit it has no meaning.
 fn declaration_of(alloc: Global, form: &Form) -> Result<Declaration, AllocError>
-    ensures { IfOk result (λ d. declaration_view d ≡ declaration_of (view form.now)) }
+    ensures { IfOk result (λ d. d ≡ declaration_of (view form.now)) }
 {
     let identifier = identifier_of(alloc, form)?;
     let sort = sort_or_text(sort_named(second(list_items(form))));
@@ -203,7 +200,7 @@ pub fn variables_of(
     first: &mut FirstMisfit,
 ) -> Result<Variables, AllocError>
     ensures misfits { OnOk result (first.new ≡ first_onto first.old (vars_misfits [] (map view items.now))) }
-    ensures declared { IfOk result (λ v. map declaration_view v ≡ map declaration_of (map view items.now)) }
+    ensures declared { IfOk result (λ v. v ≡ map declaration_of (map view items.now)) }
 {
     let mut variables = Variables::new(alloc);
     for item in items {
@@ -216,7 +213,7 @@ pub fn variables_of(
 
 /// The variables of a label form with these items.
 pub fn declarations_of_label(alloc: Global, items: &[Form]) -> Result<Variables, AllocError>
-    ensures { IfOk result (λ v. map declaration_view v ≡ declarations_of_label (map view items.now)) }
+    ensures { IfOk result (λ v. v ≡ declarations_of_label (map view items.now)) }
 {
     let mut ignored = FirstMisfit::new();
     variables_of(alloc, entries_under(items, b"vars"), &mut ignored)

@@ -5,7 +5,7 @@ use Rattle.std.proofs.lemmas.Bool.Decides.{same_from_decides}
 use Rattle.cp_lists.specs.Lists.{item_at, IsIn}
 use Rattle.cp_lists.proofs.Items.{map_of_item, map_none}
 use Rattle.cp_model.specs.Term.{AtomTerm, Term}
-use Rattle.cp_model.specs.Strand.{Event}
+use Rattle.cp_model.specs.declared.strand.Event.{Event}
 use Rattle.cp_model.specs.Skeleton.{UniqueAt}
 use Rattle.cp_model.specs.Given.{has_atom, has_unique}
 use Rattle.cp_model.proofs.Gathered.{atoms, uniques}

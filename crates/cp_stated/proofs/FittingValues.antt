@@ -5,7 +5,9 @@ use Rattle.cp_base.specs.declared.place.Place.{Place}
 use Rattle.cp_lists.specs.Lists.{item_at, IsIn, here, there}
 use Rattle.cp_lists.proofs.Appended.{none_in_both}
 use Rattle.cp_model.specs.Term.{AtomTerm, Term, atom_term, Substitution}
-use Rattle.cp_model.specs.Strand.{Event, send, recv, Role}
+use Rattle.cp_model.specs.Strand.{Role}
+use Rattle.cp_model.specs.declared.strand.Event.{Event}
+use Rattle.cp_model.specs.declared.strand.Event.TheVariants.{Send as send, Receive as recv}
 use Rattle.cp_model.specs.Skeleton.{SkeletonStrand, instance, listener, term_event_at, UniqueAt, Skeleton, IsOrigin}
 use Rattle.cp_model.specs.Given.{has_atom, has_unique}
 use Rattle.cp_model.specs.Same.{carries}

@@ -8,18 +8,16 @@ use Rattle.cp_lists.proofs.Members.{drop_read}
 use Rattle.cp_lists.proofs.Items.{slice_get_item, map_of_item}
 use Rattle.cp_lists.proofs.Fronts.{next_of}
 use Rattle.cp_base.specs.declared.place.Place.{Place}
-use Rattle.cp_model.specs.Term.{Variable}
-use Rattle.cp_model.specs.Strand.{Declaration}
+use Rattle.cp_model.specs.declared.variable.Variable.{Variable}
+use Rattle.cp_model.specs.declared.variable.Declaration.{Declaration}
 use Rattle.cp_model.specs.Skeleton.{SkeletonStrand}
 use Rattle.cp_model.specs.Same.{has_variable}
-use Rattle.cp_model.specs.Data.{Declared, sorts, StrandData}
+use Rattle.cp_model.specs.Data.{sorts, StrandData}
 use Rattle.cp_model.specs.declared.sort.Sort.{Sort}
 use Rattle.cp_sexpr.specs.View.{view}
 use Rattle.cp_sexpr.specs.declared.form.Form as program
 use Rattle.cp_language.specs.Faults.{place_of}
-use Rattle.cp_strand.specs.View.{sort_view, declaration_view, strand_view}
-use Rattle.cp_strand.specs.declared.protocol.Declaration as declared
-use Rattle.cp_skel.specs.Trees.{variables_view}
+use Rattle.cp_strand.specs.View.{strand_view}
 use Rattle.cp_report.specs.Misfits.{place_before, misfit, misfit_unless}
 use Rattle.cp_report.specs.Skeletons.{declared_in_prefix, named_declarations, strand_number_misfits}
 use Rattle.cp_spelled.specs.FirstMisfit.{first_onto}
@@ -63,56 +61,56 @@ module _ (problem : List StrandData) (strands : List SkeletonStrand) (at : Place
 
 -- ---- variables of a prefix
 
-module _ (prefix : List Variable) (vars : List declared.Declaration) (k : ℕ) where
+module _ (prefix : List Variable) (vars : List Declaration) (k : ℕ) where
   abbrev wanted : ℕ → List Declaration
-  wanted n = declared_in_prefix prefix n (map declaration_view (drop n vars))
+  wanted n = declared_in_prefix prefix n (drop n vars)
 
-  by_test : (d : declared.Declaration) → k < length vars → d ≡ get_or vars k d → (b : Bool) → b ≡ has_variable prefix (record { sort = (declaration_view d).sort; number = k })
-      → wanted k ≡ (if b then declaration_view d ∷ wanted (k + 1) else wanted (k + 1))
+  by_test : (d : Declaration) → k < length vars → d ≡ get_or vars k d → (b : Bool) → b ≡ has_variable prefix (record { sort = d.sort; number = k })
+      → wanted k ≡ (if b then d ∷ wanted (k + 1) else wanted (k + 1))
   by_test d h e b t =
-      ap (λ ds. declared_in_prefix prefix k (map declaration_view ds)) (drop_read vars k d h e)
-      ∙ ap (λ n. if has_variable prefix (record { sort = (declaration_view d).sort; number = k }) then declaration_view d ∷ declared_in_prefix prefix n (map declaration_view (drop (k + 1) vars)) else declared_in_prefix prefix n (map declaration_view (drop (k + 1) vars))) (sym (add-one k))
-      ∙ ap (λ c. if c then declaration_view d ∷ wanted (k + 1) else wanted (k + 1)) (sym t)
+      ap (λ ds. declared_in_prefix prefix k ds) (drop_read vars k d h e)
+      ∙ ap (λ n. if has_variable prefix (record { sort = d.sort; number = k }) then d ∷ declared_in_prefix prefix n (drop (k + 1) vars) else declared_in_prefix prefix n (drop (k + 1) vars)) (sym (add-one k))
+      ∙ ap (λ c. if c then d ∷ wanted (k + 1) else wanted (k + 1)) (sym t)
 
-  pub variable-wanted : (d : declared.Declaration) → k < length vars → d ≡ get_or vars k d → (b : Bool) → b ≡ has_variable prefix (record { sort = (declaration_view d).sort; number = k }) → b ≡ true
-      → (ds es all : List Declaration) → es ≡ ds ++ declaration_view d ∷ [] → ds ++ wanted k ≡ all → es ++ wanted (k + 1) ≡ all
+  pub variable-wanted : (d : Declaration) → k < length vars → d ≡ get_or vars k d → (b : Bool) → b ≡ has_variable prefix (record { sort = d.sort; number = k }) → b ≡ true
+      → (ds es all : List Declaration) → es ≡ ds ++ d ∷ [] → ds ++ wanted k ≡ all → es ++ wanted (k + 1) ≡ all
   variable-wanted d h e b t is ds es all q i =
-      ap (λ xs. xs ++ wanted (k + 1)) q ∙ append_assoc ds (declaration_view d ∷ []) (wanted (k + 1))
-      ∙ sym (ap (λ c. ds ++ (if c then declaration_view d ∷ wanted (k + 1) else wanted (k + 1))) is) ∙ sym (ap (λ xs. ds ++ xs) (by_test d h e b t)) ∙ i
+      ap (λ xs. xs ++ wanted (k + 1)) q ∙ append_assoc ds (d ∷ []) (wanted (k + 1))
+      ∙ sym (ap (λ c. ds ++ (if c then d ∷ wanted (k + 1) else wanted (k + 1))) is) ∙ sym (ap (λ xs. ds ++ xs) (by_test d h e b t)) ∙ i
 
-  pub variable-passed : (d : declared.Declaration) → k < length vars → d ≡ get_or vars k d → (b : Bool) → b ≡ has_variable prefix (record { sort = (declaration_view d).sort; number = k }) → b ≡ false
+  pub variable-passed : (d : Declaration) → k < length vars → d ≡ get_or vars k d → (b : Bool) → b ≡ has_variable prefix (record { sort = d.sort; number = k }) → b ≡ false
       → (ds all : List Declaration) → ds ++ wanted k ≡ all → ds ++ wanted (k + 1) ≡ all
   variable-passed d h e b t is ds all i =
-      sym (ap (λ c. ds ++ (if c then declaration_view d ∷ wanted (k + 1) else wanted (k + 1))) is) ∙ sym (ap (λ xs. ds ++ xs) (by_test d h e b t)) ∙ i
+      sym (ap (λ c. ds ++ (if c then d ∷ wanted (k + 1) else wanted (k + 1))) is) ∙ sym (ap (λ xs. ds ++ xs) (by_test d h e b t)) ∙ i
 
   pub variables-wanted : length vars ≤ k → (ds all : List Declaration) → ds ++ wanted k ≡ all → ds ≡ all
-  variables-wanted h ds all i = sym (append-nil ds) ∙ sym (ap (λ xs. ds ++ declared_in_prefix prefix k (map declaration_view xs)) (drop_all k vars h)) ∙ i
+  variables-wanted h ds all i = sym (append-nil ds) ∙ sym (ap (λ xs. ds ++ declared_in_prefix prefix k xs) (drop_all k vars h)) ∙ i
 
 -- ---- variables under their names
 
-module _ (names : List (List ℕ)) (table : List Declared) (k : ℕ) where
+module _ (names : List (List ℕ)) (table : List Declaration) (k : ℕ) where
   abbrev left : ℕ → List Declaration
-  left n = named_declarations (drop n names) (variables_view (drop n table))
+  left n = named_declarations (drop n names) (drop n table)
 
-  sort_there : (d : Declared) (s : Sort) → item_at table k ≡ Some d → slice_get (sorts table) k ≡ Some s → d.sort ≡ s
+  sort_there : (d : Declaration) (s : Sort) → item_at table k ≡ Some d → slice_get (sorts table) k ≡ Some s → d.sort ≡ s
   sort_there d s e g = let same : Some d.sort ≡ Some s = sym (map_of_item (λ x. x.sort) table k d e) ∙ sym (slice_get_item (sorts table) k) ∙ g in cc
 
   pub name-taken : (x : List ℕ) → k < length names → x ≡ get_or names k x → k < length table → (s : Sort) → slice_get (sorts table) k ≡ Some s
-      → (ds es all : List Declaration) → es ≡ ds ++ record { identifier = x; sort = sort_view s } ∷ [] → ds ++ left k ≡ all → es ++ left (k + 1) ≡ all
+      → (ds es all : List Declaration) → es ≡ ds ++ record { identifier = x; sort = s } ∷ [] → ds ++ left k ≡ all → es ++ left (k + 1) ≡ all
   name-taken x h e g s t ds es all q i =
       let next = next_of table k g in
       let d = next.0 in
-      let sort : sort_view s ≡ sort_view d.sort = ap sort_view (sym (sort_there d s next.1 t)) in
-      let this : Declaration = record { identifier = x; sort = sort_view d.sort } in
+      let sort : s ≡ d.sort = sym (sort_there d s next.1 t) in
+      let this : Declaration = record { identifier = x; sort = d.sort } in
       ap (λ xs. xs ++ left (k + 1)) (q ∙ ap (λ r. ds ++ record { identifier = x; sort = r } ∷ []) sort) ∙ append_assoc ds (this ∷ []) (left (k + 1))
-      ∙ sym (ap (λ xs. ds ++ named_declarations xs (variables_view (drop k table))) (drop_read names k x h e) ∙ ap (λ xs. ds ++ named_declarations (x ∷ drop (k + 1) names) (variables_view xs)) next.2) ∙ i
+      ∙ sym (ap (λ xs. ds ++ named_declarations xs (drop k table)) (drop_read names k x h e) ∙ ap (λ xs. ds ++ named_declarations (x ∷ drop (k + 1) names) xs) next.2) ∙ i
 
   no_variables : (xs : List (List ℕ)) → named_declarations xs [] ≡ []
   no_variables [] = refl
   no_variables (x ∷ xs) = refl
 
   pub names-past : length table ≤ k → (ds all : List Declaration) → ds ++ left k ≡ all → ds ≡ all
-  names-past h ds all i = sym (append-nil ds) ∙ sym (ap (λ xs. ds ++ named_declarations (drop k names) (variables_view xs)) (drop_all k table h) ∙ ap (λ xs. ds ++ xs) (no_variables (drop k names))) ∙ i
+  names-past h ds all i = sym (append-nil ds) ∙ sym (ap (λ xs. ds ++ named_declarations (drop k names) xs) (drop_all k table h) ∙ ap (λ xs. ds ++ xs) (no_variables (drop k names))) ∙ i
 
   pub names-done : length names ≤ k → (ds all : List Declaration) → ds ++ left k ≡ all → ds ≡ all
-  names-done h ds all i = sym (append-nil ds) ∙ sym (ap (λ xs. ds ++ named_declarations xs (variables_view (drop k table))) (drop_all k names h)) ∙ i
+  names-done h ds all i = sym (append-nil ds) ∙ sym (ap (λ xs. ds ++ named_declarations xs (drop k table)) (drop_all k names h)) ∙ i

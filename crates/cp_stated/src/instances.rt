@@ -4,7 +4,6 @@ ghost use Rattle.cp_model.specs.Strand.{variables_of_trace};
 ghost use Rattle.cp_sexpr.specs.View.{view};
 ghost use Rattle.cp_language.specs.Problems.{role_named, is_known};
 ghost use Rattle.cp_roles.specs.Named.{shared_roles_view};
-ghost use Rattle.cp_strand.specs.View.{declaration_view, event_view};
 ghost use Rattle.cp_report.specs.Misfits.{each_misfits, entries_misfits, symbol_misfits};
 ghost use Rattle.cp_report.specs.Heads.{items_with, strand_heads};
 ghost use Rattle.cp_report.specs.Spelled.{term_misfits};
@@ -66,8 +65,8 @@ fn declared_in_prefix(
     prefix: &[Event],
     variables: &[Declaration],
 ) -> Result<Variables, AllocError>
-    ensures { IfOk result (λ v. map declaration_view v
-        ≡ declared_in_prefix (variables_of_trace (map event_view prefix.now)) 0 (map declaration_view variables.now)) }
+    ensures { IfOk result (λ v. v
+        ≡ declared_in_prefix (variables_of_trace prefix.now) 0 variables.now) }
 {
     let mut declared = Variables::new(alloc);
     for (number, declaration) in variables.iter().enumerate() {

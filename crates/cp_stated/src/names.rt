@@ -1,7 +1,5 @@
 // The variables of a problem under their names in a report.
-ghost use Rattle.std.specs.Prelude.{◌≡◌, nat_lt, length, map, IfOk};
-ghost use Rattle.cp_strand.specs.View.{declaration_view};
-ghost use Rattle.cp_skel.specs.Trees.{variables_view};
+ghost use Rattle.std.specs.Prelude.{◌≡◌, nat_lt, length, IfOk};
 ghost use Rattle.cp_load.specs.UncheckedProblems.{unchecked_view};
 ghost use Rattle.cp_report.specs.Skeletons.{named_declarations, problem_variables};
 
@@ -26,7 +24,7 @@ fn named_declarations(
     names: &[Text],
     table: &VarTable,
 ) -> Result<Variables, AllocError>
-    ensures { IfOk result (λ v. map declaration_view v ≡ named_declarations names.now (variables_view table.now)) }
+    ensures { IfOk result (λ v. v ≡ named_declarations names.now table.now) }
 {
     let mut variables = Variables::new(alloc);
     for (number, name) in names.iter().enumerate() {
@@ -43,7 +41,7 @@ fn named_declarations(
 
 /// The variables of a problem under their names in a report.
 pub fn problem_variables(alloc: Global, problem: &UncheckedProblem) -> Result<Variables, AllocError>
-    ensures { IfOk result (λ v. map declaration_view v ≡ problem_variables (unchecked_view problem.now)) }
+    ensures { IfOk result (λ v. v ≡ problem_variables (unchecked_view problem.now)) }
 {
     let table = &problem.skeleton.variables;
     let names = problem_names(alloc, problem.declared, table)?;

@@ -1,7 +1,7 @@
 // The map from the problem that a label form states.
 ghost use Rattle.std.specs.Prelude.{◌≡◌, ◌∷◌, [], nat_lt, codes, length, map, IfOk, OnOk};
 ghost use Rattle.cp_sexpr.specs.View.{view};
-ghost use Rattle.cp_strand.specs.View.{declaration_view, strand_view};
+ghost use Rattle.cp_strand.specs.View.{strand_view};
 ghost use Rattle.cp_report.specs.Misfits.{list_misfits};
 ghost use Rattle.cp_report.specs.Heads.{item_with, optional_misfits};
 ghost use Rattle.cp_report.specs.Skeletons.{strand_number_misfits, strands_mapped};
@@ -90,7 +90,7 @@ fn map_entries_misfits(
     items: &[Form],
     first: &mut FirstMisfit,
 ) -> Result<(), AllocError>
-    ensures { OnOk result (first.new ≡ first_onto first.old (map_misfits_to (map strand_view ends.entry.problem.now) (map declaration_view ends.entry.names.now)
+    ensures { OnOk result (first.new ≡ first_onto first.old (map_misfits_to (map strand_view ends.entry.problem.now) ends.entry.names.now
         (scope_view ends.entry.scope) (map strand_view ends.entry.strands.now) place (map view items.now))) }
 {
     let Some((numbers, maplets)) = items.split_first() else {
@@ -108,7 +108,7 @@ pub(crate) fn map_misfits(
     items: &[Form],
     first: &mut FirstMisfit,
 ) -> Result<(), AllocError>
-    ensures { OnOk result (first.new ≡ first_onto first.old (optional_misfits (map_misfits_to (map strand_view ends.entry.problem.now) (map declaration_view ends.entry.names.now)
+    ensures { OnOk result (first.new ≡ first_onto first.old (optional_misfits (map_misfits_to (map strand_view ends.entry.problem.now) ends.entry.names.now
         (scope_view ends.entry.scope) (map strand_view ends.entry.strands.now)) (item_with (codes "map" ∷ []) (map view items.now)))) }
 {
     match item_with(items, b"map") {
@@ -139,7 +139,7 @@ pub(crate) fn values_of_map(
     scope: Scope<'_>,
     entries: &[Form],
 ) -> Result<Vec<Term>, AllocError>
-    ensures { IfOk result (λ v. v.items ≡ values_by (map declaration_view names.now) (scope_view scope.entry) (map view entries.now)) }
+    ensures { IfOk result (λ v. v.items ≡ values_by names.now (scope_view scope.entry) (map view entries.now)) }
 {
     match entries.split_first() {
         Some((_, maplets)) => values_mapped(alloc, scope, maplets, names.as_slice()),

@@ -2,7 +2,7 @@
 ghost use Rattle.std.specs.Prelude.{◌≡◌, map, IfOk, OnOk};
 ghost use Rattle.cp_model.specs.Given.{with_given};
 ghost use Rattle.cp_sexpr.specs.View.{view};
-ghost use Rattle.cp_strand.specs.View.{declaration_view, strand_view};
+ghost use Rattle.cp_strand.specs.View.{strand_view};
 ghost use Rattle.cp_load.specs.UncheckedProblems.{unchecked_view};
 ghost use Rattle.cp_report.specs.Skeletons.{scope_of, problem_variables, strands_of_label, around_strands_misfits};
 ghost use Rattle.cp_spelled.specs.FirstMisfit.{first_onto};
@@ -42,7 +42,7 @@ pub fn around_strands_misfits(
     items: &[Form],
     first: &mut FirstMisfit,
 ) -> Result<(), AllocError>
-    requires names { map declaration_view names.now ≡ problem_variables (unchecked_view problem.now) }
+    requires names { names.now ≡ problem_variables (unchecked_view problem.now) }
     requires scope { scope_view scope ≡ scope_of (map view items.now) }
     requires strands { map strand_view strands.now ≡ strands_of_label (unchecked_view problem.now) (map view items.now) }
     ensures { OnOk result (first.new ≡ first_onto first.old (around_strands_misfits (unchecked_view problem.now) place (map view items.now))) }

@@ -10,7 +10,7 @@ ghost use Rattle.cp_sexpr.specs.View.{view};
 ghost use Rattle.cp_language.specs.Terms.{as_atom};
 ghost use Rattle.cp_language.specs.Roles.{list_items};
 ghost use Rattle.cp_language.specs.Problems.{second_form};
-ghost use Rattle.cp_strand.specs.View.{event_view, instance_view, strand_view};
+ghost use Rattle.cp_strand.specs.View.{instance_view, strand_view};
 ghost use Rattle.cp_report.specs.Misfits.{lacking, entries_misfits, list_misfits};
 ghost use Rattle.cp_report.specs.Heads.{optional_misfits, entries_or_none};
 ghost use Rattle.cp_report.specs.Spelled.{atom_misfits};
@@ -51,14 +51,14 @@ fn has_uniques(uniques: &[UniqueAt], wanted: &[UniqueAt]) -> bool
 
 /// The event at an index, from 0.
 fn event_at(events: &[Event], index: usize) -> Option<&Event>
-    ensures { option_map (λ e. event_view e.now) result ≡ item_at (map event_view events.now) index }
+    ensures { option_map (λ e. e.now) result ≡ item_at events.now index }
 {
     events.get(index)
 }
 
 /// Whether a role's event, under the terms of an instance, is a transmission that carries a value.
 fn is_sent_by(values: &[Term], event: &Event, value: &Atom) -> bool
-    ensures { result ≡ carries_value value.now (Some (event_map (apply_to (substitution_by values.now)) (event_view event.now))) }
+    ensures { result ≡ carries_value value.now (Some (event_map (apply_to (substitution_by values.now)) event.now)) }
 {
     match event {
         Event::Send(message) => carries_under(values, message, value.as_term()),

@@ -4,4 +4,3 @@ pub mod Occurrences
 pub mod FirstOrigins
 pub mod ValuedItems
 pub mod SameLists
-pub mod SameParts

@@ -1,13 +1,13 @@
 -- Variables that occur in terms and events.
-use Rattle.std.proofs.Common.{◌≡◌, ℕ, ◌+◌, ◌<◌, List, [], ◌∷◌, ◌++◌, ◌||◌, ◌&&◌, ◌==◌, length, get_or, drop, map, Bool, true, false, refl, sym, ap, ◌∙◌}
+use Rattle.std.proofs.Common.{◌≡◌, ℕ, ◌+◌, ◌<◌, List, [], ◌∷◌, ◌++◌, ◌||◌, ◌&&◌, ◌==◌, length, get_or, drop, Bool, true, false, refl, sym, ap, ◌∙◌}
 use Rattle.std.proofs.Math.Bool.{or_assoc}
 use Rattle.cp_lists.proofs.Members.{drop_read}
-use Rattle.cp_model.specs.Term.{Variable, KeyTerm, Term, pair_term, enc_term, variables_of, variables_of_key}
+use Rattle.cp_model.specs.Term.{KeyTerm, Term, pair_term, enc_term, variables_of, variables_of_key}
+use Rattle.cp_model.specs.declared.strand.Event.{Event}
+use Rattle.cp_model.specs.declared.variable.Variable.{Variable}
 use Rattle.cp_model.specs.Strand.{payload, variables_of_trace}
 use Rattle.cp_model.specs.Same.{same_sort, has_variable}
 use Rattle.cp_term.specs.Keys.{key_as_term}
-use Rattle.cp_strand.specs.View.{event_view}
-use Rattle.cp_strand.specs.declared.protocol.Event.{Event}
 
 has_variable-append : (xs ys : List Variable) (z : Variable) → has_variable (xs ++ ys) z ≡ (has_variable xs z || has_variable ys z)
 has_variable-append [] ys z = refl
@@ -42,13 +42,13 @@ module _ (x : Variable) (whole term : Term) (h : has_variable (variables_of term
   pub not_in_key : (body key : Term) → ((k : KeyTerm) × (key ≡ key_as_term k) × (term ≡ enc_term body k)) → false ≡ has_variable (variables_of key) x → has_variable (variables_of body) x ≡ has_variable (variables_of whole) x
   not_in_key body key w f = or_false (has_variable (variables_of body) x) (has_variable (variables_of key) x) f ∙ encrypted body key w
 
-module _ (x : Variable) (es : List Event) (k : ℕ) (e : Event) (lt : k < length es) (is : e ≡ get_or es k e) (all : Bool)
-    (h : has_variable (variables_of_trace (map event_view (drop k es))) x ≡ all) where
-  next : (has_variable (variables_of (payload (event_view e))) x || has_variable (variables_of_trace (map event_view (drop (k + 1) es))) x) ≡ all
-  next = sym (ap (λ us. has_variable (variables_of_trace (map event_view us)) x) (drop_read es k e lt is) ∙ has_variable-append (variables_of (payload (event_view e))) (variables_of_trace (map event_view (drop (k + 1) es))) x) ∙ h
+module _ (x : Variable) (es : List (Event Term)) (k : ℕ) (e : Event Term) (lt : k < length es) (is : e ≡ get_or es k e) (all : Bool)
+    (h : has_variable (variables_of_trace (drop k es)) x ≡ all) where
+  next : (has_variable (variables_of (payload e)) x || has_variable (variables_of_trace (drop (k + 1) es)) x) ≡ all
+  next = sym (ap (λ us. has_variable (variables_of_trace us) x) (drop_read es k e lt is) ∙ has_variable-append (variables_of (payload e)) (variables_of_trace (drop (k + 1) es)) x) ∙ h
 
-  pub in_event : true ≡ has_variable (variables_of (payload (event_view e))) x → true ≡ all
-  in_event f = ap (λ b. b || has_variable (variables_of_trace (map event_view (drop (k + 1) es))) x) f ∙ next
+  pub in_event : true ≡ has_variable (variables_of (payload e)) x → true ≡ all
+  in_event f = ap (λ b. b || has_variable (variables_of_trace (drop (k + 1) es)) x) f ∙ next
 
-  pub not_in_event : false ≡ has_variable (variables_of (payload (event_view e))) x → has_variable (variables_of_trace (map event_view (drop (k + 1) es))) x ≡ all
-  not_in_event f = ap (λ b. b || has_variable (variables_of_trace (map event_view (drop (k + 1) es))) x) f ∙ next
+  pub not_in_event : false ≡ has_variable (variables_of (payload e)) x → has_variable (variables_of_trace (drop (k + 1) es)) x ≡ all
+  not_in_event f = ap (λ b. b || has_variable (variables_of_trace (drop (k + 1) es)) x) f ∙ next

@@ -4,33 +4,35 @@ use Rattle.std.proofs.Math.Seq.{drop-cons}
 use Rattle.std.proofs.lemmas.List.{drop_all, take-map}
 use Rattle.cp_lists.specs.Lists.{item_at}
 use Rattle.cp_model.specs.Term.{Term, IsCarriedByTerm, Substitution, apply_to}
-use Rattle.cp_model.specs.Strand.{Event, send, recv, payload, event_map, OriginatesInTerms}
+use Rattle.cp_model.specs.Strand.{payload, event_map, OriginatesInTerms}
+use Rattle.cp_model.specs.declared.strand.Event.{Event}
+use Rattle.cp_model.specs.declared.strand.Event.TheVariants.{Send as send, Receive as recv}
 use Rattle.cp_model.proofs.LawEvents.{payload_map}
 use Rattle.cp_lists.proofs.Items.{item_of_take, take_of_item, map_of_item}
 use Rattle.cp_model.proofs.CarriedParts.{not_both}
 use Rattle.cp_strand.specs.Origins.{IsCarriedByOne, OriginatesUnder}
 
-module _ {A : Type 0} (view : A → Event Term) (s : Substitution) (t : Term) where
-  first_or_rest : (x : A) (xs : List A) → (IsCarriedByTerm t (apply_to s (payload (view x))) → ⊥) →
-      IsCarriedByOne s (map view (x ∷ xs)) t → IsCarriedByOne s (map view xs) t
+module _ (s : Substitution) (t : Term) where
+  first_or_rest : (x : Event Term) (xs : List (Event Term)) → (IsCarriedByTerm t (apply_to s (payload x)) → ⊥) →
+      IsCarriedByOne s (x ∷ xs) t → IsCarriedByOne s xs t
   first_or_rest x xs not_first (inl h) = absurd (not_first h)
   first_or_rest x xs not_first (inr h) = h
 
   -- Where the next event does not carry the term, one behind it does.
-  pub carried_behind : (xs : List A) (i : ℕ) (x : A) → i < length xs → x ≡ get_or xs i x → (IsCarriedByTerm t (apply_to s (payload (view x))) → ⊥) →
-      IsCarriedByOne s (map view (drop i xs)) t → IsCarriedByOne s (map view (drop (i + 1) xs)) t
+  pub carried_behind : (xs : List (Event Term)) (i : ℕ) (x : Event Term) → i < length xs → x ≡ get_or xs i x → (IsCarriedByTerm t (apply_to s (payload x)) → ⊥) →
+      IsCarriedByOne s (drop i xs) t → IsCarriedByOne s (drop (i + 1) xs) t
   carried_behind xs i x h e not_first there_is =
       rw add-one
       (first_or_rest x (drop (suc i) xs) not_first
-      (subst (λ (y : A). IsCarriedByOne s (map view (y ∷ drop (suc i) xs)) t) (sym e) (rw (drop-cons xs i x h) at there_is)))
+      (subst (λ (y : Event Term). IsCarriedByOne s (y ∷ drop (suc i) xs) t) (sym e) (rw (drop-cons xs i x h) at there_is)))
 
-  pub carried_by_item : (xs : List A) (i : ℕ) (x : A) → i < length xs → x ≡ get_or xs i x → IsCarriedByTerm t (apply_to s (payload (view x))) →
-      IsCarriedByOne s (map view xs) t
+  pub carried_by_item : (xs : List (Event Term)) (i : ℕ) (x : Event Term) → i < length xs → x ≡ get_or xs i x → IsCarriedByTerm t (apply_to s (payload x)) →
+      IsCarriedByOne s xs t
   carried_by_item [] i x h e carried = absurd (omega arith)
-  carried_by_item (y ∷ xs) zero x h e carried = inl (subst (λ (z : A). IsCarriedByTerm t (apply_to s (payload (view z)))) e carried)
+  carried_by_item (y ∷ xs) zero x h e carried = inl (subst (λ (z : Event Term). IsCarriedByTerm t (apply_to s (payload z))) e carried)
   carried_by_item (y ∷ xs) (suc i) x h e carried = inr (carried_by_item xs i x (omega arith) e carried)
 
-  pub carried_by_none : (xs : List A) (i : ℕ) → length xs ≤ i → IsCarriedByOne s (map view (drop i xs)) t → ⊥
+  pub carried_by_none : (xs : List (Event Term)) (i : ℕ) → length xs ≤ i → IsCarriedByOne s (drop i xs) t → ⊥
   carried_by_none xs i h there_is = rw (drop_all i xs h) at there_is
 
 -- No earlier event carries the term, or one does.

@@ -1,8 +1,8 @@
 -- The strand that the body of a handle stands for, and the events that it holds of an instance.
-use Rattle.std.specs.Prelude.{◌≡◌, map, IfSome}
+use Rattle.std.specs.Prelude.{◌≡◌, IfSome}
 use Rattle.cp_model.specs.Skeleton.{skeleton_trace}
 use Rattle.cp_model.specs.Data.{StrandData, listener_data}
-use Rattle.cp_strand.specs.View.{event_view, instance_view, instance_as_data}
+use Rattle.cp_strand.specs.View.{instance_view, instance_as_data}
 use Rattle.cp_strand.specs.declared.strand.Body.{Body}
 use Rattle.cp_strand.specs.declared.strand.Body.TheVariants.{Instance, Listener}
 
@@ -12,5 +12,5 @@ strand_of_body (Listener t) = listener_data t
 
 -- The events that are held of an instance are its own.
 abbrev pub HasItsEvents : Body → Type 0
-HasItsEvents (Instance i held) = IfSome held (λ events. map event_view events.items ≡ skeleton_trace (instance_view i))
+HasItsEvents (Instance i held) = IfSome held (λ events. events.items ≡ skeleton_trace (instance_view i))
 HasItsEvents (Listener t) = Unit {0}

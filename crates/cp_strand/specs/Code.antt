@@ -3,11 +3,14 @@ use Rattle.std.specs.Prelude.{◌≡◌, ◌⊎◌, ℕ, List, refl}
 use Rattle.std.specs.Coded.{Coded, code_by, coded_ℕ, coded_list, coded×, coded⊎}
 use Rattle.std.proofs.Common.{inl, inr}
 use Rattle.cp_model.specs.Term.{AtomTerm, Term}
-use Rattle.cp_model.specs.Strand.{Declaration, Event, send, recv, Role, Protocol}
+use Rattle.cp_model.specs.Strand.{Role, Protocol}
+use Rattle.cp_model.specs.declared.variable.Declaration.{Declaration}
+use Rattle.cp_model.specs.declared.strand.Event.{Event}
+use Rattle.cp_model.specs.declared.strand.Event.TheVariants.{Send as send, Receive as recv}
 use Rattle.cp_model.specs.Data.{InstanceData, StrandData, instance_data, listener_data}
 use Rattle.cp_term.specs.Code.{coded_atom_term, coded_term, coded_sort}
 
-abbrev coded_declaration : Coded Declaration
+abbrev pub coded_declaration : Coded Declaration
 coded_declaration = code_by (List ℕ × _) (coded× (coded_list coded_ℕ) coded_sort) (λ d. (d.identifier, d.sort)) (λ p. record { identifier = p.0; sort = p.1 }) (λ d. refl)
 
 abbrev event_parts : Event Term → Term ⊎ Term

@@ -1,7 +1,8 @@
 -- What a role's events carry, and what originates at them, where their terms become others.
 use Rattle.std.specs.Prelude.{◌⊎◌, ℕ, List, [], ◌∷◌, map}
 use Rattle.cp_model.specs.Term.{Term, IsCarriedByTerm, Substitution, apply_to}
-use Rattle.cp_model.specs.Strand.{Event, payload, event_map, OriginatesInTerms}
+use Rattle.cp_model.specs.Strand.{payload, event_map, OriginatesInTerms}
+use Rattle.cp_model.specs.declared.strand.Event.{Event}
 
 -- The message of one of the events carries the term under the substitution.
 abbrev pub IsCarriedByOne : Substitution → List (Event Term) → Term → Type 0

@@ -1,13 +1,14 @@
 -- The terms of an instance as they are made: one list for all declared variables.
 use Rattle.std.specs.Prelude.{ℕ, suc, List, [], ◌∷◌, drop, Bool, if◌then◌else◌, Option, Some, None}
 use Rattle.cp_lists.specs.Lists.{item_at}
-use Rattle.cp_model.specs.Term.{Variable, atom_of_variable, Term, atom_term}
-use Rattle.cp_model.specs.Strand.{Declaration}
+use Rattle.cp_model.specs.Term.{variable_term, Term}
+use Rattle.cp_model.specs.declared.variable.Variable.{Variable}
+use Rattle.cp_model.specs.declared.variable.Declaration.{Declaration}
 
 -- A term, or else the variable itself.
 abbrev pub term_or : Variable → Option Term → Term
 term_or x (Some t) = t
-term_or x None = atom_term (atom_of_variable x)
+term_or x None = variable_term x
 
 -- The terms of the declared variables, the first of which has number n: a wanted one takes the next of the values, and
 -- any other keeps its old term.

@@ -1,11 +1,11 @@
 // Terms and events of instances.
-ghost use Rattle.std.specs.Prelude.{◌≡◌, map, option_map, IfOk, IfSome};
+ghost use Rattle.std.specs.Prelude.{◌≡◌, option_map, IfOk, IfSome};
 ghost use Rattle.cp_lists.specs.Lists.{item_at};
 ghost use Rattle.cp_model.specs.Term.{apply_to, apply_to_atom};
 ghost use Rattle.cp_model.specs.Strand.{event_map};
 ghost use Rattle.cp_model.specs.Skeleton.{skeleton_trace, listener};
 ghost use Rattle.cp_model.specs.Homomorphism.{substitution_by};
-ghost use Rattle.cp_strand.specs.View.{event_view, instance_view, strand_view};
+ghost use Rattle.cp_strand.specs.View.{instance_view, strand_view};
 
 use crate::atom::Atom;
 use crate::prefix_variables::prefix_of;
@@ -35,7 +35,7 @@ pub fn applied_atom(alloc: Global, values: &[Term], atom: &Atom) -> Result<Atom,
 
 /// A role's event under the terms of an instance.
 fn applied_event(alloc: Global, values: &[Term], event: &Event) -> Result<Event, AllocError>
-    ensures { IfOk result (λ e. event_view e ≡ event_map (apply_to (substitution_by values.now)) (event_view event.now)) }
+    ensures { IfOk result (λ e. e ≡ event_map (apply_to (substitution_by values.now)) event.now) }
 {
     match event {
         Event::Send(message) => Ok(Event::Send(applied(alloc, values, message)?)),
@@ -45,7 +45,7 @@ fn applied_event(alloc: Global, values: &[Term], event: &Event) -> Result<Event,
 
 /// The event at an index, from 0.
 pub(crate) fn event_at(events: &[Event], place: usize) -> Option<&Event>
-    ensures { option_map (λ e. event_view e.now) result ≡ item_at (map event_view events.now) place }
+    ensures { option_map (λ e. e.now) result ≡ item_at events.now place }
 {
     events.get(place)
 }
@@ -56,7 +56,7 @@ fn instance_event(
     instance: &Instance,
     index: usize,
 ) -> Result<Option<Event>, AllocError>
-    ensures { IfOk result (λ e. option_map event_view e ≡ item_at (skeleton_trace (instance_view instance.now)) index) }
+    ensures { IfOk result (λ e. e ≡ item_at (skeleton_trace (instance_view instance.now)) index) }
 {
     if index >= instance.height() {
         return Ok(None);
@@ -69,7 +69,7 @@ fn instance_event(
 
 /// The events of an instance.
 fn instance_events(alloc: Global, instance: &Instance) -> Result<Vec<Event>, AllocError>
-    ensures { IfOk result (λ es. map event_view es.items ≡ skeleton_trace (instance_view instance.now)) }
+    ensures { IfOk result (λ es. es.items ≡ skeleton_trace (instance_view instance.now)) }
 {
     let events = prefix_of(instance.role(), instance.height());
     let mut applied = Vec::with_capacity(alloc, events.len())?;
@@ -85,7 +85,7 @@ pub(crate) fn held_events(
     alloc: Global,
     instance: &Instance,
 ) -> Result<Option<Vec<Event>>, AllocError>
-    ensures { IfOk result (λ held. IfSome held (λ es. map event_view es.items ≡ skeleton_trace (instance_view instance.now))) }
+    ensures { IfOk result (λ held. IfSome held (λ es. es.items ≡ skeleton_trace (instance_view instance.now))) }
 {
     if !instance.role().is_small() {
         return Ok(None);
@@ -95,7 +95,7 @@ pub(crate) fn held_events(
 
 /// A copy of the event.
 fn copy_of(event: &Event) -> Result<Event, AllocError>
-    ensures { IfOk result (λ e. event_view e ≡ event_view event.now) }
+    ensures { IfOk result (λ e. e ≡ event.now) }
 {
     match event {
         Event::Send(message) => Ok(Event::Send(message.copy()?)),
@@ -105,7 +105,7 @@ fn copy_of(event: &Event) -> Result<Event, AllocError>
 
 /// A copy of the event at an index, from 0.
 fn copy_at(events: &[Event], index: usize) -> Result<Option<Event>, AllocError>
-    ensures { IfOk result (λ e. option_map event_view e ≡ item_at (map event_view events.now) index) }
+    ensures { IfOk result (λ e. e ≡ item_at events.now index) }
 {
     match event_at(events, index) {
         Some(event) => Ok(Some(copy_of(event)?)),
@@ -115,7 +115,7 @@ fn copy_at(events: &[Event], index: usize) -> Result<Option<Event>, AllocError>
 
 /// The event at an index of a listener, from 0.
 fn listener_event(message: &Term, index: usize) -> Result<Option<Event>, AllocError>
-    ensures { IfOk result (λ e. option_map event_view e ≡ item_at (skeleton_trace (listener message.now)) index) }
+    ensures { IfOk result (λ e. e ≡ item_at (skeleton_trace (listener message.now)) index) }
 {
     match index {
         0 => Ok(Some(Event::Receive(message.copy()?))),
@@ -127,7 +127,7 @@ fn listener_event(message: &Term, index: usize) -> Result<Option<Event>, AllocEr
 impl Strand {
     /// The events of the strand, if it keeps them.
     pub fn held(&self) -> Option<&[Event]>
-        ensures { IfSome result (λ es. map event_view es.now ≡ skeleton_trace (strand_view self.now)) }
+        ensures { IfSome result (λ es. es.now ≡ skeleton_trace (strand_view self.now)) }
     {
         match self.body() {
             Body::Instance(_, Some(events)) => Some(events),
@@ -137,7 +137,7 @@ impl Strand {
 
     /// The event at an index of the strand, from 0.
     pub fn event(&self, alloc: Global, index: usize) -> Result<Option<Event>, AllocError>
-        ensures { IfOk result (λ e. option_map event_view e ≡ item_at (skeleton_trace (strand_view self.now)) index) }
+        ensures { IfOk result (λ e. e ≡ item_at (skeleton_trace (strand_view self.now)) index) }
     {
         match self.body() {
             Body::Instance(_, Some(events)) => copy_at(events, index),

@@ -4,7 +4,6 @@ ghost use Rattle.std.specs.Option.{option_map};
 ghost use Rattle.cp_model.specs.Strand.{variables_of_prefix};
 ghost use Rattle.cp_model.specs.PrefixVariables.{is_added};
 ghost use Rattle.cp_strand.specs.Valued.{term_or, valued};
-ghost use Rattle.cp_strand.specs.View.{sort_view};
 
 use crate::prefix_variables::{is_added, prefix_of};
 use crate::protocol::Role;
@@ -21,7 +20,7 @@ fn term_or_variable(
     id: VarId,
     sort: Sort,
 ) -> Result<Term, AllocError>
-    ensures { IfOk result (λ t. t ≡ term_or (record { sort = sort_view sort; number = id }) (option_map (λ u. u.now) term.entry)) }
+    ensures { IfOk result (λ t. t ≡ term_or (record { sort = sort; number = id }) (option_map (λ u. u.now) term.entry)) }
 {
     match term {
         Some(term) => term.copy(),

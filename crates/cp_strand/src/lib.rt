@@ -19,10 +19,11 @@ mod values;
 
 pub use atom::{Atom, has_atom};
 pub use copies::{copy_atoms, copy_terms};
+pub use cp_model::Declaration;
 pub use events::{applied, applied_atom};
 pub use instance_terms::instance_of;
 pub use prefix_variables::{all_occur, occurs, prefix_of};
-pub use protocol::{Declaration, Event, Protocol, Role};
+pub use protocol::{Event, Protocol, Role};
 pub use same::{Same, has};
 pub use same_role::is_same_role;
 pub use strand::{Instance, Strand, StrandShape};

@@ -1,10 +1,9 @@
 // Variables that occur in terms and in the prefixes of roles.
-ghost use Rattle.std.specs.Prelude.{◌≡◌, ◌&&◌, ◌==◌, map};
+ghost use Rattle.std.specs.Prelude.{◌≡◌, ◌&&◌, ◌==◌};
 ghost use Rattle.cp_model.specs.Term.{variables_of, variables_of_atom};
 ghost use Rattle.cp_model.specs.Strand.{variables_of_trace, prefix_of};
 ghost use Rattle.cp_model.specs.Same.{same_sort, has_variable, has_variables};
 ghost use Rattle.cp_model.specs.PrefixVariables.{is_added};
-ghost use Rattle.cp_strand.specs.View.{sort_view, event_view};
 
 use crate::atom::Atom;
 use crate::protocol::{Event, Role};
@@ -12,7 +11,7 @@ use cp_term::{Shape, Sort, Term, VarId};
 
 /// The first `height` events of a role.
 pub fn prefix_of(role: &Role, height: usize) -> &[Event]
-    ensures { map event_view result.now ≡ prefix_of role.now height }
+    ensures { result.now ≡ prefix_of role.now height }
 {
     let events = role.trace();
     if events.len() < height {
@@ -24,21 +23,21 @@ pub fn prefix_of(role: &Role, height: usize) -> &[Event]
 
 /// Whether the sorts are the same.
 fn is_same_sort(first: Sort, second: Sort) -> bool
-    ensures { result ≡ same_sort (sort_view first) (sort_view second) }
+    ensures { result ≡ same_sort first second }
 {
     first == second
 }
 
 /// Whether one variable is the other.
 fn is_variable(id: VarId, sort: Sort, other: VarId, other_sort: Sort) -> bool
-    ensures { result ≡ (same_sort (sort_view sort) (sort_view other_sort) && (id == other)) }
+    ensures { result ≡ (same_sort sort other_sort && (id == other)) }
 {
     is_same_sort(sort, other_sort) && id == other
 }
 
 /// Whether the variable occurs in the term.
 fn occurs_in(term: &Term, id: VarId, sort: Sort) -> bool
-    ensures { result ≡ has_variable (variables_of term.now) (record { sort = sort_view sort; number = id }) }
+    ensures { result ≡ has_variable (variables_of term.now) (record { sort = sort; number = id }) }
 {
     let mut rest = term;
     'rest: loop {
@@ -67,7 +66,7 @@ fn occurs_in(term: &Term, id: VarId, sort: Sort) -> bool
 
 /// Whether the variable of this sort occurs in the events.
 pub fn occurs(events: &[Event], id: VarId, sort: Sort) -> bool
-    ensures { result ≡ has_variable (variables_of_trace (map event_view events.now)) (record { sort = sort_view sort; number = id }) }
+    ensures { result ≡ has_variable (variables_of_trace events.now) (record { sort = sort; number = id }) }
 {
     for event in events {
         if occurs_in(event.payload(), id, sort) {
@@ -79,15 +78,15 @@ pub fn occurs(events: &[Event], id: VarId, sort: Sort) -> bool
 
 /// Whether the variable of this sort occurs in the events and not in the earlier ones.
 pub(crate) fn is_added(earlier: &[Event], events: &[Event], id: VarId, sort: Sort) -> bool
-    ensures { result ≡ is_added (variables_of_trace (map event_view earlier.now)) (variables_of_trace (map event_view events.now))
-        (record { sort = sort_view sort; number = id }) }
+    ensures { result ≡ is_added (variables_of_trace earlier.now) (variables_of_trace events.now)
+        (record { sort = sort; number = id }) }
 {
     occurs(events, id, sort) && !occurs(earlier, id, sort)
 }
 
 /// Whether all variables of an atom occur in the events.
 pub fn all_occur(events: &[Event], atom: &Atom) -> bool
-    ensures { result ≡ has_variables (variables_of_trace (map event_view events.now)) (variables_of_atom atom.now) }
+    ensures { result ≡ has_variables (variables_of_trace events.now) (variables_of_atom atom.now) }
 {
     match atom.as_term().shape() {
         Shape::Variable(id, sort) => occurs(events, id, sort),

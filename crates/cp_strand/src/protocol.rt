@@ -1,40 +1,16 @@
 // Declarations, events, roles and protocols.
 ghost use Rattle.std.specs.Prelude.{◌≡◌, ◌≤◌, map};
-ghost use Rattle.cp_model.specs.Strand.{payload};
 ghost use Rattle.cp_strand.specs.Declares.{DeclaresItsVariables, HasDeclaringRoles};
-ghost use Rattle.cp_strand.specs.View.{declaration_view, event_view};
 
 use crate::atom::Atom;
 use cp_base::Text;
-use cp_term::{Shape, Sort, Term};
+use cp_model::Declaration;
+use cp_term::{Shape, Term};
 use std::marker::Model;
 use std::rc::Rc;
 
-/// A declared variable, of an atom sort. Its number is its place in the list of declarations, from 0.
-#[derive(Drop)]
-pub struct Declaration {
-    pub identifier: Text,
-    pub sort: Sort,
-}
-
 /// A transmission or a reception of a message.
-#[derive(Drop)]
-pub enum Event {
-    Send(Term),
-    Receive(Term),
-}
-
-impl Event {
-    /// The message that is sent or received.
-    pub fn payload(&self) -> &Term
-        ensures { result.now ≡ payload (event_view self.now) }
-    {
-        match self {
-            Event::Send(message) => message,
-            Event::Receive(message) => message,
-        }
-    }
-}
+pub type Event = cp_model::Event<Term>;
 
 /// A role: its name, its variables, its events and its assumptions. It declares the variables of its events. It also
 /// keeps whether it is small, which contracts do not see.
@@ -128,16 +104,16 @@ impl Role {
     ) -> Role
         requires { DeclaresItsVariables (record {
           name = name;
-          variables = map declaration_view variables.items;
-          trace = map event_view trace.items;
+          variables = variables.items;
+          trace = trace.items;
           non_originating = non_originating.items;
           penetrator_non_originating = penetrator_non_originating.items;
           uniquely_originating = uniquely_originating.items;
         }) }
         ensures { result ≡ record {
           name = name;
-          variables = map declaration_view variables.items;
-          trace = map event_view trace.items;
+          variables = variables.items;
+          trace = trace.items;
           non_originating = non_originating.items;
           penetrator_non_originating = penetrator_non_originating.items;
           uniquely_originating = uniquely_originating.items;
@@ -176,14 +152,14 @@ impl Role {
 
     /// Its variables.
     pub fn variables(&self) -> &[Declaration]
-        ensures { map declaration_view result.now ≡ self.now.variables }
+        ensures { result.now ≡ self.now.variables }
     {
         &self.variables
     }
 
     /// Its events.
     pub fn trace(&self) -> &[Event]
-        ensures { map event_view result.now ≡ self.now.trace }
+        ensures { result.now ≡ self.now.trace }
     {
         &self.trace
     }

@@ -1,9 +1,9 @@
 // Equality of roles.
-ghost use Rattle.std.specs.Prelude.{◌≡◌, ◌↔◌, map, IsTrue};
-ghost use Rattle.cp_strand.specs.View.{declaration_view, event_view};
+ghost use Rattle.std.specs.Prelude.{◌≡◌, ◌↔◌, IsTrue};
 
-use crate::protocol::{Declaration, Event, Role};
+use crate::protocol::{Event, Role};
 use crate::same::{Same, are_same};
+use cp_model::Declaration;
 
 impl Same for Declaration {
     fn is_same(&self, other: &Declaration) -> bool {
@@ -23,14 +23,14 @@ impl Same for Event {
 
 /// Whether the declarations are the same.
 fn are_same_declarations(a: &[Declaration], b: &[Declaration]) -> bool
-    ensures { IsTrue result ↔ (map declaration_view a.now ≡ map declaration_view b.now) }
+    ensures { IsTrue result ↔ (a.now ≡ b.now) }
 {
     are_same(a, b)
 }
 
 /// Whether the events are the same.
 fn are_same_events(a: &[Event], b: &[Event]) -> bool
-    ensures { IsTrue result ↔ (map event_view a.now ≡ map event_view b.now) }
+    ensures { IsTrue result ↔ (a.now ≡ b.now) }
 {
     are_same(a, b)
 }

@@ -1,9 +1,9 @@
 // Where terms originate among events, on instances and on strands.
-ghost use Rattle.std.specs.Prelude.{◌≡◌, ◌↔◌, IsTrue, IfSome, IfNone, map, ℕ};
+ghost use Rattle.std.specs.Prelude.{◌≡◌, ◌↔◌, IsTrue, IfSome, IfNone, ℕ};
 ghost use Rattle.cp_model.specs.Strand.{OriginatesInTerms};
 ghost use Rattle.cp_model.specs.Skeleton.{skeleton_trace};
 ghost use Rattle.cp_model.specs.Homomorphism.{substitution_by};
-ghost use Rattle.cp_strand.specs.View.{event_view, instance_view, strand_view};
+ghost use Rattle.cp_strand.specs.View.{instance_view, strand_view};
 ghost use Rattle.cp_strand.specs.Origins.{IsCarriedByOne, OriginatesUnder};
 
 use crate::events::event_at;
@@ -14,8 +14,8 @@ use cp_term::{Term, carries};
 
 /// The index among events at which a term originates, if it does.
 pub fn origin(events: &[Event], value: &Term) -> Option<usize>
-    ensures some { IfSome result (λ i. OriginatesInTerms (map event_view events.now) value.now i) }
-    ensures none { IfNone result ((i : ℕ) → OriginatesInTerms (map event_view events.now) value.now i → ⊥) }
+    ensures some { IfSome result (λ i. OriginatesInTerms events.now value.now i) }
+    ensures none { IfNone result ((i : ℕ) → OriginatesInTerms events.now value.now i → ⊥) }
 {
     for (index, event) in events.iter().enumerate() {
         if carries(event.payload(), value) {
@@ -30,7 +30,7 @@ pub fn origin(events: &[Event], value: &Term) -> Option<usize>
 
 /// Whether one of a role's events, under the terms, carries the term.
 fn is_carried_by_one(values: &[Term], events: &[Event], t: &Term) -> bool
-    ensures { IsTrue result ↔ IsCarriedByOne (substitution_by values.now) (map event_view events.now) t.now }
+    ensures { IsTrue result ↔ IsCarriedByOne (substitution_by values.now) events.now t.now }
 {
     for event in events {
         if carries_under(values, event.payload(), t) {
@@ -42,7 +42,7 @@ fn is_carried_by_one(values: &[Term], events: &[Event], t: &Term) -> bool
 
 /// Whether the term originates at an index, from 0, of a role's events under the terms.
 fn originates_under(values: &[Term], events: &[Event], index: usize, t: &Term) -> bool
-    ensures { IsTrue result ↔ OriginatesUnder (substitution_by values.now) (map event_view events.now) t.now index }
+    ensures { IsTrue result ↔ OriginatesUnder (substitution_by values.now) events.now t.now index }
 {
     let Some(event) = event_at(events, index) else {
         return false;

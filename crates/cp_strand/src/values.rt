@@ -4,7 +4,7 @@ ghost use Rattle.std.specs.Option.{option_map};
 ghost use Rattle.cp_lists.specs.Lists.{item_at};
 ghost use Rattle.cp_model.specs.Homomorphism.{substitution_by};
 ghost use Rattle.cp_model.specs.Term.{apply_to};
-ghost use Rattle.cp_term.specs.Variables.{variable_term};
+ghost use Rattle.cp_term.specs.Variables.{variable_of_sort};
 
 use cp_term::{Sort, Term, Valuation, VarId, is_of_sort, var};
 use std::alloc::{AllocError, Global};
@@ -19,8 +19,8 @@ pub(crate) fn value_at(values: &[Term], place: usize) -> Option<&Term>
 /// The term that replaces a variable of this sort, if any.
 pub(crate) fn value_of<'a>(values: &'a [Term], sort: Sort, variable: VarId) -> Option<&'a Term>
     ensures { MatchOption result
-        (apply_to (substitution_by values.now) (variable_term sort variable) ≡ variable_term sort variable)
-        (λ t. apply_to (substitution_by values.now) (variable_term sort variable) ≡ t.now) }
+        (apply_to (substitution_by values.now) (variable_of_sort sort variable) ≡ variable_of_sort sort variable)
+        (λ t. apply_to (substitution_by values.now) (variable_of_sort sort variable) ≡ t.now) }
 {
     let term = value_at(values, variable.number())?;
     if is_of_sort(term, sort) {
@@ -38,7 +38,7 @@ pub fn value_of_variable(
     id: VarId,
     sort: Sort,
 ) -> Result<Term, AllocError>
-    ensures { IfOk result (λ t. t ≡ apply_to (substitution_by values.now) (variable_term sort id)) }
+    ensures { IfOk result (λ t. t ≡ apply_to (substitution_by values.now) (variable_of_sort sort id)) }
 {
     match value_of(values, sort, id) {
         Some(value) => value.copy(),

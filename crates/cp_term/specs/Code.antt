@@ -5,7 +5,9 @@ use Rattle.std.proofs.Common.{ap, ap₂}
 use Rattle.cp_model.specs.Message.{SymmetricKey, skey, ltk, KeyPair, akey, pubk, Key, symmetric, asymmetric, Atom, text, datum, name, key, Message, tag, atom, pair, enc}
 use Rattle.cp_model.specs.MessageCode.{coded_atom as coded_ground_atom, coded_message}
 use Rattle.cp_model.specs.SortNumbers.{sort_number, sort_from, sort_back}
-use Rattle.cp_model.specs.Term.{Sort, Variable, SymmetricTerm, skey_variable, ltk_term, PairTerm, akey_variable, pubk_term, KeyTerm, symmetric_term, asymmetric_term, AtomTerm, text_variable, datum_variable, name_variable, key_term, Term, tag_term, atom_term, pair_term, enc_term, Assignment, value_of_symmetric, value_of_key, value_of_atom, value_of, atoms_by}
+use Rattle.cp_model.specs.Term.{SymmetricTerm, skey_variable, ltk_term, PairTerm, akey_variable, pubk_term, KeyTerm, symmetric_term, asymmetric_term, AtomTerm, text_variable, datum_variable, name_variable, key_term, Term, tag_term, atom_term, pair_term, enc_term, Assignment, value_of_symmetric, value_of_key, value_of_atom, value_of, atoms_by}
+use Rattle.cp_model.specs.declared.sort.Sort.{Sort}
+use Rattle.cp_model.specs.declared.variable.Variable.{Variable}
 use Rattle.cp_model.specs.Tree.{Pattern}
 
 -- The assignment that gives each variable the atom with its number.

@@ -4,7 +4,6 @@ pub mod Keys
 pub mod Layer
 pub mod LayerFalls
 pub mod Leaves
-pub mod Patterns
 pub mod Preorder
 pub mod Shapes
 pub mod Size

@@ -8,6 +8,7 @@ mod laws;
 mod makers;
 mod path;
 mod pattern;
+mod patterns;
 mod position;
 mod same;
 mod shape;
@@ -21,6 +22,7 @@ pub use laws::{carried_at_a_position, positions_are_those_found, test_of_equalit
 pub use makers::{enc, invert, ltk, pair, pubk, tag, var};
 pub use path::Path;
 pub use pattern::{Locals, Pattern};
+pub use patterns::Patterns;
 pub use position::{at, carries, depth, paths_of};
 pub use shape::{Shape, is_of_sort};
 pub use substitution::{Valuation, name_for, substituted};

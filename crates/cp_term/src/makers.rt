@@ -5,7 +5,7 @@ ghost use Rattle.cp_model.specs.Message.{Key, inverse};
 ghost use Rattle.cp_model.specs.Message as message;
 ghost use Rattle.cp_model.specs.Term.{Assignment, KeyTerm, value_of, tag_term, pair_term, enc_term, pubk_term, ltk_term, symmetric_term, asymmetric_term, inverse_term};
 ghost use Rattle.cp_term.specs.Keys.{name_of, key_as_term, IsName, IsKey};
-ghost use Rattle.cp_term.specs.Variables.{variable_term, value_of_variable};
+ghost use Rattle.cp_term.specs.Variables.{variable_of_sort, value_of_variable};
 
 use crate::term::{Node, Term};
 use crate::variable::VarId;
@@ -24,7 +24,7 @@ pub fn tag(alloc: Global, text: &str) -> Result<Term, AllocError>
 
 /// The variable of this sort.
 pub fn var(alloc: Global, id: VarId, sort: Sort) -> Result<Term, AllocError>
-    ensures plain { IfOk result (λ t. t ≡ variable_term sort id) }
+    ensures plain { IfOk result (λ t. t ≡ variable_of_sort sort id) }
     ensures value { IfOk result (λ t. (g : Assignment) → value_of g t ≡ value_of_variable g sort id) }
 {
     match sort {

@@ -1,27 +1,28 @@
 // Patterns.
-ghost use Rattle.std.specs.Prelude.{◌≡◌, [], ◌++◌, ◌∷◌, map, IfOk, OnOk, OnErr};
+ghost use Rattle.std.specs.Prelude.{◌≡◌, [], ◌++◌, ◌∷◌, IfOk, OnOk, OnErr};
 ghost use Rattle.cp_lists.specs.Lists.{IsIn};
 ghost use Rattle.cp_model.specs.Pattern.{IsPattern};
-ghost use Rattle.cp_model.specs.Term.{Variable, variables_of};
-ghost use Rattle.cp_term.specs.Patterns.{locals_of, pattern_by};
+ghost use Rattle.cp_model.specs.Term.{variables_of};
+ghost use Rattle.cp_model.specs.declared.variable.Variable.{Variable};
 
 use crate::term::Term;
-use crate::variable::VarId;
+use cp_model::Variable;
 use std::alloc::{AllocError, Global};
 use std::marker::Model;
 
-/// The local variables of a pattern. Contracts see their numbers, in order.
+/// The local variables of a pattern, in order.
 #[derive(Drop)]
 pub struct Locals {
-    ids: Vec<VarId>,
+    variables: Vec<Variable>,
 }
 
 impl Model for Locals {
-    ghost use Rattle.std.specs.Prelude.{List, ℕ};
+    ghost use Rattle.std.specs.Prelude.{List};
+    ghost use Rattle.cp_model.specs.declared.variable.Variable.{Variable};
 
-    ghost Value = { List ℕ };
+    ghost Value = { List Variable };
 
-    ghost view = { λ l. l.ids.items };
+    ghost view = { λ l. l.variables.items };
 }
 
 impl Locals {
@@ -30,32 +31,39 @@ impl Locals {
         ensures { result ≡ [] }
     {
         Locals {
-            ids: Vec::new(alloc),
+            variables: Vec::new(alloc),
         }
     }
 
+    /// These variables.
+    pub fn of(variables: Vec<Variable>) -> Locals
+        ensures { result ≡ variables.items }
+    {
+        Locals { variables }
+    }
+
     /// Appends a variable. On an error nothing is added.
-    pub fn push(&mut self, id: VarId) -> Result<(), AllocError>
-        ensures ok { OnOk result (self.new ≡ self.old ++ id ∷ []) }
+    pub fn push(&mut self, variable: Variable) -> Result<(), AllocError>
+        ensures ok { OnOk result (self.new ≡ self.old ++ variable ∷ []) }
         ensures err { OnErr result (self.new ≡ self.old) }
     {
-        self.ids.push(id)?;
+        self.variables.push(variable)?;
         Ok(())
     }
 
     /// The variables.
-    pub fn as_slice(&self) -> &[VarId]
+    pub fn as_slice(&self) -> &[Variable]
         ensures { result.now ≡ self.now }
     {
-        self.ids.as_slice()
+        self.variables.as_slice()
     }
 
     /// The same variables.
     pub fn copy(&self) -> Result<Locals, AllocError>
         ensures { IfOk result (λ l. l ≡ self.now) }
     {
-        let ids = Vec::from_slice(*self.ids.allocator(), self.ids.as_slice())?;
-        Ok(Locals { ids })
+        let variables = Vec::from_slice(*self.variables.allocator(), self.variables.as_slice())?;
+        Ok(Locals { variables })
     }
 }
 
@@ -73,21 +81,20 @@ impl Model for Pattern {
 
     ghost use Rattle.cp_model.specs.Pattern.{IsPattern};
     ghost use Rattle.cp_term.specs.Code.{coded_pattern};
-    ghost use Rattle.cp_term.specs.Patterns.{pattern_by};
 
     ghost coded = { coded_pattern };
 
-    ghost view = { λ p. pattern_by p.term p.locals };
+    ghost view = { λ p. record { term = p.term; locals = p.locals } };
 
-    ghost invariant = { λ p. IsPattern (pattern_by p.term p.locals) };
+    ghost invariant = { λ p. IsPattern (record { term = p.term; locals = p.locals }) };
 }
 
 impl Pattern {
-    /// The pattern of this term in which the variables with these numbers are local. The term must be an encryption in
-    /// which variables of different sorts have different numbers, and each local must be one of its variables.
+    /// The pattern of this term with these local variables. The term must be an encryption, and each local must be one of
+    /// its variables.
     pub fn new(term: Term, locals: Locals) -> Pattern
-        requires { IsPattern (pattern_by term locals) }
-        ensures { result ≡ pattern_by term locals }
+        requires { IsPattern (record { term = term; locals = locals }) }
+        ensures { result ≡ record { term = term; locals = locals } }
     {
         Pattern { term, locals }
     }
@@ -100,10 +107,9 @@ impl Pattern {
         &self.term
     }
 
-    /// The numbers of the local variables. Each is a variable of the term.
-    pub fn locals(&self) -> &[VarId]
-        ensures variables { locals_of self.now.term result.now ≡ self.now.locals }
-        ensures numbers { result.now ≡ map (λ x. x.number) self.now.locals }
+    /// The local variables. Each is a variable of the term.
+    pub fn locals(&self) -> &[Variable]
+        ensures variables { result.now ≡ self.now.locals }
         ensures occur { (x : Variable) → IsIn x self.now.locals → IsIn x (variables_of self.now.term) }
     {
         self.locals.as_slice()

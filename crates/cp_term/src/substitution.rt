@@ -4,7 +4,7 @@ ghost use Rattle.std.specs.Option.{option_map};
 ghost use Rattle.cp_model.specs.Term.{Term as Plain, Substitution, KeyTerm, ltk_term, pubk_term, symmetric_term, asymmetric_term, pair_term, enc_term, apply_to};
 ghost use Rattle.cp_term.specs.Keys.{key_as_term, IsKey};
 ghost use Rattle.cp_term.specs.Spines.{tail_of, HasTail};
-ghost use Rattle.cp_term.specs.Variables.{variable_term};
+ghost use Rattle.cp_term.specs.Variables.{variable_of_sort};
 
 use crate::makers::{enc, invert, ltk, pair, pubk, var};
 use crate::shape::Shape;
@@ -21,8 +21,8 @@ pub trait Valuation {
     /// The term that replaces a variable of this sort, if any.
     fn term_for(&self, sort: Sort, variable: VarId) -> Option<&Term>
         ensures { MatchOption result
-            (apply_to (substitution self.now) (variable_term sort variable) ≡ variable_term sort variable)
-            (λ t. apply_to (substitution self.now) (variable_term sort variable) ≡ t.now) };
+            (apply_to (substitution self.now) (variable_of_sort sort variable) ≡ variable_of_sort sort variable)
+            (λ t. apply_to (substitution self.now) (variable_of_sort sort variable) ≡ t.now) };
 }
 
 /// The name that replaces a name.

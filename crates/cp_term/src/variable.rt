@@ -9,7 +9,7 @@ use std::alloc::{AllocError, Global};
 use std::marker::Model;
 use std::rc::Rc;
 
-/// A variable: its number, which is its place in the table of variables, counted from 0.
+/// The number of a variable: its place in the table of variables, counted from 0.
 #[derive(Clone, Copy, Debug, PartialEq, Eq)]
 pub struct VarId {
     number: usize,
@@ -79,9 +79,9 @@ pub struct VarTable {
 
 impl Model for VarTable {
     ghost use Rattle.std.specs.Prelude.{List, map};
-    ghost use Rattle.cp_model.specs.Data.{Declared};
+    ghost use Rattle.cp_model.specs.declared.variable.Declaration.{Declaration};
 
-    ghost Value = { List Declared };
+    ghost Value = { List Declaration };
 
     ghost use Rattle.cp_term.specs.Entries.{declared_by};
 
@@ -109,7 +109,7 @@ impl VarTable {
     /// is unchanged.
     pub fn fresh(&mut self, root: &str, sort: Sort) -> Result<VarId, AllocError>
         ensures later { IfOk result (λ v. v ≡ length self.old) }
-        ensures added { OnOk result (self.new ≡ self.old ++ record { root = root.now; sort = sort } ∷ []) }
+        ensures added { OnOk result (self.new ≡ self.old ++ record { identifier = root.now; sort = sort } ∷ []) }
         ensures unchanged { OnErr result (self.new ≡ self.old) }
     {
         let number = self.entries.len();

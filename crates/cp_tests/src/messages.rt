@@ -79,7 +79,7 @@ fn said(alloc: Global) -> Result<Msg, AllocError> {
 }
 
 /// A strand of one event.
-fn strand(alloc: Global, event: Event) -> Result<Strand, AllocError> {
+fn strand(alloc: Global, event: Event<Msg>) -> Result<Strand, AllocError> {
     Ok(Strand {
         events: Vec::from_array(alloc, [event])?,
     })
@@ -108,7 +108,7 @@ fn has_first(strand: &Strand, message: &Msg) -> bool {
         return false;
     };
     match event.copy() {
-        Ok(copy) => event.message().same(message) && copy.message().same(message),
+        Ok(copy) => event.payload().same(message) && copy.payload().same(message),
         Err(_) => false,
     }
 }

@@ -1,7 +1,8 @@
 // Terms made by hand, what they carry and where, and a copy of a pattern.
 ghost use Rattle.std.specs.Prelude.{◌≡◌, IfOk};
-ghost use Rattle.cp_term.specs.Variables.{variable_term};
+ghost use Rattle.cp_term.specs.Variables.{variable_of_sort};
 
+use cp_model::Variable;
 use cp_term::{
     Locals, Path, Pattern, Sort, Step, Term, VarId, at, carries, depth, enc, pair, paths_of, var,
 };
@@ -10,7 +11,7 @@ use std::test::Fail;
 
 /// The variable of this sort with this number.
 pub(crate) fn variable(alloc: Global, sort: Sort, number: usize) -> Result<Term, AllocError>
-    ensures { IfOk result (λ t. t ≡ variable_term sort number) }
+    ensures { IfOk result (λ t. t ≡ variable_of_sort sort number) }
 {
     var(alloc, VarId::numbered(number), sort)
 }
@@ -95,11 +96,14 @@ fn positions(rt: HostRuntime) -> Result<(), Fail> {
 
 /// The text 0 under the symmetric key 1, where that text is local.
 pub(crate) fn pattern(alloc: Global) -> Result<Pattern, AllocError> {
-    let text = VarId::numbered(0);
     let mut locals = Locals::new(alloc);
-    locals.push(text)?;
+    locals.push(Variable {
+        sort: Sort::Text,
+        number: 0,
+    })?;
+    let text = var(alloc, VarId::numbered(0), Sort::Text)?;
     let key = var(alloc, VarId::numbered(1), Sort::Skey)?;
-    let term = enc(alloc, var(alloc, text, Sort::Text)?, key)?;
+    let term = enc(alloc, text, key)?;
     Ok(Pattern::new(term, locals))
 }
 

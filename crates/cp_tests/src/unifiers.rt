@@ -3,7 +3,8 @@ ghost use Rattle.std.specs.Prelude.{IfOk};
 ghost use Rattle.cp_term.specs.Keys.{IsKey};
 
 use crate::terms::{sealed, variable};
-use cp_term::{Sort, Term, VarId, invert, ltk, pair, pubk};
+use cp_model::Variable;
+use cp_term::{Sort, Term, invert, ltk, pair, pubk};
 use cp_unify::{Subst, apply, matching, unify};
 use std::alloc::{AllocError, Global};
 use std::test::Fail;
@@ -143,7 +144,11 @@ fn binds(answer: &Option<Subst>, wanted: &Term) -> bool {
 
 /// The match of a pattern, in which the text 2 is local, with a term.
 fn matched(alloc: Global, pattern: Made, term: Made) -> Result<Option<Subst>, AllocError> {
-    matching(alloc, &pattern?, &term?, &[VarId::numbered(2)])
+    let local = Variable {
+        sort: Sort::Text,
+        number: 2,
+    };
+    matching(alloc, &pattern?, &term?, &[local])
 }
 
 /// Whether the local is this text.

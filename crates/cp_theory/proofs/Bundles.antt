@@ -3,7 +3,9 @@ use Rattle.std.proofs.Common.{◌++◌, ◌≡◌, ℕ, ◌<◌, List, [], ◌�
 use Rattle.cp_lists.specs.Lists.{item_at, IsIn, there, one_step, more_steps}
 use Rattle.cp_model.specs.Message.{Message}
 use Rattle.cp_model.specs.Term.{value_of}
-use Rattle.cp_model.specs.Strand.{Event, send, recv, event_map, Protocol, prefix_of, Strand, trace_of}
+use Rattle.cp_model.specs.Strand.{event_map, Protocol, prefix_of, Strand, trace_of}
+use Rattle.cp_model.specs.declared.strand.Event.{Event}
+use Rattle.cp_model.specs.declared.strand.Event.TheVariants.{Send as send, Receive as recv}
 use Rattle.cp_model.specs.Bundle.{node_at, trace_or_none, event_at, IsListing, AreOfProtocol, Bundle, BundleStep, along_strand, along_link, Precedes, IsBundle}
 use Rattle.cp_model.specs.declared.node.Node.{Node}
 use Rattle.cp_model.specs.Skeleton.{SkeletonStrand, instance, listener, skeleton_trace, skeleton_trace_or_none, IsNodeOf, Skeleton}

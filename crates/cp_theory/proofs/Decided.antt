@@ -6,7 +6,10 @@ use Rattle.cp_lists.specs.Lists.{IsIn, here, there}
 use Rattle.cp_lists.proofs.Members.{head_or_behind, not_in_none}
 use Rattle.cp_model.proofs.CarriedParts.{not_both}
 use Rattle.cp_model.specs.Message.{SymmetricKey, KeyPair, Key, symmetric, asymmetric, Atom, text, datum, name, key, Message, enc}
-use Rattle.cp_model.specs.Term.{Sort, text_sort, datum_sort, name_sort, skey_sort, akey_sort, Variable, atom_of_variable, variables_of, Assignment, value_of_atom, value_of}
+use Rattle.cp_model.specs.Term.{atom_of_variable, variables_of, Assignment, value_of_atom, value_of, variable_term}
+use Rattle.cp_model.specs.declared.sort.Sort.{Sort}
+use Rattle.cp_model.specs.declared.sort.Sort.TheVariants.{Text as text_sort, Datum as datum_sort, Name as name_sort, Skey as skey_sort, Akey as akey_sort}
+use Rattle.cp_model.specs.declared.variable.Variable.{Variable}
 use Rattle.cp_model.specs.Same.{same_sort, has_variable}
 use Rattle.cp_model.specs.Tree.{Pattern}
 use Rattle.cp_model.proofs.SameTests.{variable_is, variable_in, in_has_variable, same_sort_itself}
@@ -72,7 +75,7 @@ filled_by rs local g = record {
 
 -- Another variable keeps its value.
 kept : (rs : List Reading) (local : Variable → Bool) (g : Assignment) (s : Sort) (n : ℕ) → local (variable s n) ≡ false →
-    value_of_atom (filled_by rs local g) (atom_of_variable (variable s n)) ≡ value_of_atom g (atom_of_variable (variable s n))
+    value_of (filled_by rs local g) (variable_term (variable s n)) ≡ value_of g (variable_term (variable s n))
 kept rs local g text_sort n e = rw e refl
 kept rs local g datum_sort n e = rw e refl
 kept rs local g name_sort n e = rw e refl
@@ -81,7 +84,7 @@ kept rs local g akey_sort n e = rw e refl
 
 -- A local has what is read for it, where that is a value of it.
 read_back : (rs : List Reading) (local : Variable → Bool) (g f : Assignment) (s : Sort) (n : ℕ) → local (variable s n) ≡ true → atom_for rs (variable s n) ≡ Some (value_of_atom f (atom_of_variable (variable s n))) →
-    value_of_atom (filled_by rs local g) (atom_of_variable (variable s n)) ≡ value_of_atom f (atom_of_variable (variable s n))
+    value_of (filled_by rs local g) (variable_term (variable s n)) ≡ value_of f (variable_term (variable s n))
 read_back rs local g f text_sort n e r = rw e (rw r refl)
 read_back rs local g f datum_sort n e r = rw e (rw r refl)
 read_back rs local g f name_sort n e r = rw e (rw r refl)
@@ -95,7 +98,7 @@ not_in : (xs : List Variable) (x : Variable) (b : Bool) → has_variable xs x �
 not_in xs x true e n = absurd (n (variable_in xs x e))
 not_in xs x false e n = e
 
-as_said : (p : Pattern) (g : Assignment) (m : Message) (x : Variable) → IsFreeIn x p → value_of_atom (tried p g m) (atom_of_variable x) ≡ value_of_atom g (atom_of_variable x)
+as_said : (p : Pattern) (g : Assignment) (m : Message) (x : Variable) → IsFreeIn x p → value_of (tried p g m) (variable_term x) ≡ value_of g (variable_term x)
 as_said p g m x free = kept (readings p.term m) (has_variable p.locals) g x.sort x.number (not_in p.locals x (has_variable p.locals x) refl free.no_local)
 
 not_local : (xs : List Variable) (x : Variable) → has_variable xs x ≡ false → IsIn x xs → ⊥
@@ -107,7 +110,7 @@ module _ (p : Pattern) (g : Assignment) (m : Message) (matches : MatchesMessage 
   read x i = subst (λ (w : Message). atom_for (readings p.term w) x ≡ Some (value_of_atom matches.filled (atom_of_variable x))) matches.same
       (ap (λ (rs : List Reading). atom_for rs x) (readings_of_value matches.filled p.term) ∙ finds matches.filled (variables_of p.term) x i)
 
-  agree : (x : Variable) (b : Bool) → has_variable p.locals x ≡ b → IsIn x (variables_of p.term) → value_of_atom (tried p g m) (atom_of_variable x) ≡ value_of_atom matches.filled (atom_of_variable x)
+  agree : (x : Variable) (b : Bool) → has_variable p.locals x ≡ b → IsIn x (variables_of p.term) → value_of (tried p g m) (variable_term x) ≡ value_of matches.filled (variable_term x)
   agree x true e i = read_back (readings p.term m) (has_variable p.locals) g matches.filled x.sort x.number e (read x i)
   agree x false e i = kept (readings p.term m) (has_variable p.locals) g x.sort x.number e ∙ sym (matches.as_said x (record { occurs = i; no_local = not_local p.locals x e }))
 

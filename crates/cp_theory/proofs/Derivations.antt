@@ -3,7 +3,9 @@ use Rattle.std.proofs.Common.{◌≡◌, ℕ, Bool, true, false, List, Some, ref
 use Rattle.cp_lists.specs.Lists.{item_at, IsIn}
 use Rattle.cp_model.specs.Message.{Key, inverse, Message, tag, atom, pair, enc}
 use Rattle.cp_model.specs.Term.{KeyTerm, symmetric_term, asymmetric_term, inverse_term, Term, value_of, value_of_atom, value_of_key, PairTerm, akey_variable, pubk_term, Substitution}
-use Rattle.cp_model.specs.Strand.{Event, send, recv, event_map, Role, prefix_of, create_tag, create_atom, pairing, splitting, encryption, decryption, trace_of}
+use Rattle.cp_model.specs.Strand.{event_map, Role, prefix_of, create_tag, create_atom, pairing, splitting, encryption, decryption, trace_of}
+use Rattle.cp_model.specs.declared.strand.Event.{Event}
+use Rattle.cp_model.specs.declared.strand.Event.TheVariants.{Send as send, Receive as recv}
 use Rattle.cp_model.specs.KeyMessage.{key_message}
 use Rattle.cp_model.specs.Bundle.{node_at}
 use Rattle.cp_model.specs.declared.node.Node.{Node}

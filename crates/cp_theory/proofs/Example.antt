@@ -3,7 +3,8 @@ use Rattle.std.proofs.Common.{◌≡◌, ℕ, zero, suc, ◌+◌, ◌<◌, Some,
 use Rattle.cp_lists.specs.Lists.{item_at, IsIn, here, one_step, more_steps}
 use Rattle.cp_model.specs.Term.{AtomTerm, text_variable, Term, atom_term, IsCarriedByTerm, itself_term, in_left_term, in_plaintext_term, Substitution}
 use Rattle.cp_model.specs.Identity.{unchanged}
-use Rattle.cp_model.specs.Strand.{send, recv, Role, IsHeight}
+use Rattle.cp_model.specs.Strand.{Role, IsHeight}
+use Rattle.cp_model.specs.declared.strand.Event.TheVariants.{Send as send, Receive as recv}
 use Rattle.cp_model.specs.Bundle.{node_at}
 use Rattle.cp_model.specs.declared.node.Node.{Node}
 use Rattle.cp_model.specs.Skeleton.{SkeletonStrand, instance, skeleton_trace, skeleton_trace_or_none, term_event_at, UniqueAt, OrderStep, along_strand_of, along_pair, Before, IsOrderPair, GivesAssumptions, IsSkeleton}

@@ -5,7 +5,8 @@ use Rattle.cp_lists.specs.Lists.{item_at, IsIn}
 use Rattle.cp_lists.proofs.Members.{in_append}
 use Rattle.cp_model.specs.Message.{Atom, atom}
 use Rattle.cp_model.specs.Term.{AtomTerm, Assignment, value_of_atom, after, AgreeOn, Substitution, apply_to_atom}
-use Rattle.cp_model.specs.Strand.{send, Role, Protocol, variables_of_prefix, prefix_of, Applies, AppliesAt, regular}
+use Rattle.cp_model.specs.Strand.{Role, Protocol, variables_of_prefix, prefix_of, Applies, AppliesAt, regular}
+use Rattle.cp_model.specs.declared.strand.Event.TheVariants.{Send as send}
 use Rattle.cp_model.specs.Bundle.{node_at, KeepsNon, KeepsPenetratorNon, KeepsUnique, KeepsRole, Bundle, IsBundle}
 use Rattle.cp_model.specs.declared.node.Node.{Node}
 use Rattle.cp_model.specs.Skeleton.{UniqueAt}

@@ -3,7 +3,8 @@ use Rattle.std.proofs.Common.{◌≡◌, ℕ, ◌≤◌, [], ◌∷◌, ◌++◌
 use Rattle.cp_lists.specs.Lists.{item_at, IsIn}
 use Rattle.cp_model.specs.Message.{atom}
 use Rattle.cp_model.specs.Term.{Term, Assignment, value_of, value_of_atom, after, AgreeOn, Substitution}
-use Rattle.cp_model.specs.Strand.{recv, Role, Protocol, variables_of_prefix, regular}
+use Rattle.cp_model.specs.Strand.{Role, Protocol, variables_of_prefix, regular}
+use Rattle.cp_model.specs.declared.strand.Event.TheVariants.{Receive as recv}
 use Rattle.cp_model.specs.Bundle.{node_at, event_at, KeepsUnique, Bundle, IsBundle}
 use Rattle.cp_model.specs.declared.node.Node.{Node}
 use Rattle.cp_model.specs.Skeleton.{SkeletonStrand, instance, listener, UniqueAt, Skeleton}

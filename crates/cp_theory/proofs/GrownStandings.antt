@@ -4,15 +4,16 @@ use Rattle.std.proofs.Common.{subst₂}
 use Rattle.cp_lists.specs.Lists.{item_at, IsIn, one_step}
 use Rattle.cp_lists.proofs.Members.{in_append_left, in_append_right, in_pushed}
 use Rattle.cp_model.specs.Message.{Atom, Message, atom}
-use Rattle.cp_model.specs.Term.{AtomTerm, atom_of_variable, variables_of, Assignment, value_of, value_of_atom, after, AgreeOn, Substitution, apply_to_atom}
-use Rattle.cp_model.specs.Strand.{send, recv, Role, Protocol, prefix_of, variables_of_prefix}
+use Rattle.cp_model.specs.Term.{AtomTerm, variable_term, variables_of, Assignment, value_of, value_of_atom, after, AgreeOn, Substitution, apply_to}
+use Rattle.cp_model.specs.Strand.{Role, Protocol, prefix_of, variables_of_prefix}
+use Rattle.cp_model.specs.declared.strand.Event.TheVariants.{Send as send, Receive as recv}
 use Rattle.cp_model.specs.Bundle.{event_at, KeepsNon, KeepsPenetratorNon, KeepsUnique, Bundle, Precedes, IsBundle}
 use Rattle.cp_model.specs.declared.node.Node.{Node}
 use Rattle.cp_model.specs.declared.node.OrderPair.{OrderPair}
 use Rattle.cp_model.specs.Skeleton.{SkeletonStrand, instance, listener, IsNodeOf, UniqueAt, Skeleton, along_pair, Before, IsSkeleton}
 use Rattle.cp_model.specs.Standing.{Standing, image_of, StandsOnRegular, StandsIn, StandsApart}
 use Rattle.cp_model.specs.Problem.{variables_of_strands, variables_of_atoms, variables_of_uniques, variables_of_assumptions}
-use Rattle.cp_model.proofs.LawTerms.{atom_after}
+use Rattle.cp_model.proofs.LawTerms.{value_after}
 use Rattle.cp_model.proofs.LawAgreement.{agree_atom_value, agree_value}
 use Rattle.cp_theory.specs.Normal.{variables_of_terms}
 use Rattle.cp_model.proofs.OccurringVariables.{in_trace_under, in_strands, in_atoms, in_uniques}
@@ -34,9 +35,9 @@ module _ (k : Skeleton) (b : Bundle) (h g : Standing) (agree : AgreeOn (variable
   pub equal_by : (a : ℕ) (role : Role) (height : ℕ) (terms : Substitution) (f : Assignment) → item_at k.strands a ≡ Some (instance role height terms) → AgreeOn (variables_of_prefix role height) (after h.values terms) f →
       AgreeOn (variables_of_prefix role height) (after g.values terms) f
   equal_by a role height terms f at equal x inx =
-      atom_after g.values terms (atom_of_variable x)
-      ∙ sym (agree_atom_value h.values g.values (apply_to_atom terms (atom_of_variable x)) (λ y iny. agree y (in_strands k.strands a (instance role height terms) y at (in_trace_under terms (prefix_of role height) x y inx iny))))
-      ∙ sym (atom_after h.values terms (atom_of_variable x))
+      value_after g.values terms (variable_term x)
+      ∙ sym (agree_value h.values g.values (apply_to terms (variable_term x)) (λ y iny. agree y (in_strands k.strands a (instance role height terms) y at (in_trace_under terms (prefix_of role height) x y inx iny))))
+      ∙ sym (value_after h.values terms (variable_term x))
       ∙ equal x inx
 
   pub strand_by : (a : ℕ) (st : SkeletonStrand) → item_at k.strands a ≡ Some st → h.nodes a ≡ g.nodes a → StrandStands b h a st → StrandStands b g a st

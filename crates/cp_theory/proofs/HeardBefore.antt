@@ -3,7 +3,9 @@ use Rattle.std.proofs.Common.{◌≡◌, ◌≢◌, ℕ, zero, suc, ◌<◌, Lis
 use Rattle.cp_lists.specs.Lists.{item_at, IsIn}
 use Rattle.cp_model.specs.Message.{Message, atom, IsCarriedBy}
 use Rattle.cp_model.specs.Term.{Term, value_of, value_of_atom}
-use Rattle.cp_model.specs.Strand.{Event, send, recv, payload, event_map, Protocol}
+use Rattle.cp_model.specs.Strand.{payload, event_map, Protocol}
+use Rattle.cp_model.specs.declared.strand.Event.{Event}
+use Rattle.cp_model.specs.declared.strand.Event.TheVariants.{Send as send, Receive as recv}
 use Rattle.cp_model.specs.Bundle.{node_at, trace_or_none, event_at, OriginatesAt, Bundle}
 use Rattle.cp_model.specs.declared.node.Node.{Node}
 use Rattle.cp_model.specs.Skeleton.{instance, skeleton_trace_or_none, term_event_at, UniqueAt, Skeleton, IsSkeleton}

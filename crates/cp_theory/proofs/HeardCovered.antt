@@ -5,10 +5,14 @@ use Rattle.std.proofs.lemmas.Bool.{and_parts, ltb-true}
 use Rattle.std.proofs.lemmas.List.{append-nil}
 use Rattle.cp_lists.specs.Lists.{item_at, IsIn, here, there}
 use Rattle.cp_lists.proofs.Members.{not_in_none, only_item}
-use Rattle.cp_model.specs.Message.{SymmetricKey, symmetric, text, key}
-use Rattle.cp_model.specs.Term.{AtomTerm, KeyTerm, itself_term, Sort, text_sort, datum_sort, name_sort, skey_sort, akey_sort, Variable, skey_variable, SymmetricTerm, symmetric_term, text_variable, key_term, Term, atom_term, enc_term, atom_of_variable, Assignment, value_of, value_of_symmetric, value_of_atom, after}
+use Rattle.cp_model.specs.Message.{SymmetricKey, symmetric, text, key, atom}
+use Rattle.cp_model.specs.Term.{AtomTerm, KeyTerm, itself_term, skey_variable, SymmetricTerm, symmetric_term, text_variable, key_term, Term, atom_term, enc_term, variable_term, Assignment, value_of, value_of_symmetric, after}
+use Rattle.cp_model.specs.declared.sort.Sort.{Sort}
+use Rattle.cp_model.specs.declared.sort.Sort.TheVariants.{Text as text_sort, Datum as datum_sort, Name as name_sort, Skey as skey_sort, Akey as akey_sort}
+use Rattle.cp_model.specs.declared.variable.Variable.{Variable}
 use Rattle.cp_model.specs.Identity.{unchanged}
-use Rattle.cp_model.specs.Strand.{send, recv, Role, Protocol}
+use Rattle.cp_model.specs.Strand.{Role, Protocol}
+use Rattle.cp_model.specs.declared.strand.Event.TheVariants.{Send as send, Receive as recv}
 use Rattle.cp_model.specs.Bundle.{node_at}
 use Rattle.cp_model.specs.declared.node.Node.{Node}
 use Rattle.cp_model.specs.Skeleton.{instance, listener, term_event_at, Skeleton}
@@ -109,11 +113,11 @@ pub values_kept : (g : Assignment) (texts : ℕ → ℕ) (keys : ℕ → Symmetr
     (u : Term) → value_of (after g (record unchanged { texts = texts; skeys = keys })) u ≡ value_of g u
 values_kept g texts keys same_texts same_keys u = agree_value (after g (record unchanged { texts = texts; skeys = keys })) g u (λ x i. kept x.sort x.number)
   where
-    kept : (s : Sort) (n : ℕ) → value_of_atom (after g (record unchanged { texts = texts; skeys = keys })) (atom_of_variable (record { sort = s; number = n })) ≡ value_of_atom g (atom_of_variable (record { sort = s; number = n }))
-    kept text_sort n = ap text (same_texts n)
+    kept : (s : Sort) (n : ℕ) → value_of (after g (record unchanged { texts = texts; skeys = keys })) (variable_term (record { sort = s; number = n })) ≡ value_of g (variable_term (record { sort = s; number = n }))
+    kept text_sort n = ap (λ (m : ℕ). atom (text m)) (same_texts n)
     kept datum_sort n = refl
     kept name_sort n = refl
-    kept skey_sort n = ap (λ (k : SymmetricKey). key (symmetric k)) (same_keys n)
+    kept skey_sort n = ap (λ (k : SymmetricKey). atom (key (symmetric k))) (same_keys n)
     kept akey_sort n = refl
 
 -- What stands in the encryption is itself, or its text.

@@ -2,8 +2,10 @@
 use Rattle.std.proofs.Common.{◌≡◌, ◌≢◌, ℕ, zero, suc, ◌<◌, [], ◌∷◌, Some, refl, sym, ap, subst, inl, arith}
 use Rattle.cp_lists.specs.Lists.{item_at, IsIn, here, there, one_step, more_steps}
 use Rattle.cp_lists.proofs.Members.{not_in_none}
-use Rattle.cp_model.specs.Term.{AtomTerm, KeyTerm, key_term, Term, tag_term, atom_term, pair_term, enc_term, Substitution, Variable, variables_of}
-use Rattle.cp_model.specs.Strand.{recv, Role}
+use Rattle.cp_model.specs.Term.{AtomTerm, KeyTerm, key_term, Term, tag_term, atom_term, pair_term, enc_term, Substitution, variables_of}
+use Rattle.cp_model.specs.declared.variable.Variable.{Variable}
+use Rattle.cp_model.specs.Strand.{Role}
+use Rattle.cp_model.specs.declared.strand.Event.TheVariants.{Receive as recv}
 use Rattle.cp_model.specs.declared.node.Node.{Node}
 use Rattle.cp_model.specs.Skeleton.{instance, term_event_at, OrderStep, along_strand_of, along_pair, Before, Skeleton, IsSkeleton}
 use Rattle.cp_model.specs.Derivable.{IsSecret, IsOnInstance, DerivableAt, a_tag, an_atom, paired, left_of, right_of, encrypted, decrypted}

@@ -2,7 +2,8 @@
 use Rattle.std.proofs.Common.{◌≡◌, ◌≢◌, ℕ, suc, ◌<◌, arith, List, [], ◌∷◌, refl, sym, ap, subst, ◌⊎◌, inl, inr}
 use Rattle.cp_lists.specs.Lists.{IsIn, here, there, Steps, one_step, more_steps}
 use Rattle.cp_model.specs.Message.{Message}
-use Rattle.cp_model.specs.Strand.{Event, send, recv}
+use Rattle.cp_model.specs.declared.strand.Event.{Event}
+use Rattle.cp_model.specs.declared.strand.Event.TheVariants.{Send as send, Receive as recv}
 use Rattle.cp_model.specs.Bundle.{node_at}
 use Rattle.cp_model.specs.declared.node.Node.{Node}
 use Rattle.cp_model.specs.Skeleton.{Skeleton, Before}

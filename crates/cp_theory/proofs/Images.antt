@@ -3,7 +3,9 @@ use Rattle.std.proofs.Common.{◌≡◌, ℕ, zero, suc, ◌<◌, ◌≤◌, Opt
 use Rattle.cp_lists.specs.Lists.{item_at}
 use Rattle.cp_model.specs.Message.{Message}
 use Rattle.cp_model.specs.Term.{Term, Assignment, value_of, Substitution, apply_to, after}
-use Rattle.cp_model.specs.Strand.{Event, send, recv, payload, event_map, Role, prefix_of}
+use Rattle.cp_model.specs.Strand.{payload, event_map, Role, prefix_of}
+use Rattle.cp_model.specs.declared.strand.Event.{Event}
+use Rattle.cp_model.specs.declared.strand.Event.TheVariants.{Send as send, Receive as recv}
 use Rattle.cp_model.specs.Bundle.{node_at, event_at, Bundle}
 use Rattle.cp_model.specs.declared.node.Node.{Node}
 use Rattle.cp_model.specs.Skeleton.{SkeletonStrand, instance, listener, skeleton_trace, term_event_at, Skeleton}

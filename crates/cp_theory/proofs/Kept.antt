@@ -3,7 +3,8 @@ use Rattle.std.proofs.Common.{◌≡◌, ℕ, zero, suc, List, [], ◌∷◌, Op
 use Rattle.cp_lists.specs.Lists.{item_at, IsIn}
 use Rattle.cp_model.specs.Message.{Atom, Message, tag, atom, pair, enc, IsCarriedBy, itself, in_left, in_right, in_plaintext}
 use Rattle.cp_model.specs.Term.{AtomTerm, atom_term, Substitution, apply_to_atom, Assignment, value_of, value_of_atom, after}
-use Rattle.cp_model.specs.Strand.{send, recv, OriginatesIn, OriginatesInTerms, Role, Protocol, prefix_of, Penetrator, create_tag, create_atom, pairing, splitting, encryption, decryption, hearing, penetrator_trace, Strand, regular, trace_of}
+use Rattle.cp_model.specs.Strand.{OriginatesIn, OriginatesInTerms, Role, Protocol, prefix_of, Penetrator, create_tag, create_atom, pairing, splitting, encryption, decryption, hearing, penetrator_trace, Strand, regular, trace_of}
+use Rattle.cp_model.specs.declared.strand.Event.TheVariants.{Send as send, Receive as recv}
 use Rattle.cp_model.specs.Bundle.{node_at, trace_or_none, OriginatesAt, KeepsNon, KeepsPenetratorNon, KeepsUnique, KeepsRole, AreOfProtocol}
 use Rattle.cp_model.specs.declared.node.Node.{Node}
 use Rattle.cp_model.specs.Skeleton.{SkeletonStrand, instance, listener, skeleton_trace, skeleton_trace_or_none, UniqueAt, Skeleton, IsSkeleton}

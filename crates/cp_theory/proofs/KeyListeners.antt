@@ -3,17 +3,19 @@ use Rattle.std.proofs.Common.{◌≡◌, List, length, Option, Some, Bool, true,
 use Rattle.std.proofs.Common.{subst₂}
 use Rattle.cp_lists.specs.Lists.{IsIn}
 use Rattle.cp_lists.proofs.Members.{in_append_right}
-use Rattle.cp_model.specs.Message.{Key, asymmetric, inverse, key, Message, enc}
-use Rattle.cp_model.specs.Term.{Variable, PairTerm, akey_variable, pubk_term, KeyTerm, symmetric_term, asymmetric_term, key_term, inverse_term, Term, tag_term, atom_term, pair_term, enc_term, atom_of_variable, variables_of, Assignment, flag_of, value_of, value_of_key, value_of_half, value_of_atom}
+use Rattle.cp_model.specs.Message.{Key, asymmetric, inverse, key, Message, enc, atom}
+use Rattle.cp_model.specs.Term.{PairTerm, akey_variable, pubk_term, KeyTerm, symmetric_term, asymmetric_term, key_term, inverse_term, Term, tag_term, atom_term, pair_term, enc_term, variable_term, variables_of, Assignment, flag_of, value_of, value_of_key, value_of_half}
+use Rattle.cp_model.specs.declared.variable.Variable.{Variable}
 use Rattle.cp_model.specs.Identity.{unchanged}
-use Rattle.cp_model.specs.Strand.{recv, Protocol}
+use Rattle.cp_model.specs.Strand.{Protocol}
+use Rattle.cp_model.specs.declared.strand.Event.TheVariants.{Receive as recv}
 use Rattle.cp_model.specs.KeyMessage.{key_message}
 use Rattle.cp_model.specs.Bundle.{node_at, event_at, Bundle, Precedes}
 use Rattle.cp_model.specs.declared.node.Node.{Node}
 use Rattle.cp_model.specs.Skeleton.{SkeletonStrand, Skeleton}
 use Rattle.cp_model.specs.Standing.{Standing, image_on, image_of}
 use Rattle.cp_model.specs.Tree.{Pattern}
-use Rattle.cp_model.proofs.LawAgreement.{agree_atom_value}
+use Rattle.cp_model.proofs.LawAgreement.{agree_value}
 use Rattle.cp_theory.specs.AuthenticationTest.{IsEncrypted, IsDecrypted}
 use Rattle.cp_theory.specs.Matches.{IsFreeIn, MatchesMessage}
 use Rattle.cp_theory.specs.Guards.{HoldsNoLocalInItsKey}
@@ -45,10 +47,10 @@ record PatternKey (p : Pattern) (g : Assignment) (k : Key) : Type 0 where
   same : value_of_key g key ≡ k
 
 same_key : (p : Pattern) (g f : Assignment) (body : Term) (kt : KeyTerm) → p.term ≡ enc_term body kt → HoldsNoLocalInItsKey p →
-    ((x : Variable) → IsFreeIn x p → value_of_atom f (atom_of_variable x) ≡ value_of_atom g (atom_of_variable x)) → value_of_key f kt ≡ value_of_key g kt
+    ((x : Variable) → IsFreeIn x p → value_of f (variable_term x) ≡ value_of g (variable_term x)) → value_of_key f kt ≡ value_of_key g kt
 same_key p g f body kt e holds as_said =
-    let both : key (value_of_key f kt) ≡ key (value_of_key g kt) =
-    agree_atom_value f g (key_term kt) (λ x i. as_said x (record { occurs = subst (λ (t : Term). IsIn x (variables_of t)) (sym e) (in_append_right (variables_of body) i); no_local = holds body kt x e i })) in
+    let both : atom (key (value_of_key f kt)) ≡ atom (key (value_of_key g kt)) =
+    agree_value f g (atom_term (key_term kt)) (λ x i. as_said x (record { occurs = subst (λ (t : Term). IsIn x (variables_of t)) (sym e) (in_append_right (variables_of body) i); no_local = holds body kt x e i })) in
     cc
 
 pattern_key : (p : Pattern) (g : Assignment) (m : Message) (k : Key) (body : Term) (kt : KeyTerm) → p.term ≡ enc_term body kt → HoldsNoLocalInItsKey p → MatchesMessage p g (enc m k) → PatternKey p g k

@@ -13,7 +13,7 @@ use Rattle.cp_model.specs.Composition.{through}
 use Rattle.cp_model.specs.Problem.{numbers_from}
 use Rattle.cp_model.specs.Tree.{Label, shapes_of, skeletons_left}
 use Rattle.cp_model.proofs.LawStandings.{standing_through}
-use Rattle.cp_model.proofs.Numbers.{number_from}
+use Rattle.cp_model.proofs.NumbersFrom.{number_from}
 use Rattle.cp_theory.proofs.Embedded.{apart_through, factors_after}
 use Rattle.cp_theory.specs.Lawful.{PassesOn, skeletons_at, IsEdgeOf, IsLeft, IsLawful, IsWithinLimits}
 use Rattle.cp_theory.proofs.Left.{left_listed, left_are_shapes, label_among}

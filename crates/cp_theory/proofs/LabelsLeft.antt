@@ -2,7 +2,9 @@
 use Rattle.std.proofs.Common.{◌≡◌, ℕ, zero, suc, List, [], ◌∷◌, Option, Some, None, refl, subst}
 use Rattle.cp_lists.specs.Lists.{item_at, IsIn, there}
 use Rattle.cp_model.specs.Skeleton.{Skeleton}
-use Rattle.cp_model.specs.Tree.{Mark, shape, dead, seen, instance_of, limit_steps, limit_strands, Label, if_shape, if_left, skeletons_left}
+use Rattle.cp_model.specs.Tree.{Label, if_shape, if_left, skeletons_left}
+use Rattle.cp_model.specs.declared.tree.Mark.{Mark}
+use Rattle.cp_model.specs.declared.tree.Mark.TheVariants.{Shape as shape, Dead as dead, Seen as seen, InstanceOf as instance_of, LimitSteps as limit_steps, LimitStrands as limit_strands}
 
 left_behind : (mark : Option Mark) (k l : Skeleton) (ks : List Skeleton) → IsIn l ks → IsIn l (if_left mark k ks)
 left_behind None k l ks i = i

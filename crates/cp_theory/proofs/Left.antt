@@ -3,7 +3,8 @@ use Rattle.std.proofs.Common.{◌≡◌, ℕ, List, [], ◌∷◌, Option, Some,
 use Rattle.cp_lists.specs.Lists.{item_at, IsIn, here, there}
 use Rattle.cp_lists.proofs.Members.{head_or_behind, not_in_none}
 use Rattle.cp_model.specs.Skeleton.{Skeleton}
-use Rattle.cp_model.specs.Tree.{Mark, Label, if_shape, shapes_of, if_left, skeletons_left}
+use Rattle.cp_model.specs.Tree.{Label, if_shape, shapes_of, if_left, skeletons_left}
+use Rattle.cp_model.specs.declared.tree.Mark.{Mark}
 use Rattle.cp_theory.proofs.LabelsLeft.{listed_where_left, left_is_shape}
 use Rattle.cp_theory.specs.Lawful.{with_label, skeletons_at, IsLeft, at_shape, at_step_bound, at_strand_bound, IsWithinLimits}
 

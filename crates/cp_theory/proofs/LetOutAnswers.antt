@@ -4,9 +4,11 @@ use Rattle.cp_lists.specs.Lists.{item_at, IsIn, here, there, one_step}
 use Rattle.cp_lists.proofs.Members.{not_in_none, only_item, head_or_behind}
 use Rattle.std.proofs.Common.{⊎_elim}
 use Rattle.cp_model.specs.Message.{symmetric, key, atom, itself, in_plaintext}
-use Rattle.cp_model.specs.Term.{KeyTerm, inverse_term, skey_sort, skey_variable, symmetric_term, text_variable, key_term, Term, atom_term, enc_term, Assignment, value_of, value_of_atom, Substitution, composed}
+use Rattle.cp_model.specs.Term.{KeyTerm, inverse_term, skey_variable, symmetric_term, text_variable, key_term, Term, atom_term, enc_term, Assignment, value_of, value_of_atom, Substitution, composed}
+use Rattle.cp_model.specs.declared.sort.Sort.TheVariants.{Skey as skey_sort}
 use Rattle.cp_model.specs.Identity.{unchanged}
-use Rattle.cp_model.specs.Strand.{send, recv, Role}
+use Rattle.cp_model.specs.Strand.{Role}
+use Rattle.cp_model.specs.declared.strand.Event.TheVariants.{Send as send, Receive as recv}
 use Rattle.cp_model.specs.Bundle.{node_at, OriginatesAt, Bundle}
 use Rattle.cp_model.specs.declared.node.Node.{Node}
 use Rattle.cp_model.specs.Skeleton.{instance, listener, term_event_at, Skeleton, Before, along_pair}
@@ -121,7 +123,7 @@ same_keys path g inside =
     let pattern : inside.protected.pattern ≡ sent_encryption = only_item inside.protected.listed in
     let free : IsFreeIn (record { sort = skey_sort; number = 1 }) inside.protected.pattern = subst (IsFreeIn (record { sort = skey_sort; number = 1 })) (sym pattern) (record { occurs = there here; no_local = not_in_none }) in
     let f = inside.protected.matches.filled in
-    let said : key (symmetric (f.skeys 1)) ≡ key (symmetric (g.skeys 1)) = inside.protected.matches.as_said (record { sort = skey_sort; number = 1 }) free in
+    let said : atom (key (symmetric (f.skeys 1))) ≡ atom (key (symmetric (g.skeys 1))) = inside.protected.matches.as_said (record { sort = skey_sort; number = 1 }) free in
     let value : value_of f locked ≡ value_of g (enc_term secret (symmetric_term (skey_variable 3))) =
     ap (λ (q : Pattern). value_of f q.term) (sym pattern) ∙ inside.protected.matches.same ∙ ap (value_of g) encryption in
     cc

@@ -2,9 +2,11 @@
 use Rattle.std.proofs.Common.{◌≡◌, ◌≢◌, ℕ, zero, suc, ◌+◌, ◌<◌, List, [], ◌∷◌, Some, refl, sym, ap, subst, ◌⊎◌, inl, inr, ⊎_elim, arith}
 use Rattle.cp_lists.specs.Lists.{item_at, IsIn, here, there, one_step, more_steps}
 use Rattle.cp_lists.proofs.Members.{not_in_none, only_item}
-use Rattle.cp_model.specs.Term.{AtomTerm, text_variable, KeyTerm, key_term, inverse_term, Term, tag_term, atom_term, pair_term, enc_term, itself_term, in_plaintext_term, Substitution, Variable, variables_of}
+use Rattle.cp_model.specs.Term.{AtomTerm, text_variable, KeyTerm, key_term, inverse_term, Term, tag_term, atom_term, pair_term, enc_term, itself_term, in_plaintext_term, Substitution, variables_of}
+use Rattle.cp_model.specs.declared.variable.Variable.{Variable}
 use Rattle.cp_model.specs.Identity.{unchanged}
-use Rattle.cp_model.specs.Strand.{send, Role, IsHeight}
+use Rattle.cp_model.specs.Strand.{Role, IsHeight}
+use Rattle.cp_model.specs.declared.strand.Event.TheVariants.{Send as send}
 use Rattle.cp_model.specs.Bundle.{node_at}
 use Rattle.cp_model.specs.declared.node.Node.{Node}
 use Rattle.cp_model.specs.declared.node.OrderPair.{OrderPair}
@@ -100,17 +102,8 @@ pub let_out_test : IsTest let_out reception secret
 let_out_test = whole_test let_out reception secret refl (λ a b e. cc) (λ d. (keeps d).0 refl)
 
 -- The pattern guards it.
-one_sort : (x y : Variable) → IsIn x (variables_of locked) → IsIn y (variables_of locked) → x.number ≡ y.number → x.sort ≡ y.sort
-one_sort x y here here e = refl
-one_sort x y here (there here) e = absurd (omega (arith, e))
-one_sort x y (there here) here e = absurd (omega (arith, e))
-one_sort x y (there here) (there here) e = refl
-one_sort x y (there (there i)) j e = absurd (not_in_none i)
-one_sort x y here (there (there j)) e = absurd (not_in_none j)
-one_sort x y (there here) (there (there j)) e = absurd (not_in_none j)
-
 is_pattern : IsPattern sent_encryption
-is_pattern = record { encryption = record { body = secret; key = shared; encrypted = refl }; locals_occur = λ x i. absurd (not_in_none i); one_sort = one_sort }
+is_pattern = record { encryption = record { body = secret; key = shared; encrypted = refl }; locals_occur = λ x i. absurd (not_in_none i) }
 
 used_there : (x : Variable) → IsIn x (variables_of locked) → IsIn x (used_variables let_out)
 used_there x here = here

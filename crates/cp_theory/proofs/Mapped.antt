@@ -1,8 +1,12 @@
 -- A skeleton that carries a homomorphism from its problem carries one under a substitution, and with more pairs.
 use Rattle.std.proofs.Common.{◌≡◌, ℕ, zero, suc, ◌+◌, List, [], ◌∷◌, ◌++◌, Option, Some, map, refl, sym, ap, ap₂, ◌∙◌, subst, arith, le_refl}
 use Rattle.cp_lists.specs.Lists.{item_at, IsIn, here, there, one_step, more_steps}
-use Rattle.cp_model.specs.Term.{Sort, text_sort, datum_sort, name_sort, skey_sort, akey_sort, Variable, symmetric_term, asymmetric_term, AtomTerm, text_variable, datum_variable, name_variable, key_term, atom_of_variable, Term, atom_term, variables_of, Substitution, apply_to_atom, apply_to, composed, AgreeOnTerms}
-use Rattle.cp_model.specs.Strand.{Role, Declaration, prefix_of}
+use Rattle.cp_model.specs.Term.{symmetric_term, asymmetric_term, AtomTerm, text_variable, datum_variable, name_variable, key_term, variable_term, Term, atom_term, variables_of, Substitution, apply_to_atom, apply_to, composed, AgreeOnTerms}
+use Rattle.cp_model.specs.declared.sort.Sort.{Sort}
+use Rattle.cp_model.specs.declared.sort.Sort.TheVariants.{Text as text_sort, Datum as datum_sort, Name as name_sort, Skey as skey_sort, Akey as akey_sort}
+use Rattle.cp_model.specs.declared.variable.Variable.{Variable}
+use Rattle.cp_model.specs.Strand.{Role, prefix_of}
+use Rattle.cp_model.specs.declared.variable.Declaration.{Declaration}
 use Rattle.cp_model.specs.Bundle.{node_at}
 use Rattle.cp_model.specs.declared.node.Node.{Node}
 use Rattle.cp_model.specs.Skeleton.{instance, listener, Skeleton, OrderStep, along_strand_of, along_pair, Before}
@@ -12,7 +16,7 @@ use Rattle.cp_model.specs.Problem.{variables_of_strands, variables_of_atoms, var
 use Rattle.cp_model.specs.PointOfView.{MapsToItself}
 use Rattle.cp_lists.proofs.Members.{in_append_left, in_append_right, into_map}
 use Rattle.cp_lists.proofs.Items.{map_of_item}
-use Rattle.cp_model.proofs.LawTerms.{atom_composed}
+use Rattle.cp_model.proofs.LawTerms.{term_composed}
 use Rattle.cp_model.proofs.LawAgreement.{agree_atom, agree_term}
 use Rattle.cp_model.proofs.LawOrder.{before_wider}
 use Rattle.cp_model.proofs.DeclaredVariables.{declared_at}
@@ -23,10 +27,10 @@ use Rattle.cp_theory.proofs.Skeletons.{event_under}
 
 -- A homomorphism whose substitution is changed where no variable of the skeleton is.
 module _ (a b : Skeleton) (strands : ℕ → ℕ) (s t : Substitution) (agree : AgreeOnTerms (variables_of_skeleton a) s t) (hom : IsHomomorphism a b (record { strands = strands; terms = s })) where
-  agree_strands : (x : Variable) → IsIn x (variables_of_strands a.strands) → apply_to_atom s (atom_of_variable x) ≡ apply_to_atom t (atom_of_variable x)
+  agree_strands : (x : Variable) → IsIn x (variables_of_strands a.strands) → apply_to s (variable_term x) ≡ apply_to t (variable_term x)
   agree_strands x p = agree x (in_append_left (variables_of_assumptions a.assumptions) p)
 
-  agree_assumptions : (x : Variable) → IsIn x (variables_of_assumptions a.assumptions) → apply_to_atom s (atom_of_variable x) ≡ apply_to_atom t (atom_of_variable x)
+  agree_assumptions : (x : Variable) → IsIn x (variables_of_assumptions a.assumptions) → apply_to s (variable_term x) ≡ apply_to t (variable_term x)
   agree_assumptions x p = agree x (in_append_right (variables_of_strands a.strands) p)
 
   instance_changed : (c : ℕ) (role : Role) (height : ℕ) (terms : Substitution) → item_at a.strands c ≡ Some (instance role height terms) → GoesToInstance b (record { strands = strands; terms = s }) c role height terms →
@@ -37,9 +41,9 @@ module _ (a b : Skeleton) (strands : ℕ → ℕ) (s t : Substitution) (agree : 
     on_instance = g.on_instance;
     at_least = g.at_least;
     equal_terms = λ x inx.
-        atom_composed terms t (atom_of_variable x)
-        ∙ sym (agree_atom s t (apply_to_atom terms (atom_of_variable x)) (λ y iny. agree_strands y (in_strands a.strands c (instance role height terms) y at (in_trace_under terms (prefix_of role height) x y inx iny))))
-        ∙ sym (atom_composed terms s (atom_of_variable x))
+        term_composed terms t (variable_term x)
+        ∙ sym (agree_term s t (apply_to terms (variable_term x)) (λ y iny. agree_strands y (in_strands a.strands c (instance role height terms) y at (in_trace_under terms (prefix_of role height) x y inx iny))))
+        ∙ sym (term_composed terms s (variable_term x))
         ∙ g.equal_terms x inx;
   }
 
@@ -88,30 +92,30 @@ to_under s k = record {
 }
 
 -- The substitution by terms gives a variable what stands at its number.
-by_item : (r : Substitution) (ts : List Term) (sort : Sort) (n : ℕ) → item_at ts n ≡ Some (atom_term (apply_to_atom r (atom_of_variable (record { sort = sort; number = n })))) →
-    apply_to_atom (substitution_by ts) (atom_of_variable (record { sort = sort; number = n })) ≡ apply_to_atom r (atom_of_variable (record { sort = sort; number = n }))
-by_item r ts text_sort n e = ap (λ (o : Option Term). text_variable (text_in n o)) e
-by_item r ts datum_sort n e = ap (λ (o : Option Term). datum_variable (datum_in n o)) e
-by_item r ts name_sort n e = ap (λ (o : Option Term). name_variable (name_in n o)) e
-by_item r ts skey_sort n e = ap (λ (o : Option Term). key_term (symmetric_term (skey_in n o))) e
-by_item r ts akey_sort n e = ap (λ (o : Option Term). key_term (asymmetric_term (akey_in n o).0 (akey_in n o).1)) e
+by_item : (r : Substitution) (ts : List Term) (sort : Sort) (n : ℕ) → item_at ts n ≡ Some (apply_to r (variable_term (record { sort = sort; number = n }))) →
+    apply_to (substitution_by ts) (variable_term (record { sort = sort; number = n })) ≡ apply_to r (variable_term (record { sort = sort; number = n }))
+by_item r ts text_sort n e = ap (λ (o : Option Term). atom_term (text_variable (text_in n o))) e
+by_item r ts datum_sort n e = ap (λ (o : Option Term). atom_term (datum_variable (datum_in n o))) e
+by_item r ts name_sort n e = ap (λ (o : Option Term). atom_term (name_variable (name_in n o))) e
+by_item r ts skey_sort n e = ap (λ (o : Option Term). atom_term (key_term (symmetric_term (skey_in n o)))) e
+by_item r ts akey_sort n e = ap (λ (o : Option Term). atom_term (key_term (asymmetric_term (akey_in n o).0 (akey_in n o).1))) e
 
 -- Each term of declared variables is one of them.
 record IsOneOf (ds : List Declaration) (n : ℕ) (t : Term) : Type 0 where
   place : ℕ
   sort : Sort
   declared : declared_sort (item_at ds place) ≡ Some sort
-  same : t ≡ atom_term (atom_of_variable (record { sort = sort; number = n + place }))
+  same : t ≡ variable_term (record { sort = sort; number = n + place })
 
 one_of : (n : ℕ) (ds : List Declaration) (t : Term) → IsIn t (variable_terms n ds) → IsOneOf ds n t
 one_of n [] t p = elim p [ ]
 one_of n (d ∷ ds) t here =
     let q : n ≡ n + zero = omega arith in
-    record { place = zero; sort = d.sort; declared = refl; same = ap (λ (m : ℕ). atom_term (atom_of_variable (record { sort = d.sort; number = m }))) q }
+    record { place = zero; sort = d.sort; declared = refl; same = ap (λ (m : ℕ). variable_term (record { sort = d.sort; number = m })) q }
 one_of n (d ∷ ds) t (there p) =
     let r = one_of (suc n) ds t p in
     let q : suc n + r.place ≡ n + suc r.place = omega arith in
-    record { place = suc r.place; sort = r.sort; declared = r.declared; same = r.same ∙ ap (λ (m : ℕ). atom_term (atom_of_variable (record { sort = r.sort; number = m }))) q }
+    record { place = suc r.place; sort = r.sort; declared = r.declared; same = r.same ∙ ap (λ (m : ℕ). variable_term (record { sort = r.sort; number = m })) q }
 
 each_same : (f g h : Term → Term) (ts : List Term) → ((t : Term) → IsIn t ts → f t ≡ g (h t)) → map f ts ≡ map g (map h ts)
 each_same f g h [] e = refl
@@ -127,22 +131,22 @@ module _ (variables : List Declaration) (problem k : Skeleton) (s : Substitution
   values : map (apply_to before) (variable_terms 0 variables) ≡ k.from_problem.values
   values = ap (map (apply_to before)) (sym own.values) ∙ carries.values
 
-  pub agree_declared : (x : Variable) → IsDeclared variables x → apply_to_atom (composed before s) (atom_of_variable x) ≡ apply_to_atom after_all (atom_of_variable x)
+  pub agree_declared : (x : Variable) → IsDeclared variables x → apply_to (composed before s) (variable_term x) ≡ apply_to after_all (variable_term x)
   agree_declared x is =
-      let old : item_at k.from_problem.values x.number ≡ Some (apply_to before (atom_term (atom_of_variable x))) =
-      subst (λ (ts : List Term). item_at ts x.number ≡ Some (apply_to before (atom_term (atom_of_variable x)))) values (map_of_item (apply_to before) (variable_terms 0 variables) x.number (atom_term (atom_of_variable x)) (declared_at variables x is)) in
-      let new : item_at (map (apply_to s) k.from_problem.values) x.number ≡ Some (apply_to s (apply_to before (atom_term (atom_of_variable x)))) =
-      map_of_item (apply_to s) k.from_problem.values x.number (apply_to before (atom_term (atom_of_variable x))) old in
-      sym (by_item (composed before s) (map (apply_to s) k.from_problem.values) x.sort x.number (new ∙ ap (λ (w : AtomTerm). Some (atom_term w)) (sym (atom_composed before s (atom_of_variable x)))))
+      let old : item_at k.from_problem.values x.number ≡ Some (apply_to before (variable_term x)) =
+      subst (λ (ts : List Term). item_at ts x.number ≡ Some (apply_to before (variable_term x))) values (map_of_item (apply_to before) (variable_terms 0 variables) x.number (variable_term x) (declared_at variables x is)) in
+      let new : item_at (map (apply_to s) k.from_problem.values) x.number ≡ Some (apply_to s (apply_to before (variable_term x))) =
+      map_of_item (apply_to s) k.from_problem.values x.number (apply_to before (variable_term x)) old in
+      sym (by_item (composed before s) (map (apply_to s) k.from_problem.values) x.sort x.number (new ∙ ap Some (sym (term_composed before s (variable_term x)))))
 
   value_changed : (t : Term) → IsIn t (variable_terms 0 variables) → apply_to after_all t ≡ apply_to s (apply_to before t)
   value_changed t p =
       let r = one_of 0 variables t p in
       let q : 0 + r.place ≡ r.place = omega arith in
       let x : Variable = record { sort = r.sort; number = r.place } in
-      let same : t ≡ atom_term (atom_of_variable x) = r.same ∙ ap (λ (m : ℕ). atom_term (atom_of_variable (record { sort = r.sort; number = m }))) q in
+      let same : t ≡ variable_term x = r.same ∙ ap (λ (m : ℕ). variable_term (record { sort = r.sort; number = m })) q in
       ap (apply_to after_all) same
-      ∙ ap atom_term (sym (agree_declared x r.declared) ∙ atom_composed before s (atom_of_variable x))
+      ∙ (sym (agree_declared x r.declared) ∙ term_composed before s (variable_term x))
       ∙ ap (λ (u : Term). apply_to s (apply_to before u)) (sym same)
 
   pub carried_under : CarriesHomomorphism problem (skeleton_under s k)

@@ -3,7 +3,9 @@ use Rattle.std.proofs.Common.{◌≡◌, ℕ, suc, ◌<◌, List, Some, sym, ◌
 use Rattle.cp_lists.specs.Lists.{item_at, IsIn}
 use Rattle.cp_model.specs.Message.{Message}
 use Rattle.cp_model.specs.Term.{Assignment}
-use Rattle.cp_model.specs.Strand.{Event, send, recv, Role, IsHeight, Protocol, Strand, regular}
+use Rattle.cp_model.specs.Strand.{Role, IsHeight, Protocol, Strand, regular}
+use Rattle.cp_model.specs.declared.strand.Event.{Event}
+use Rattle.cp_model.specs.declared.strand.Event.TheVariants.{Send as send, Receive as recv}
 use Rattle.cp_model.specs.Bundle.{node_at, event_at, KeepsRole, AreOfProtocol, Bundle, BundleStep, along_strand, along_link, IsBundle}
 use Rattle.cp_model.specs.declared.node.Node.{Node}
 

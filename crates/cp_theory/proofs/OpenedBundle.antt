@@ -3,7 +3,9 @@ use Rattle.std.proofs.Common.{◌≡◌, ◌≢◌, ℕ, zero, suc, ◌+◌, ◌
 use Rattle.cp_lists.specs.Lists.{item_at, IsIn, here, there, one_step}
 use Rattle.cp_model.specs.Message.{Atom, key, Message, atom}
 use Rattle.cp_model.specs.Term.{Assignment}
-use Rattle.cp_model.specs.Strand.{Event, send, recv, payload, Role, create_tag, create_atom, regular, penetrator}
+use Rattle.cp_model.specs.Strand.{payload, Role, create_tag, create_atom, regular, penetrator}
+use Rattle.cp_model.specs.declared.strand.Event.{Event}
+use Rattle.cp_model.specs.declared.strand.Event.TheVariants.{Send as send, Receive as recv}
 use Rattle.cp_model.specs.KeyMessage.{key_message}
 use Rattle.cp_model.specs.Bundle.{node_at, event_at, KeepsRole, AreOfProtocol, along_link, IsBundle}
 use Rattle.cp_model.specs.declared.node.Node.{Node}

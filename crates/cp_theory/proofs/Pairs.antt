@@ -2,7 +2,8 @@
 use Rattle.std.proofs.Common.{◌≡◌, ◌≢◌, ℕ, suc, ◌<◌, ◌≤◌, List, Option, Some, None, refl, sym, ◌∙◌, subst, ◌⊎◌, inl, inr, arith}
 use Rattle.cp_lists.specs.Lists.{item_at, IsIn, one_step, more_steps}
 use Rattle.cp_model.specs.Term.{Term, Substitution}
-use Rattle.cp_model.specs.Strand.{Event, Role, Protocol}
+use Rattle.cp_model.specs.Strand.{Role, Protocol}
+use Rattle.cp_model.specs.declared.strand.Event.{Event}
 use Rattle.cp_model.specs.Bundle.{node_at, Bundle, Precedes, along_strand, IsBundle}
 use Rattle.cp_model.specs.declared.node.Node.{Node}
 use Rattle.cp_model.specs.Skeleton.{SkeletonStrand, instance, listener, skeleton_trace_or_none, Skeleton, OrderStep, along_strand_of, along_pair, Before, IsSkeleton}

@@ -4,8 +4,11 @@ use Rattle.cp_lists.specs.Lists.{item_at, IsIn, one_step, more_steps}
 use Rattle.cp_lists.proofs.Members.{in_append_left, in_append_right}
 use Rattle.cp_lists.proofs.Items.{item_of_map, item_of_take, item_before}
 use Rattle.cp_model.specs.Message.{Message}
-use Rattle.cp_model.specs.Term.{Variable, Term, tag_term, atom_term, pair_term, enc_term, variables_of, variables_of_key, Assignment, value_of, Substitution, apply_to}
-use Rattle.cp_model.specs.Strand.{Event, send, recv, event_map, Role, prefix_of, Strand, regular, trace_of, Protocol}
+use Rattle.cp_model.specs.Term.{Term, tag_term, atom_term, pair_term, enc_term, variables_of, variables_of_key, Assignment, value_of, Substitution, apply_to}
+use Rattle.cp_model.specs.declared.variable.Variable.{Variable}
+use Rattle.cp_model.specs.Strand.{event_map, Role, prefix_of, Strand, regular, trace_of, Protocol}
+use Rattle.cp_model.specs.declared.strand.Event.{Event}
+use Rattle.cp_model.specs.declared.strand.Event.TheVariants.{Send as send, Receive as recv}
 use Rattle.cp_model.specs.Bundle.{node_at, trace_or_none, event_at}
 use Rattle.cp_model.specs.declared.node.Node.{Node}
 use Rattle.cp_model.specs.Skeleton.{IsNodeOf, skeleton_trace_or_none, Skeleton, OrderStep, along_strand_of, along_pair, Before, IsSkeleton}

@@ -3,9 +3,10 @@ use Rattle.std.proofs.Common.{◌≡◌, List, [], ◌∷◌, Some, Bool, true, 
 use Rattle.cp_lists.specs.Lists.{IsIn, here, there}
 use Rattle.cp_lists.proofs.Members.{head_or_behind, not_in_none}
 use Rattle.cp_model.specs.Message.{Key, Message, pair, enc}
-use Rattle.cp_model.specs.Term.{Variable, KeyTerm, Term, tag_term, atom_term, pair_term, enc_term, atom_of_variable, Assignment, value_of, value_of_key, value_of_atom, after, Substitution}
+use Rattle.cp_model.specs.Term.{KeyTerm, Term, tag_term, atom_term, pair_term, enc_term, variable_term, Assignment, value_of, value_of_key, after, Substitution}
+use Rattle.cp_model.specs.declared.variable.Variable.{Variable}
 use Rattle.cp_model.specs.Tree.{Pattern}
-use Rattle.cp_model.proofs.LawTerms.{atom_after, value_after}
+use Rattle.cp_model.proofs.LawTerms.{value_after, value_after}
 use Rattle.cp_model.proofs.CarriedParts.{not_both}
 use Rattle.cp_model.specs.declared.step.Step.{Step}
 use Rattle.cp_model.specs.declared.step.Step.TheVariants.{Left, Right, Plaintext}
@@ -95,7 +96,7 @@ module _ (protects : Message → Key → Bool) (g : Assignment) where
 
 -- The assignments give the other variables of the patterns the same values.
 abbrev pub AgreeOnFree : List Pattern → Assignment → Assignment → Type 0
-AgreeOnFree ps f g = (p : Pattern) (x : Variable) → IsIn p ps → IsFreeIn x p → value_of_atom f (atom_of_variable x) ≡ value_of_atom g (atom_of_variable x)
+AgreeOnFree ps f g = (p : Pattern) (x : Variable) → IsIn p ps → IsFreeIn x p → value_of f (variable_term x) ≡ value_of g (variable_term x)
 
 pub protected_alike : (ps : List Pattern) (f g : Assignment) (m : Message) → AgreeOnFree ps f g → IsProtected ps f m → IsProtected ps g m
 protected_alike ps f g m agree p = record {
@@ -112,7 +113,7 @@ protected_alike ps f g m agree p = record {
 pub value_matches : (p : Pattern) (s : Substitution) (g : Assignment) (t : Term) → Matches p s t → MatchesMessage p (after g s) (value_of g t)
 value_matches p s g t m = record {
   filled = after g m.filled;
-  as_said = λ x free. atom_after g m.filled (atom_of_variable x) ∙ ap (value_of_atom g) (m.as_said x free) ∙ sym (atom_after g s (atom_of_variable x));
+  as_said = λ x free. value_after g m.filled (variable_term x) ∙ ap (value_of g) (m.as_said x free) ∙ sym (value_after g s (variable_term x));
   same = value_after g m.filled p.term ∙ ap (value_of g) m.same;
 }
 

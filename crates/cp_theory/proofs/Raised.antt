@@ -3,14 +3,15 @@ use native.Mathlib.Decide.{ℕ_discrete}
 use Rattle.std.proofs.Common.{◌≡◌, ◌≢◌, ℕ, ◌≤◌, Option, Some, Bool, true, false, refl, sym, ap, ◌∙◌, subst, ◌⊎◌, inl, inr, ⊎_elim}
 use Rattle.cp_lists.specs.Lists.{item_at, IsIn}
 use Rattle.cp_model.specs.Message.{atom}
-use Rattle.cp_model.specs.Term.{Variable, atom_of_variable, Assignment, value_of_atom, after, AgreeOn, Substitution, AgreeOnTerms}
+use Rattle.cp_model.specs.Term.{variable_term, Assignment, value_of_atom, after, AgreeOn, Substitution, AgreeOnTerms, value_of}
+use Rattle.cp_model.specs.declared.variable.Variable.{Variable}
 use Rattle.cp_model.specs.Strand.{Role, Protocol, variables_of_prefix}
 use Rattle.cp_model.specs.Bundle.{KeepsUnique, Bundle, IsBundle}
 use Rattle.cp_model.specs.declared.node.Node.{Node}
 use Rattle.cp_model.specs.Skeleton.{SkeletonStrand, instance, UniqueAt, Skeleton}
 use Rattle.cp_model.specs.Standing.{Standing, image_on, image_of, StandsOnRegular, StandsIn, StandsApart}
 use Rattle.cp_model.specs.Same.{has_variable}
-use Rattle.cp_model.proofs.LawTerms.{atom_after}
+use Rattle.cp_model.proofs.LawTerms.{value_after}
 use Rattle.cp_model.proofs.SameTests.{variable_in, in_has_variable}
 use Rattle.cp_model.proofs.CarriedParts.{not_both}
 use Rattle.cp_model.specs.PrefixVariables.{added_variables, terms_of}
@@ -37,17 +38,17 @@ module _ (protocol : Protocol) (k e : Skeleton) (b : Bundle) (h : Standing) (is 
   agree : AgreeOn (used_variables k) h.values raised_values
   agree = old_values count (added_variables role before height) h.values st.to_values (used_variables k) below
 
-  old_equal : (x : Variable) → IsIn x (variables_of_prefix role before) → value_of_atom (after raised_values new) (atom_of_variable x) ≡ value_of_atom st.to_values (atom_of_variable x)
+  old_equal : (x : Variable) → IsIn x (variables_of_prefix role before) → value_of (after raised_values new) (variable_term x) ≡ value_of st.to_values (variable_term x)
   old_equal x i =
-      atom_after raised_values new (atom_of_variable x)
-      ∙ ap (value_of_atom raised_values) (sym (keeps x i))
-      ∙ sym (atom_after raised_values old (atom_of_variable x))
+      value_after raised_values new (variable_term x)
+      ∙ ap (value_of raised_values) (sym (keeps x i))
+      ∙ sym (value_after raised_values old (variable_term x))
       ∙ equal_by k b h raised (inside_strands k h.values raised_values agree) a role before old st.to_values was st.equal_values x i
 
-  new_equal : (x : Variable) → IsIn x (variables_of_prefix role height) → (IsIn x (variables_of_prefix role before) → ⊥) → value_of_atom (after raised_values new) (atom_of_variable x) ≡ value_of_atom st.to_values (atom_of_variable x)
+  new_equal : (x : Variable) → IsIn x (variables_of_prefix role height) → (IsIn x (variables_of_prefix role before) → ⊥) → value_of (after raised_values new) (variable_term x) ≡ value_of st.to_values (variable_term x)
   new_equal x i n = new_values new count (added_variables role before height) h.values st.to_values gives x ((in-added role x before height).1 (closed x i, i, n))
 
-  equal_by_test : (x : Variable) → IsIn x (variables_of_prefix role height) → (t : Bool) → has_variable (variables_of_prefix role before) x ≡ t → value_of_atom (after raised_values new) (atom_of_variable x) ≡ value_of_atom st.to_values (atom_of_variable x)
+  equal_by_test : (x : Variable) → IsIn x (variables_of_prefix role height) → (t : Bool) → has_variable (variables_of_prefix role before) x ≡ t → value_of (after raised_values new) (variable_term x) ≡ value_of st.to_values (variable_term x)
   equal_by_test x i true e = old_equal x (variable_in (variables_of_prefix role before) x e)
   equal_by_test x i false e = new_equal x i (λ j. not_both e (in_has_variable (variables_of_prefix role before) x j))
 

@@ -2,13 +2,12 @@
 use Rattle.std.proofs.Common.{◌≡◌, ℕ, List, map, Some, refl, sym, ap, ◌∙◌}
 use Rattle.cp_lists.specs.Lists.{item_at, IsIn}
 use Rattle.cp_lists.proofs.Mapped.{map_same, map_then}
-use Rattle.cp_model.specs.Message.{atom}
-use Rattle.cp_model.specs.Term.{AtomTerm, Term, atom_term, atom_of_variable, Assignment, value_of, value_of_atom, after, AgreeOn, Substitution, apply_to, apply_to_atom, composed}
+use Rattle.cp_model.specs.Term.{Term, Assignment, value_of, after, AgreeOn, Substitution, apply_to, composed, variable_term}
 use Rattle.cp_model.specs.Strand.{Protocol}
 use Rattle.cp_model.specs.Bundle.{Bundle, IsBundle}
 use Rattle.cp_model.specs.Skeleton.{SkeletonStrand, Skeleton}
 use Rattle.cp_model.specs.Standing.{Standing, StandsIn, StandsApart}
-use Rattle.cp_model.proofs.LawTerms.{atom_after, atom_composed, term_composed}
+use Rattle.cp_model.proofs.LawTerms.{term_composed, value_after}
 use Rattle.cp_theory.specs.Normal.{skeleton_under, IsSolution}
 use Rattle.cp_theory.proofs.Under.{stands_under, apart_under}
 use Rattle.cp_theory.specs.Critical.{used_variables}
@@ -27,17 +26,13 @@ pub record Reached (k : Skeleton) (b : Bundle) (h : Standing) (s : Substitution)
   pub problem_strands : l.from_problem.strands ≡ k.from_problem.strands
   pub problem_values : l.from_problem.values ≡ map (apply_to s) k.from_problem.values
 
--- What fits on terms fits on atoms.
-pub fits_atom : (g : Assignment) (t : Substitution) → ((u : Term) → value_of (after g t) u ≡ value_of g u) → (v : AtomTerm) → value_of_atom (after g t) v ≡ value_of_atom g v
-fits_atom g t fits v = let e : atom (value_of_atom (after g t) v) ≡ atom (value_of_atom g v) = fits (atom_term v) in cc
-
-further : (g : Assignment) (s t : Substitution) → ((u : Term) → value_of (after g t) u ≡ value_of g u) → (v : AtomTerm) → value_of_atom (after g s) v ≡ value_of_atom (after g (composed s t)) v
+further : (g : Assignment) (s t : Substitution) → ((u : Term) → value_of (after g t) u ≡ value_of g u) → (v : Term) → value_of (after g s) v ≡ value_of (after g (composed s t)) v
 further g s t fits v =
-    atom_after g s v
-    ∙ sym (fits_atom g t fits (apply_to_atom s v))
-    ∙ atom_after g t (apply_to_atom s v)
-    ∙ sym (ap (value_of_atom g) (atom_composed s t v))
-    ∙ sym (atom_after g (composed s t) v)
+    value_after g s v
+    ∙ sym (fits (apply_to s v))
+    ∙ value_after g t (apply_to s v)
+    ∙ sym (ap (value_of g) (term_composed s t v))
+    ∙ sym (value_after g (composed s t) v)
 
 further_values : (s t : Substitution) (ts us vs : List Term) → us ≡ map (apply_to s) ts → vs ≡ map (apply_to t) us → vs ≡ map (apply_to (composed s t)) ts
 further_values s t ts us vs first second = second ∙ ap (map (apply_to t)) first ∙ sym (map_then (apply_to s) (apply_to t) (apply_to (composed s t)) (term_composed s t) ts)
@@ -48,14 +43,14 @@ pub reached_under : (k : Skeleton) (b : Bundle) (h : Standing) (s : Substitution
 reached_under k b h s l g t r f =
     let to : Standing = record { nodes = g.nodes; values = f.values } in
     let solution : IsSolution to.values t l = record {
-      inside = λ x i. fits_atom f.values t f.fits (atom_of_variable x);
-      of_problem = λ x i. fits_atom f.values t f.fits (atom_of_variable x);
+      inside = λ x i. f.fits (variable_term x);
+      of_problem = λ x i. f.fits (variable_term x);
     } in
     record {
       stands = stands_under t l b to solution (stands_by_values l b g f.values f.same_inside r.stands);
       apart = apart_under t l to r.apart;
       nodes = r.nodes;
-      values = λ x i. r.values x i ∙ f.same_of_first x i ∙ further f.values s t f.fits (atom_of_variable x);
+      values = λ x i. r.values x i ∙ f.same_of_first x i ∙ further f.values s t f.fits (variable_term x);
       problem_strands = r.problem_strands;
       problem_values = further_values s t k.from_problem.values l.from_problem.values (map (apply_to t) l.from_problem.values) r.problem_values refl;
     }
@@ -67,7 +62,7 @@ reached_form k b h s l g forms r a = record {
   stands = a.stands;
   apart = a.apart;
   nodes = r.nodes;
-  values = λ x i. r.values x i ∙ further g.values s a.form.substitution a.fits (atom_of_variable x);
+  values = λ x i. r.values x i ∙ further g.values s a.form.substitution a.fits (variable_term x);
   problem_strands = a.problem_strands ∙ r.problem_strands;
   problem_values = further_values s a.form.substitution k.from_problem.values l.from_problem.values a.form.skeleton.from_problem.values r.problem_values a.problem_values;
 }

@@ -3,7 +3,9 @@
 use Rattle.std.proofs.Common.{◌≡◌, ℕ, zero, suc, ◌<◌, Option, Some, None, refl, sym, ◌∙◌, subst, ◌⊎◌, inl, inr, arith}
 use Rattle.cp_lists.specs.Lists.{item_at, one_step}
 use Rattle.cp_model.specs.Message.{Message}
-use Rattle.cp_model.specs.Strand.{Event, send, recv, payload, Protocol}
+use Rattle.cp_model.specs.Strand.{payload, Protocol}
+use Rattle.cp_model.specs.declared.strand.Event.{Event}
+use Rattle.cp_model.specs.declared.strand.Event.TheVariants.{Send as send, Receive as recv}
 use Rattle.cp_model.specs.Bundle.{node_at, event_at, Bundle, along_link, Precedes, IsBundle}
 use Rattle.cp_model.specs.declared.node.Node.{Node}
 use Rattle.cp_model.proofs.LawStandings.{bundle_climb}

@@ -2,16 +2,19 @@
 use Rattle.std.proofs.Common.{◌≡◌, ◌≢◌, ℕ, zero, suc, ◌+◌, ◌<◌, List, [], ◌∷◌, Some, refl, sym, ap, ◌∙◌, subst, le_refl, lt_trans, lt_irrefl, arith}
 use Rattle.cp_lists.specs.Lists.{item_at, IsIn, here, there, one_step, more_steps}
 use Rattle.cp_model.specs.Message.{text, Message, atom, itself}
-use Rattle.cp_model.specs.Term.{Variable, AtomTerm, text_variable, atom_of_variable, Term, atom_term, IsCarriedByTerm, itself_term, Assignment, value_of_atom, Substitution, apply_to_atom, after, AgreeOn}
+use Rattle.cp_model.specs.Term.{AtomTerm, text_variable, variable_term, Term, atom_term, IsCarriedByTerm, itself_term, Assignment, value_of_atom, Substitution, apply_to_atom, after, AgreeOn, value_of}
+use Rattle.cp_model.specs.declared.variable.Variable.{Variable}
 use Rattle.cp_model.specs.Identity.{unchanged}
-use Rattle.cp_model.specs.Strand.{Event, send, recv, payload, Role, IsHeight, regular}
+use Rattle.cp_model.specs.Strand.{payload, Role, IsHeight, regular}
+use Rattle.cp_model.specs.declared.strand.Event.{Event}
+use Rattle.cp_model.specs.declared.strand.Event.TheVariants.{Send as send, Receive as recv}
 use Rattle.cp_model.specs.Bundle.{node_at, event_at, OriginatesAt, KeepsUnique, KeepsRole, AreOfProtocol, IsBundle}
 use Rattle.cp_model.specs.declared.node.Node.{Node}
 use Rattle.cp_model.specs.Skeleton.{instance, term_event_at, UniqueAt, OrderStep, along_strand_of, along_pair, Before, IsOrigin, GivesAssumptions, IsSkeleton}
 use Rattle.cp_model.specs.Standing.{image_of, StandsOnRegular, StandsIn, StandsApart}
 use Rattle.cp_model.specs.Realisation.{OriginatesAtTerm}
 use Rattle.cp_model.specs.Problem.{variables_of_skeleton}
-use Rattle.cp_model.proofs.LawTerms.{atom_after, atom_unchanged}
+use Rattle.cp_model.proofs.LawTerms.{value_after, term_unchanged}
 use Rattle.cp_lists.proofs.Members.{only_item, not_in_none}
 use Rattle.cp_model.proofs.StrandParts.{two_instances, two_regulars, no_listener}
 use Rattle.cp_theory.proofs.Numbered.{IsOfRole, of_roles, is_numbered}
@@ -136,7 +139,7 @@ is_bundle = is_numbered protocol heard_and_said (λ n. n.strand + n.index) of_pr
 
 -- The standing.
 equal_values : (xs : List Variable) → AgreeOn xs (after zeros unchanged) zeros
-equal_values xs x inx = atom_after zeros unchanged (atom_of_variable x) ∙ ap (value_of_atom zeros) (atom_unchanged (atom_of_variable x))
+equal_values xs x inx = value_after zeros unchanged (variable_term x) ∙ ap (value_of zeros) (term_unchanged (variable_term x))
 
 pub stands : StandsIn two_say_it heard_and_said standing
 stands = record {
@@ -183,16 +186,16 @@ received_is : (j : ℕ) (t : Term) → j < 1 → term_event_at two_say_it.strand
 received_is zero t l e = cc
 received_is (suc j) t l e = absurd (omega arith)
 
-inside : (g : Assignment) → g.texts 1 ≡ g.texts 0 → (x : Variable) → IsIn x (variables_of_skeleton two_say_it) → value_of_atom (after g merging) (atom_of_variable x) ≡ value_of_atom g (atom_of_variable x)
+inside : (g : Assignment) → g.texts 1 ≡ g.texts 0 → (x : Variable) → IsIn x (variables_of_skeleton two_say_it) → value_of (after g merging) (variable_term x) ≡ value_of g (variable_term x)
 inside g e x here = refl
-inside g e x (there here) = ap text (sym e)
+inside g e x (there here) = ap (λ (m : ℕ). atom (text m)) (sym e)
 inside g e x (there (there here)) = refl
 inside g e x (there (there (there here))) = refl
 inside g e x (there (there (there (there p)))) = elim p [ ]
 
-of_problem : (g : Assignment) → g.texts 1 ≡ g.texts 0 → (x : Variable) → IsIn x (variables_of_terms two_say_it.from_problem.values) → value_of_atom (after g merging) (atom_of_variable x) ≡ value_of_atom g (atom_of_variable x)
+of_problem : (g : Assignment) → g.texts 1 ≡ g.texts 0 → (x : Variable) → IsIn x (variables_of_terms two_say_it.from_problem.values) → value_of (after g merging) (variable_term x) ≡ value_of g (variable_term x)
 of_problem g e x here = refl
-of_problem g e x (there here) = ap text (sym e)
+of_problem g e x (there here) = ap (λ (m : ℕ). atom (text m)) (sym e)
 of_problem g e x (there (there p)) = elim p [ ]
 
 pub branches : AreBranches two_say_it unique_text.value repeated (skeleton_under merging two_say_it ∷ [])

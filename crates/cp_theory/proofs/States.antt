@@ -3,7 +3,8 @@ use Rattle.std.proofs.Common.{◌∷◌, [], ◌++◌, le_refl, ◌≡◌, ℕ, 
 use Rattle.cp_lists.specs.Lists.{item_at, IsIn}
 use Rattle.cp_model.specs.Message.{Message}
 use Rattle.cp_model.specs.Term.{AtomTerm, Assignment, value_of, value_of_atom, after, atoms_by}
-use Rattle.cp_model.specs.Strand.{Event, Penetrator, create_atom, pairing, penetrator_trace, Strand, regular, penetrator, trace_of}
+use Rattle.cp_model.specs.Strand.{Penetrator, create_atom, pairing, penetrator_trace, Strand, regular, penetrator, trace_of}
+use Rattle.cp_model.specs.declared.strand.Event.{Event}
 use Rattle.cp_model.specs.Bundle.{node_at}
 use Rattle.cp_model.specs.declared.node.Node.{Node}
 use Rattle.cp_model.specs.Skeleton.{SkeletonStrand, instance, listener, Skeleton}

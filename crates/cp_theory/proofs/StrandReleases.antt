@@ -7,7 +7,9 @@ use Rattle.cp_lists.proofs.Mapped.{map_same}
 use Rattle.cp_model.specs.Message.{Key, Message}
 use Rattle.cp_model.specs.Term.{Term, Assignment, value_of, after, apply_to, Substitution, AgreeOnTerms}
 use Rattle.cp_model.specs.Identity.{unchanged}
-use Rattle.cp_model.specs.Strand.{Event, send, event_map, Role, Protocol, prefix_of, variables_of_prefix}
+use Rattle.cp_model.specs.Strand.{event_map, Role, Protocol, prefix_of, variables_of_prefix}
+use Rattle.cp_model.specs.declared.strand.Event.{Event}
+use Rattle.cp_model.specs.declared.strand.Event.TheVariants.{Send as send}
 use Rattle.cp_model.specs.Bundle.{node_at, event_at, Bundle, Precedes, IsBundle}
 use Rattle.cp_model.specs.declared.node.Node.{Node}
 use Rattle.cp_model.specs.Skeleton.{instance, term_event_at, FromProblem, Skeleton, Before, IsSkeleton, SkeletonStrand, listener, skeleton_trace_or_none}

@@ -3,7 +3,9 @@ use Rattle.std.proofs.Common.{◌≡◌, ℕ, zero, suc, ◌<◌, List, [], ◌�
 use Rattle.std.proofs.lemmas.Bool.{true_from_ne_false}
 use Rattle.cp_lists.specs.Lists.{item_at}
 use Rattle.cp_model.specs.Message.{Key, inverse, Atom, Message, tag, atom, pair, enc}
-use Rattle.cp_model.specs.Strand.{Event, send, recv, payload, Protocol, Penetrator, create_tag, create_atom, pairing, splitting, encryption, decryption, hearing, penetrator_trace, Strand, regular, penetrator}
+use Rattle.cp_model.specs.Strand.{payload, Protocol, Penetrator, create_tag, create_atom, pairing, splitting, encryption, decryption, hearing, penetrator_trace, Strand, regular, penetrator}
+use Rattle.cp_model.specs.declared.strand.Event.{Event}
+use Rattle.cp_model.specs.declared.strand.Event.TheVariants.{Send as send, Receive as recv}
 use Rattle.cp_model.specs.KeyMessage.{key_message}
 use Rattle.cp_model.specs.Bundle.{node_at, trace_or_none, event_at, Bundle, Precedes, IsBundle}
 use Rattle.cp_model.specs.declared.node.Node.{Node}

@@ -2,8 +2,10 @@
 use Rattle.std.proofs.Common.{◌≡◌, ℕ, ◌<◌, List, Some, Bool, sym, ap, ◌∙◌, subst}
 use Rattle.cp_lists.specs.Lists.{IsIn}
 use Rattle.cp_model.specs.Message.{Key, Message}
-use Rattle.cp_model.specs.Term.{Variable, Term, variables_of, value_of, after, Substitution, apply_to}
-use Rattle.cp_model.specs.Strand.{Event, payload, event_map}
+use Rattle.cp_model.specs.Term.{Term, variables_of, value_of, after, Substitution, apply_to}
+use Rattle.cp_model.specs.declared.variable.Variable.{Variable}
+use Rattle.cp_model.specs.Strand.{payload, event_map}
+use Rattle.cp_model.specs.declared.strand.Event.{Event}
 use Rattle.cp_model.specs.Bundle.{node_at, event_at, Bundle, IsBundle}
 use Rattle.cp_model.specs.Skeleton.{instance, term_event_at, Skeleton}
 use Rattle.cp_model.specs.Standing.{Standing}

@@ -2,8 +2,11 @@
 use Rattle.std.proofs.Common.{◌≡◌, ◌≢◌, ℕ, zero, suc, List, [], ◌∷◌, ◌++◌, Some, map, refl, sym, ap, ap₂, ◌∙◌, subst, subst₂}
 use Rattle.cp_lists.specs.Lists.{item_at, IsIn, one_step, more_steps}
 use Rattle.cp_model.specs.Message.{Atom, Message, atom}
-use Rattle.cp_model.specs.Term.{Variable, AtomTerm, atom_of_variable, Term, variables_of_atom, variables_of, Assignment, value_of, value_of_atom, Substitution, apply_to_atom, apply_to, after, composed, AgreeOn}
-use Rattle.cp_model.specs.Strand.{Event, send, recv, event_map, Role, prefix_of, variables_of_prefix}
+use Rattle.cp_model.specs.Term.{AtomTerm, variable_term, Term, variables_of_atom, variables_of, Assignment, value_of, value_of_atom, Substitution, apply_to_atom, apply_to, after, composed, AgreeOn}
+use Rattle.cp_model.specs.declared.variable.Variable.{Variable}
+use Rattle.cp_model.specs.Strand.{event_map, Role, prefix_of, variables_of_prefix}
+use Rattle.cp_model.specs.declared.strand.Event.{Event}
+use Rattle.cp_model.specs.declared.strand.Event.TheVariants.{Send as send, Receive as recv}
 use Rattle.cp_model.specs.Bundle.{node_at, event_at, KeepsNon, KeepsPenetratorNon, KeepsUnique, Bundle, Precedes}
 use Rattle.cp_model.specs.declared.node.Node.{Node}
 use Rattle.cp_model.specs.Skeleton.{SkeletonStrand, instance, listener, skeleton_trace, skeleton_trace_or_none, term_event_at, UniqueAt, Skeleton, OrderStep, along_strand_of, along_pair, Before}
@@ -12,7 +15,7 @@ use Rattle.cp_model.specs.Homomorphism.{FactorsThrough}
 use Rattle.cp_model.specs.Problem.{variables_of_strands, variables_of_atoms, variables_of_uniques, variables_of_assumptions}
 use Rattle.cp_lists.proofs.Members.{in_append_left, in_append_right, from_map}
 use Rattle.cp_lists.proofs.Items.{item_of_map}
-use Rattle.cp_model.proofs.LawTerms.{atom_after, value_after, atom_composed, term_composed}
+use Rattle.cp_model.proofs.LawTerms.{atom_after, value_after, term_composed}
 use Rattle.cp_theory.specs.Normal.{strand_under, unique_under, skeleton_under, variables_of_terms, IsSolution}
 use Rattle.cp_model.proofs.LawAgreement.{agree_atom_value, agree_value}
 use Rattle.cp_model.proofs.OccurringVariables.{in_trace_under, in_strands, in_atoms, in_uniques}
@@ -77,10 +80,10 @@ module _ (s : Substitution) (k : Skeleton) (b : Bundle) (h : Standing) (solution
   g = h.values
 
   -- Values under the substitution are the values.
-  agree_strands : (x : Variable) → IsIn x (variables_of_strands k.strands) → value_of_atom (after g s) (atom_of_variable x) ≡ value_of_atom g (atom_of_variable x)
+  agree_strands : (x : Variable) → IsIn x (variables_of_strands k.strands) → value_of (after g s) (variable_term x) ≡ value_of g (variable_term x)
   agree_strands x p = solution.inside x (in_append_left (variables_of_assumptions k.assumptions) p)
 
-  agree_assumptions : (x : Variable) → IsIn x (variables_of_assumptions k.assumptions) → value_of_atom (after g s) (atom_of_variable x) ≡ value_of_atom g (atom_of_variable x)
+  agree_assumptions : (x : Variable) → IsIn x (variables_of_assumptions k.assumptions) → value_of (after g s) (variable_term x) ≡ value_of g (variable_term x)
   agree_assumptions x p = solution.inside x (in_append_right (variables_of_strands k.strands) p)
 
   same_atom : (v : AtomTerm) → AgreeOn (variables_of_atom v) (after g s) g → value_of_atom g (apply_to_atom s v) ≡ value_of_atom g v
@@ -96,10 +99,10 @@ module _ (s : Substitution) (k : Skeleton) (b : Bundle) (h : Standing) (solution
 
   instance_under : (a : ℕ) (role : Role) (height : ℕ) (terms : Substitution) → item_at k.strands a ≡ Some (instance role height terms) → StandsOnRegular b h a role height terms → StandsOnRegular b h a role height (composed terms s)
   instance_under a role height terms at st = stands_on_equal b h a role height terms (composed terms s) st (λ x inx.
-      atom_after g (composed terms s) (atom_of_variable x)
-      ∙ ap (value_of_atom g) (atom_composed terms s (atom_of_variable x))
-      ∙ same_atom (apply_to_atom terms (atom_of_variable x)) (λ y iny. agree_strands y (in_strands k.strands a (instance role height terms) y at (in_trace_under terms (prefix_of role height) x y inx iny)))
-      ∙ sym (atom_after g terms (atom_of_variable x)))
+      value_after g (composed terms s) (variable_term x)
+      ∙ ap (value_of g) (term_composed terms s (variable_term x))
+      ∙ same_term (apply_to terms (variable_term x)) (λ y iny. agree_strands y (in_strands k.strands a (instance role height terms) y at (in_trace_under terms (prefix_of role height) x y inx iny)))
+      ∙ sym (value_after g terms (variable_term x)))
 
   strand_stands : StandsIn k b h → (a : ℕ) (st : SkeletonStrand) → item_at k.strands a ≡ Some st → StrandStands a (strand_under s st)
   strand_stands stands a (instance role height terms) at = instance_under a role height terms at (stands.instances a role height terms at)

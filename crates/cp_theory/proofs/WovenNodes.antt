@@ -4,7 +4,8 @@ use Rattle.std.proofs.Common.{◌≡◌, ℕ, zero, suc, List, [], ◌∷◌, So
 use Rattle.cp_lists.specs.Lists.{item_at, IsIn, here, there, one_step, more_steps}
 use Rattle.cp_model.specs.Message.{Message, pair}
 use Rattle.cp_model.specs.Term.{Term, value_of}
-use Rattle.cp_model.specs.Strand.{send, recv, pairing, splitting}
+use Rattle.cp_model.specs.Strand.{pairing, splitting}
+use Rattle.cp_model.specs.declared.strand.Event.TheVariants.{Send as send, Receive as recv}
 use Rattle.cp_model.specs.Bundle.{node_at}
 use Rattle.cp_model.specs.declared.node.Node.{Node}
 use Rattle.cp_model.specs.Skeleton.{SkeletonStrand, instance, listener, term_event_at, Skeleton, along_strand_of, along_pair, Before, IsOrderPair}

@@ -3,7 +3,9 @@ use Rattle.std.specs.Prelude.{◌≡◌, ◌≢◌, ◌⊎◌, ℕ, ◌<◌, Lis
 use Rattle.cp_lists.specs.Lists.{item_at}
 use Rattle.cp_model.specs.Message.{Key, inverse, Atom, Message, tag, atom, pair, enc}
 use Rattle.cp_model.specs.Term.{Assignment}
-use Rattle.cp_model.specs.Strand.{Event, send, recv, payload, Role, create_tag, create_atom, encryption, decryption, regular, penetrator}
+use Rattle.cp_model.specs.Strand.{payload, Role, create_tag, create_atom, encryption, decryption, regular, penetrator}
+use Rattle.cp_model.specs.declared.strand.Event.{Event}
+use Rattle.cp_model.specs.declared.strand.Event.TheVariants.{Send as send, Receive as recv}
 use Rattle.cp_model.specs.KeyMessage.{key_message}
 use Rattle.cp_model.specs.Bundle.{node_at, event_at, Bundle, Precedes}
 use Rattle.cp_model.specs.declared.node.Node.{Node}

@@ -3,7 +3,8 @@ use Rattle.std.specs.Prelude.{◌≡◌, ◌≢◌, ◌⊎◌, ℕ, suc, ◌<◌
 use Rattle.cp_lists.specs.Lists.{item_at, IsIn}
 use Rattle.cp_model.specs.Term.{KeyTerm, key_term, inverse_term, Term, atom_term, enc_term, Assignment, value_of, Substitution}
 use Rattle.cp_model.specs.Identity.{unchanged}
-use Rattle.cp_model.specs.Strand.{send, Role, Protocol}
+use Rattle.cp_model.specs.Strand.{Role, Protocol}
+use Rattle.cp_model.specs.declared.strand.Event.TheVariants.{Send as send}
 use Rattle.cp_model.specs.Bundle.{node_at}
 use Rattle.cp_model.specs.declared.node.Node.{Node}
 use Rattle.cp_model.specs.Skeleton.{instance, term_event_at, Skeleton, Before}

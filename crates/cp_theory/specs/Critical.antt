@@ -1,7 +1,8 @@
 -- Authentication tests: a reception, and a component of its message that the penetrator cannot derive there.
 use Rattle.std.specs.Prelude.{◌≡◌, ◌≢◌, List, Some, ◌++◌}
-use Rattle.cp_model.specs.Term.{Variable, Term, pair_term}
-use Rattle.cp_model.specs.Strand.{recv}
+use Rattle.cp_model.specs.Term.{Term, pair_term}
+use Rattle.cp_model.specs.declared.variable.Variable.{Variable}
+use Rattle.cp_model.specs.declared.strand.Event.TheVariants.{Receive as recv}
 use Rattle.cp_model.specs.declared.node.Node.{Node}
 use Rattle.cp_model.specs.Skeleton.{term_event_at, Skeleton}
 use Rattle.cp_model.specs.Derivable.{DerivableAt}

@@ -1,8 +1,10 @@
 -- An example: an encryption is heard, under a key that does not originate; one role sends such encryptions.
 use Rattle.std.specs.Prelude.{[], ◌∷◌, ◌==◌, if◌then◌else◌}
-use Rattle.cp_model.specs.Term.{text_sort, skey_sort, skey_variable, symmetric_term, text_variable, key_term, KeyTerm, Term, atom_term, enc_term, Substitution}
+use Rattle.cp_model.specs.Term.{skey_variable, symmetric_term, text_variable, key_term, KeyTerm, Term, atom_term, enc_term, Substitution}
+use Rattle.cp_model.specs.declared.sort.Sort.TheVariants.{Text as text_sort, Skey as skey_sort}
 use Rattle.cp_model.specs.Identity.{unchanged}
-use Rattle.cp_model.specs.Strand.{send, Role, Protocol}
+use Rattle.cp_model.specs.Strand.{Role, Protocol}
+use Rattle.cp_model.specs.declared.strand.Event.TheVariants.{Send as send}
 use Rattle.cp_model.specs.Bundle.{node_at}
 use Rattle.cp_model.specs.declared.node.Node.{Node}
 use Rattle.cp_model.specs.Skeleton.{instance, listener, Assumptions, Skeleton}

@@ -1,9 +1,10 @@
 -- Patterns that guard a test.
 use Rattle.std.specs.Prelude.{◌≡◌, List, Some}
 use Rattle.cp_lists.specs.Lists.{IsIn}
-use Rattle.cp_model.specs.Term.{Variable, KeyTerm, Term, enc_term, variables_of, variables_of_key}
+use Rattle.cp_model.specs.Term.{KeyTerm, Term, enc_term, variables_of, variables_of_key}
+use Rattle.cp_model.specs.declared.variable.Variable.{Variable}
 use Rattle.cp_model.specs.Identity.{unchanged}
-use Rattle.cp_model.specs.Strand.{send}
+use Rattle.cp_model.specs.declared.strand.Event.TheVariants.{Send as send}
 use Rattle.cp_model.specs.declared.node.Node.{Node}
 use Rattle.cp_model.specs.Skeleton.{term_event_at, Skeleton, Before}
 use Rattle.cp_model.specs.Derivable.{IsOnInstance}

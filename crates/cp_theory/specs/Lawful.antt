@@ -6,7 +6,9 @@ use Rattle.cp_model.specs.Bundle.{Bundle, IsBundle}
 use Rattle.cp_model.specs.Skeleton.{Skeleton}
 use Rattle.cp_model.specs.Standing.{Standing, StandsIn, StandsApart}
 use Rattle.cp_model.specs.Homomorphism.{FactorsThrough, Covers}
-use Rattle.cp_model.specs.Tree.{Mark, shape, limit_steps, limit_strands, Label}
+use Rattle.cp_model.specs.Tree.{Label}
+use Rattle.cp_model.specs.declared.tree.Mark.{Mark}
+use Rattle.cp_model.specs.declared.tree.Mark.TheVariants.{Shape as shape, LimitSteps as limit_steps, LimitStrands as limit_strands}
 
 -- Each standing of the problem that factors through k, where k stands apart, factors through one of the skeletons.
 abbrev pub PassesOn : Protocol → Skeleton → Skeleton → List Skeleton → Type 0

@@ -2,7 +2,8 @@
 use Rattle.std.specs.Prelude.{◌≡◌}
 use Rattle.cp_lists.specs.Lists.{IsIn}
 use Rattle.cp_model.specs.Message.{Message}
-use Rattle.cp_model.specs.Term.{Variable, Term, atom_of_variable, variables_of, Assignment, value_of, value_of_atom, Substitution, apply_to, apply_to_atom}
+use Rattle.cp_model.specs.Term.{Term, variable_term, variables_of, Assignment, value_of, Substitution, apply_to}
+use Rattle.cp_model.specs.declared.variable.Variable.{Variable}
 use Rattle.cp_model.specs.Tree.{Pattern}
 
 -- The variable is one of the pattern's, and no local.
@@ -14,12 +15,12 @@ pub record IsFreeIn (x : Variable) (p : Pattern) : Type 0 where
 -- term, each other variable being as the substitution says.
 pub record Matches (p : Pattern) (s : Substitution) (t : Term) : Type 0 where
   pub filled : Substitution
-  pub as_said : (x : Variable) → IsFreeIn x p → apply_to_atom filled (atom_of_variable x) ≡ apply_to_atom s (atom_of_variable x)
+  pub as_said : (x : Variable) → IsFreeIn x p → apply_to filled (variable_term x) ≡ apply_to s (variable_term x)
   pub same : apply_to filled p.term ≡ t
 
 -- The same of a message: some values of the locals make the pattern's value the message, each other variable having the
 -- value that the assignment gives it.
 pub record MatchesMessage (p : Pattern) (g : Assignment) (m : Message) : Type 0 where
   pub filled : Assignment
-  pub as_said : (x : Variable) → IsFreeIn x p → value_of_atom filled (atom_of_variable x) ≡ value_of_atom g (atom_of_variable x)
+  pub as_said : (x : Variable) → IsFreeIn x p → value_of filled (variable_term x) ≡ value_of g (variable_term x)
   pub same : value_of filled p.term ≡ m

@@ -3,7 +3,9 @@
 use Rattle.std.specs.Prelude.{◌≡◌, ◌⊎◌, ℕ, ◌<◌, List, Some, map}
 use Rattle.cp_lists.specs.Lists.{IsIn}
 use Rattle.cp_model.specs.Term.{AtomTerm, Term, atom_term, IsCarriedByTerm, Assignment, value_of_atom, after, AgreeOn, Substitution, apply_to, apply_to_atom, composed}
-use Rattle.cp_model.specs.Strand.{Event, recv, payload, Protocol}
+use Rattle.cp_model.specs.Strand.{payload, Protocol}
+use Rattle.cp_model.specs.declared.strand.Event.{Event}
+use Rattle.cp_model.specs.declared.strand.Event.TheVariants.{Receive as recv}
 use Rattle.cp_model.specs.Bundle.{node_at, Bundle, IsBundle}
 use Rattle.cp_model.specs.declared.node.Node.{Node}
 use Rattle.cp_model.specs.Skeleton.{SkeletonStrand, instance, listener, term_event_at, UniqueAt, Assumptions, FromProblem, Skeleton, Before}

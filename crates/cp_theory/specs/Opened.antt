@@ -3,8 +3,11 @@
 use Rattle.std.specs.Prelude.{ℕ, List, [], ◌∷◌, Option, Some, None, Bool, true}
 use Rattle.cp_lists.specs.Lists.{item_at}
 use Rattle.cp_model.specs.Message.{skey, Key, symmetric, text, key, Message, atom, enc}
-use Rattle.cp_model.specs.Term.{text_sort, skey_sort, skey_variable, symmetric_term, text_variable, Term, atom_term, enc_term}
-use Rattle.cp_model.specs.Strand.{Event, send, recv, Role, Protocol, create_atom, encryption, decryption, hearing, regular, penetrator}
+use Rattle.cp_model.specs.Term.{skey_variable, symmetric_term, text_variable, Term, atom_term, enc_term}
+use Rattle.cp_model.specs.declared.sort.Sort.TheVariants.{Text as text_sort, Skey as skey_sort}
+use Rattle.cp_model.specs.Strand.{Role, Protocol, create_atom, encryption, decryption, hearing, regular, penetrator}
+use Rattle.cp_model.specs.declared.strand.Event.{Event}
+use Rattle.cp_model.specs.declared.strand.Event.TheVariants.{Send as send, Receive as recv}
 use Rattle.cp_model.specs.Bundle.{node_at, Bundle}
 use Rattle.cp_model.specs.declared.node.Node.{Node}
 use Rattle.cp_theory.specs.RepeatedText.{zeros}

@@ -2,9 +2,12 @@
 -- skeleton doesn't know that what was heard is what is said.
 use Rattle.std.specs.Prelude.{[], ◌∷◌, false}
 use Rattle.cp_model.specs.Message.{skey, akey}
-use Rattle.cp_model.specs.Term.{text_sort, text_variable, atom_term, Assignment, Substitution}
+use Rattle.cp_model.specs.Term.{text_variable, atom_term, Assignment, Substitution}
+use Rattle.cp_model.specs.declared.sort.Sort.TheVariants.{Text as text_sort}
 use Rattle.cp_model.specs.Identity.{unchanged}
-use Rattle.cp_model.specs.Strand.{send, recv, Declaration, Role, Protocol, regular}
+use Rattle.cp_model.specs.Strand.{Role, Protocol, regular}
+use Rattle.cp_model.specs.declared.strand.Event.TheVariants.{Send as send, Receive as recv}
+use Rattle.cp_model.specs.declared.variable.Declaration.{Declaration}
 use Rattle.cp_model.specs.Bundle.{node_at, Bundle}
 use Rattle.cp_model.specs.declared.node.Node.{Node}
 use Rattle.cp_model.specs.Skeleton.{instance, UniqueAt, Assumptions, Skeleton}

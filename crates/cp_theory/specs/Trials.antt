@@ -3,7 +3,8 @@
 use Rattle.std.specs.Prelude.{◌≡◌, ℕ, ◌<◌, List, Some}
 use Rattle.cp_lists.specs.Lists.{IsIn}
 use Rattle.cp_model.specs.Term.{Term, Assignment, after, Substitution, apply_to, composed}
-use Rattle.cp_model.specs.Strand.{Event, payload, Protocol}
+use Rattle.cp_model.specs.Strand.{payload, Protocol}
+use Rattle.cp_model.specs.declared.strand.Event.{Event}
 use Rattle.cp_model.specs.Bundle.{node_at}
 use Rattle.cp_model.specs.Skeleton.{term_event_at, Skeleton}
 use Rattle.cp_model.specs.Derivable.{IsOnInstance}

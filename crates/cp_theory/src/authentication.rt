@@ -1,7 +1,8 @@
 //! The authentication test on ground messages: how a message can come to be received outside the encryptions that protect it.
 ghost use Rattle.std.specs.Prelude.{◌≡◌, ◌⊎◌, Some, Bool, true, false};
 ghost use Rattle.cp_model.specs.Message.{Key, Message, IsCarriedBy};
-ghost use Rattle.cp_model.specs.Strand.{recv, Protocol};
+ghost use Rattle.cp_model.specs.Strand.{Protocol};
+ghost use Rattle.cp_model.specs.declared.strand.Event.TheVariants.{Receive as recv};
 ghost use Rattle.cp_model.specs.Bundle.{event_at, Bundle, IsBundle};
 ghost use Rattle.cp_model.specs.declared.node.Node.{Node};
 ghost use Rattle.cp_theory.specs.AuthenticationTest.{IsOutside, IsNoPairMessage, IsNotCreated, IsReleased, IsEncrypted, IsDecrypted};

@@ -2,7 +2,8 @@
 ghost use Rattle.std.specs.Prelude.{◌≡◌, ◌≢◌, ℕ, ◌<◌, List, [], ◌∷◌};
 ghost use Rattle.cp_lists.specs.Lists.{IsIn};
 ghost use Rattle.cp_model.specs.Term.{AtomTerm, Substitution};
-ghost use Rattle.cp_model.specs.Strand.{Declaration, Protocol};
+ghost use Rattle.cp_model.specs.Strand.{Protocol};
+ghost use Rattle.cp_model.specs.declared.variable.Declaration.{Declaration};
 ghost use Rattle.cp_model.specs.Bundle.{node_at, Bundle, IsBundle};
 ghost use Rattle.cp_model.specs.declared.node.Node.{Node};
 ghost use Rattle.cp_model.specs.Skeleton.{UniqueAt, Skeleton, Before, IsSkeleton};

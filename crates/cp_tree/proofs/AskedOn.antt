@@ -30,7 +30,7 @@ module _ (protocol : Protocol) (declares : (role : Role) → IsIn role protocol.
         skeleton = well.skeleton;
         declared = declared_more q.variables c.variables q.skeleton s.more well.declared;
         test = well.test;
-        guards = guards_still q.skeleton c.skeleton q.node q.critical c.path w.pattern c.variables s.declared w.widens q.patterns well.guards;
+        guards = guards_still q.skeleton c.skeleton q.node q.critical c.path w.pattern w.widens q.patterns well.guards;
       }
 
   -- So does the last test, and the children are its cohort.

@@ -3,12 +3,15 @@ use Rattle.std.proofs.Common.{◌≡◌, ◌⊎◌, inl, inr, ℕ, zero, suc, �
 use Rattle.cp_lists.specs.Lists.{item_at, IsIn}
 use Rattle.cp_lists.proofs.Items.{item_of_map, front_or_behind}
 use Rattle.cp_lists.proofs.Members.{in_append}
-use Rattle.cp_model.specs.Term.{Variable, variables_of}
-use Rattle.cp_model.specs.Strand.{Declaration, Role, Protocol}
+use Rattle.cp_model.specs.Term.{variables_of}
+use Rattle.cp_model.specs.declared.variable.Variable.{Variable}
+use Rattle.cp_model.specs.Strand.{Role, Protocol}
+use Rattle.cp_model.specs.declared.variable.Declaration.{Declaration}
 use Rattle.cp_model.specs.Skeleton.{Skeleton}
 use Rattle.cp_model.specs.Problem.{variables_of_skeleton, IsDeclared}
 use Rattle.cp_model.specs.PointOfView.{HasDeclaredVariables}
-use Rattle.cp_model.specs.Tree.{Pattern, Test, Label, Tree, Limits}
+use Rattle.cp_model.specs.Tree.{Pattern, Test, Label, Tree}
+use Rattle.cp_model.specs.declared.tree.Limits.{Limits}
 use Rattle.cp_model.proofs.OccurringVariables.{term_with}
 use Rattle.cp_theory.specs.Normal.{variables_of_terms}
 use Rattle.cp_strand.specs.Declares.{DeclaresItsVariables}

@@ -7,6 +7,7 @@ use Rattle.cp_model.specs.Realisation.{KeepsAssumptions}
 use Rattle.cp_model.specs.Homomorphism.{CarriesHomomorphism}
 use Rattle.cp_model.specs.Stated.{KeepsStated}
 use Rattle.cp_model.specs.PointOfView.{HasDeclaredVariables, IsPointOfView}
+use Rattle.cp_model.proofs.OwnOrder.{own_if_same}
 use Rattle.cp_model.proofs.SingleMaps.{itself, states_itself, own_carries}
 use Rattle.cp_model.proofs.StatedItself.{keeps_its_own}
 use Rattle.cp_theory.specs.EncryptionExamples.{locker, protocol, heard}
@@ -17,7 +18,7 @@ use Rattle.cp_cohort.proofs.OneChild.{heard_declared}
 use Rattle.cp_tree.specs.Example.{heard_root}
 
 pub heard_own : IsPointOfView locker.variables heard
-heard_own = record { strands = refl; values = refl; closed = heard_declared.occurring; assumed = record { non = λ v i. i; penetrator_non = λ v i. i; unique = λ u i. i }; no_more = record { non = λ v i. inl i; penetrator_non = λ v i. inl i; unique = λ u i. inl i }; pairs = refl }
+heard_own = record { strands = refl; values = refl; closed = heard_declared.occurring; assumed = record { non = λ v i. i; penetrator_non = λ v i. i; unique = λ u i. i }; no_more = record { non = λ v i. inl i; penetrator_non = λ v i. inl i; unique = λ u i. inl i }; ordered = own_if_same heard heard_skeleton.order_pairs refl }
 
 -- No role strand is there to originate anything.
 keeps_assumptions : KeepsAssumptions heard
@@ -42,7 +43,7 @@ heard_sound = record {
   skeletons = λ i root at. subst (λ (r : Root). IsSkeleton protocol r.skeleton) (the_root i root at) heard_skeleton;
   assumptions = λ i root at alive. subst (λ (r : Root). KeepsAssumptions r.skeleton) (the_root i root at) keeps_assumptions;
   from_problem = λ i root at. subst (λ (r : Root). CarriesHomomorphism heard r.skeleton) (the_root i root at) (own_carries locker.variables heard (itself heard_own));
-  stated = λ i root at. subst (λ (r : Root). KeepsStated heard r.skeleton) (the_root i root at) (keeps_its_own protocol locker.variables heard heard_skeleton (states_itself heard_own));
+  stated = λ i root at. subst (λ (r : Root). KeepsStated heard r.skeleton) (the_root i root at) (keeps_its_own locker.variables heard (states_itself heard_own));
   nowhere = λ i root at d b g is stands apart. lives root (the_root i root at) d;
   covers = λ b h is stands. record {
     number = 0;

@@ -3,7 +3,7 @@ use Rattle.std.proofs.Common.{◌≡◌, ◌≢◌, ◌<◌, inl, inr, ℕ, zero
 use Rattle.cp_lists.specs.Lists.{item_at, IsIn, here, there, one_step}
 use Rattle.cp_lists.proofs.Members.{not_in_none, only_item}
 use Rattle.cp_model.specs.Term.{Term}
-use Rattle.cp_model.specs.Strand.{recv}
+use Rattle.cp_model.specs.declared.strand.Event.TheVariants.{Receive as recv}
 use Rattle.cp_model.specs.Bundle.{node_at}
 use Rattle.cp_model.specs.declared.node.Node.{Node}
 use Rattle.cp_model.specs.Skeleton.{SkeletonStrand, term_event_at, along_pair, Skeleton}
@@ -11,7 +11,9 @@ use Rattle.cp_model.specs.Derivable.{DerivableAt, IsUnrealised}
 use Rattle.cp_model.specs.Derivable as derivable
 use Rattle.cp_model.specs.Realisation.{AllDerivable}
 use Rattle.cp_model.specs.Homomorphism.{Embeds}
-use Rattle.cp_model.specs.Tree.{Mark, shape, limit_steps, limit_strands, Label}
+use Rattle.cp_model.specs.Tree.{Label}
+use Rattle.cp_model.specs.declared.tree.Mark.{Mark}
+use Rattle.cp_model.specs.declared.tree.Mark.TheVariants.{Shape as shape, LimitSteps as limit_steps, LimitStrands as limit_strands}
 use Rattle.cp_derive.specs.Unrealised.{IsUnrealisedAt, ListsUnrealised}
 use Rattle.cp_theory.specs.Above.{encryptions_above}
 use Rattle.cp_theory.proofs.AllAbove.{nothing_above}

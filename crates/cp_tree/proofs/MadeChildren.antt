@@ -3,8 +3,10 @@ use Rattle.std.proofs.Common.{◌≡◌, ℕ, ◌+◌, List, length, map, Some, 
 use Rattle.std.proofs.lemmas.List.{length-map}
 use Rattle.cp_lists.specs.Lists.{item_at, IsIn}
 use Rattle.cp_lists.proofs.Items.{place_of, at_place, map_of_item, item_further}
-use Rattle.cp_model.specs.Strand.{Declaration, Protocol}
-use Rattle.cp_model.specs.Tree.{Label, Tree, Limits}
+use Rattle.cp_model.specs.Strand.{Protocol}
+use Rattle.cp_model.specs.declared.variable.Declaration.{Declaration}
+use Rattle.cp_model.specs.Tree.{Label, Tree}
+use Rattle.cp_model.specs.declared.tree.Limits.{Limits}
 use Rattle.cp_roots.specs.Roots.{Root}
 use Rattle.cp_tree.specs.Made.{Made, made_of_root, link_of, IsEdge, to_child}
 use Rattle.cp_tree.specs.Searched.{IsMarkedAmong, IsTreeFrom}

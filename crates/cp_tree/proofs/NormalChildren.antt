@@ -3,11 +3,12 @@ use Rattle.std.proofs.Common.{ℕ, List, [], ◌++◌, map, subst, ⊎_elim}
 use Rattle.cp_lists.specs.Lists.{IsIn, here, there}
 use Rattle.cp_lists.proofs.Members.{not_in_none, in_append, into_map, from_map}
 use Rattle.cp_model.specs.Skeleton.{Skeleton}
-use Rattle.cp_model.specs.Strand.{Declaration, Role, Protocol}
+use Rattle.cp_model.specs.Strand.{Role, Protocol}
+use Rattle.cp_model.specs.declared.variable.Declaration.{Declaration}
 use Rattle.cp_model.specs.Term.{Term}
-use Rattle.cp_model.specs.Tree.{Operation}
+use Rattle.cp_model.specs.declared.tree.Operation.{Operation}
 use Rattle.cp_model.specs.declared.step.Step.{Step}
-use Rattle.cp_skel.specs.Events.{LocatedEvent}
+use Rattle.cp_skel.specs.declared.events.LocatedEvent.{LocatedEvent}
 use Rattle.cp_normal.specs.NormalForms.{IsNormal}
 use Rattle.cp_normal.specs.Exact.{HasForms}
 use Rattle.cp_normal.specs.Formed.{Formed}

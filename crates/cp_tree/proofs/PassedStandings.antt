@@ -4,14 +4,18 @@ use Rattle.cp_lists.specs.Lists.{item_at, IsIn, here, there}
 use Rattle.cp_lists.proofs.Items.{item_of_map, map_of_item, item_still}
 use Rattle.cp_lists.proofs.Mapped.{map_then}
 use Rattle.cp_lists.proofs.Members.{into_map, from_map, head_or_behind, not_in_none, only_item}
-use Rattle.cp_model.specs.Strand.{Declaration, Protocol}
+use Rattle.cp_model.specs.Strand.{Protocol}
+use Rattle.cp_model.specs.declared.variable.Declaration.{Declaration}
 use Rattle.cp_model.specs.Skeleton.{Skeleton, IsSkeleton}
 use Rattle.cp_model.specs.Bundle.{Bundle, IsBundle}
 use Rattle.cp_model.specs.Standing.{Standing, StandsIn, StandsApart}
 use Rattle.cp_model.specs.Homomorphism.{Embeds, Covers, IsCompleteList}
 use Rattle.cp_model.specs.Problem.{numbers_from}
 use Rattle.cp_model.specs.PointOfView.{HasDeclaredVariables}
-use Rattle.cp_model.specs.Tree.{Mark, dead, Label, Tree, Limits}
+use Rattle.cp_model.specs.Tree.{Label, Tree}
+use Rattle.cp_model.specs.declared.tree.Mark.{Mark}
+use Rattle.cp_model.specs.declared.tree.Mark.TheVariants.{Dead as dead}
+use Rattle.cp_model.specs.declared.tree.Limits.{Limits}
 use Rattle.cp_theory.specs.NoneLeftOut.{IsComplete}
 use Rattle.cp_theory.specs.Lawful.{PassesOn, with_label, skeletons_at, IsLeft, at_shape, at_step_bound, at_strand_bound, IsLawful}
 use Rattle.cp_theory.proofs.LabelDescents.{passes_on_to_embedding}

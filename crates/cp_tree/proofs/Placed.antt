@@ -1,13 +1,16 @@
 -- The labels of the roots come first, and each other label is a child of the one from which it was made.
-use Rattle.std.proofs.Common.{◌≡◌, ◌↔◌, ◌⊎◌, ℕ, suc, ◌+◌, List, [], ◌∷◌, length, map, Option, Some, None, refl, sym, ap, ◌∙◌, subst, ⊎_elim, arith}
+use Rattle.std.proofs.Common.{◌≡◌, ◌↔◌, ℕ, suc, ◌+◌, List, ◌∷◌, length, map, Option, Some, None, refl, sym, ap, ◌∙◌, subst, ⊎_elim, arith}
 use Rattle.std.proofs.lemmas.List.{length-map}
 use Rattle.cp_lists.specs.Lists.{item_at, IsIn}
 use Rattle.cp_lists.proofs.Items.{at_place, map_of_item, item_of_map, item_still, item_in_parts}
 use Rattle.cp_lists.proofs.SameLists.{same_parts}
-use Rattle.cp_model.specs.Strand.{Declaration, Protocol}
+use Rattle.cp_model.specs.Strand.{Protocol}
+use Rattle.cp_model.specs.declared.variable.Declaration.{Declaration}
 use Rattle.cp_model.specs.Problem.{numbers_from}
-use Rattle.cp_model.specs.Tree.{Mark, Label, Tree, Limits, is_expanded}
-use Rattle.cp_model.proofs.Numbers.{numbers_length}
+use Rattle.cp_model.specs.Tree.{Label, Tree, is_expanded}
+use Rattle.cp_model.specs.declared.tree.Mark.{Mark}
+use Rattle.cp_model.specs.declared.tree.Limits.{Limits}
+use Rattle.cp_model.proofs.NumbersFrom.{numbers_length}
 use Rattle.cp_roots.specs.Roots.{Root}
 use Rattle.cp_tree.specs.Made.{Made, made_of_root, LabelLink, link_of}
 use Rattle.cp_tree.specs.Searched.{AreResolved, all_settled, then_settled, IsMarkedAmong, children_of, IsTreeFrom}

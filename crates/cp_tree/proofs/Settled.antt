@@ -10,8 +10,11 @@ use Rattle.cp_model.specs.declared.node.Node.{Node}
 use Rattle.cp_model.specs.Skeleton.{Skeleton}
 use Rattle.cp_model.specs.Derivable.{IsUnrealised}
 use Rattle.cp_model.specs.Problem.{numbers_from}
-use Rattle.cp_model.specs.Tree.{Mark, dead, seen, limit_steps, limit_strands, Label, Limits, is_expanded, expanded_count}
-use Rattle.cp_model.proofs.Numbers.{numbers_length}
+use Rattle.cp_model.specs.Tree.{Label, is_expanded, expanded_count}
+use Rattle.cp_model.specs.declared.tree.Mark.{Mark}
+use Rattle.cp_model.specs.declared.tree.Mark.TheVariants.{Dead as dead, Seen as seen, LimitSteps as limit_steps, LimitStrands as limit_strands}
+use Rattle.cp_model.specs.declared.tree.Limits.{Limits}
+use Rattle.cp_model.proofs.NumbersFrom.{numbers_length}
 use Rattle.cp_cohort.specs.CoveringChildren.{Child}
 use Rattle.cp_expansion.specs.Expansion.{Expansion, IsExpansionOf}
 use Rattle.cp_general.specs.Generalisation.{GeneralisesTo}

@@ -3,14 +3,15 @@ use Rattle.std.proofs.Common.{◌≡◌, ℕ, List, [], map, true, false, refl, 
 use Rattle.cp_lists.specs.Lists.{IsIn}
 use Rattle.cp_lists.proofs.Members.{into_map, from_map}
 use Rattle.cp_model.specs.Term.{Term}
-use Rattle.cp_model.specs.Strand.{Declaration, Role, Protocol}
+use Rattle.cp_model.specs.Strand.{Role, Protocol}
+use Rattle.cp_model.specs.declared.variable.Declaration.{Declaration}
 use Rattle.cp_model.specs.Bundle.{Bundle}
 use Rattle.cp_model.specs.declared.node.Node.{Node}
 use Rattle.cp_model.specs.Skeleton.{Skeleton}
 use Rattle.cp_model.specs.Standing.{Standing}
 use Rattle.cp_model.specs.Homomorphism.{CarriesHomomorphism}
 use Rattle.cp_model.specs.Stated.{KeepsStated}
-use Rattle.cp_model.specs.PointOfView.{HasDeclaredVariables, IsPointOfView}
+use Rattle.cp_model.specs.PointOfView.{IsPointOfView}
 use Rattle.cp_model.specs.Tree.{Pattern}
 use Rattle.cp_strand.specs.Declares.{DeclaresItsVariables}
 use Rattle.cp_normal.proofs.FormSkeletons.{normal_keeps_assumptions}
@@ -36,15 +37,15 @@ use Rattle.cp_tree.proofs.NormalChildren.{normal_child}
 use Rattle.cp_tree.proofs.AskedOn.{IsWellAsked, last_asked}
 
 -- An escape set guards the test.
-escape_set_guards : (variables : List Declaration) (k : Skeleton) (n : Node) (c : Term) (ps : List Pattern) → HasDeclaredVariables variables k → IsTest k n c → IsEscape k n c ps → Guards ps k n c
-escape_set_guards variables k n c ps declared test is =
-    escape_guards k n c (terms_onto [] is.encryptions) ps (record { sent = is.sent; before = is.before; encryptions = is.encryptions; each = is.each; once = refl }) is.once variables declared test
+escape_set_guards : (k : Skeleton) (n : Node) (c : Term) (ps : List Pattern) → IsTest k n c → IsEscape k n c ps → Guards ps k n c
+escape_set_guards k n c ps test is =
+    escape_guards k n c (terms_onto [] is.encryptions) ps (record { sent = is.sent; before = is.before; encryptions = is.encryptions; each = is.each; once = refl }) is.once test
 
 -- What is asked first of what is sound is well asked.
 pub well_asked : (protocol : Protocol) (problem : Skeleton) (m : Made) (e : Expansion) → IsSoundMade protocol problem m → (is : IsExpansionOf protocol m.variables m.skeleton e) → IsWellAsked protocol (guarded_test_about m.variables m.skeleton e.test is.escape)
 well_asked protocol problem m e sound is =
     let test : IsTest m.skeleton e.test.node e.test.critical = is_test m.skeleton e.test.node e.test.critical is.test in
-    record { skeleton = sound.skeleton; declared = sound.declared; test = test; guards = escape_set_guards m.variables m.skeleton e.test.node e.test.critical is.escape sound.declared test is.is_escape }
+    record { skeleton = sound.skeleton; declared = sound.declared; test = test; guards = escape_set_guards m.skeleton e.test.node e.test.critical is.escape test is.is_escape }
 
 -- What goes on to skeletons goes on to these with their assumptions in the order of a report.
 goes_on_listed : (k : Skeleton) (children : List Child) (b : Bundle) (h : Standing) → GoesOn (map (λ (c : Child). c.skeleton) children) k b h → GoesOn (map (λ (c : Child). in_report_order c.skeleton) children) k b h

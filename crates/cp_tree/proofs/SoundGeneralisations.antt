@@ -1,6 +1,7 @@
 -- Each generalisation of a sound label is sound.
 use Rattle.std.proofs.Common.{◌≡◌, ℕ, List, true, false}
-use Rattle.cp_model.specs.Strand.{Declaration, Protocol}
+use Rattle.cp_model.specs.Strand.{Protocol}
+use Rattle.cp_model.specs.declared.variable.Declaration.{Declaration}
 use Rattle.cp_model.specs.Skeleton.{Skeleton, IsSkeleton}
 use Rattle.cp_model.specs.PointOfView.{IsPointOfView}
 use Rattle.cp_general.specs.Generalisation.{GeneralisesTo}

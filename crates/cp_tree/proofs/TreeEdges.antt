@@ -3,8 +3,12 @@ use Rattle.std.proofs.Common.{◌≡◌, ◌⊎◌, inl, inr, ℕ, ◌<◌, List
 use Rattle.cp_lists.specs.Lists.{item_at, IsIn, Steps, one_step, more_steps}
 use Rattle.cp_lists.proofs.Items.{map_of_item, item_of_map, there_or_none}
 use Rattle.cp_lists.proofs.Members.{in_cases, not_in_none}
-use Rattle.cp_model.specs.Strand.{Declaration, Protocol}
-use Rattle.cp_model.specs.Tree.{Mark, shape, dead, seen, instance_of, limit_steps, limit_strands, Label, Tree, Limits}
+use Rattle.cp_model.specs.Strand.{Protocol}
+use Rattle.cp_model.specs.declared.variable.Declaration.{Declaration}
+use Rattle.cp_model.specs.Tree.{Label, Tree}
+use Rattle.cp_model.specs.declared.tree.Mark.{Mark}
+use Rattle.cp_model.specs.declared.tree.Mark.TheVariants.{Shape as shape, Dead as dead, Seen as seen, InstanceOf as instance_of, LimitSteps as limit_steps, LimitStrands as limit_strands}
+use Rattle.cp_model.specs.declared.tree.Limits.{Limits}
 use Rattle.cp_theory.specs.Lawful.{IsEdgeOf}
 use Rattle.cp_roots.specs.Roots.{Root}
 use Rattle.cp_tree.specs.Candidates.{IsCandidate}

@@ -2,13 +2,16 @@
 use Rattle.std.proofs.Common.{◌≡◌, ◌≢◌, ℕ, List, map, Some, sym, subst}
 use Rattle.cp_lists.specs.Lists.{item_at}
 use Rattle.cp_lists.proofs.Items.{map_of_item}
-use Rattle.cp_model.specs.Strand.{Declaration, Protocol}
+use Rattle.cp_model.specs.Strand.{Protocol}
+use Rattle.cp_model.specs.declared.variable.Declaration.{Declaration}
 use Rattle.cp_model.specs.Skeleton.{Skeleton, IsSkeleton}
 use Rattle.cp_model.specs.Standing.{IsRealised}
 use Rattle.cp_model.specs.Stated.{KeepsStated}
 use Rattle.cp_model.specs.Homomorphism.{CarriesHomomorphism, Embeds}
 use Rattle.cp_model.specs.PointOfView.{HasDeclaredVariables}
-use Rattle.cp_model.specs.Tree.{shape, Label, Tree, Limits}
+use Rattle.cp_model.specs.Tree.{Label, Tree}
+use Rattle.cp_model.specs.declared.tree.Mark.TheVariants.{Shape as shape}
+use Rattle.cp_model.specs.declared.tree.Limits.{Limits}
 use Rattle.cp_theory.proofs.Realised.{realised}
 use Rattle.cp_shapes.specs.Shapes.{EmbedsAt}
 use Rattle.cp_shapes.proofs.Instances.{shapes_apart}

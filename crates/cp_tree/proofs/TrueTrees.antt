@@ -1,12 +1,17 @@
 -- The tree of a problem whose roots are sound is true of it.
 use Rattle.std.proofs.Common.{◌≡◌, ℕ, List, Some}
 use Rattle.cp_lists.specs.Lists.{item_at}
-use Rattle.cp_model.specs.Strand.{Declaration, Protocol}
+use Rattle.cp_model.specs.Strand.{Protocol}
+use Rattle.cp_model.specs.declared.variable.Declaration.{Declaration}
 use Rattle.cp_model.specs.Skeleton.{Skeleton}
 use Rattle.cp_model.specs.Homomorphism.{IsCompleteList}
 use Rattle.cp_model.specs.Problem.{numbers_from}
 use Rattle.cp_model.specs.PointOfView.{HasDeclaredVariables}
-use Rattle.cp_model.specs.Tree.{Outcome, complete, limit_steps, limit_strands, Label, Tree, Limits, shapes_of, skeletons_left, IsTrueOf}
+use Rattle.cp_model.specs.Tree.{Label, Tree, shapes_of, skeletons_left, IsTrueOf}
+use Rattle.cp_model.specs.declared.tree.Outcome.{Outcome}
+use Rattle.cp_model.specs.declared.tree.Outcome.TheVariants.{Complete as complete}
+use Rattle.cp_model.specs.declared.tree.Mark.TheVariants.{LimitSteps as limit_steps, LimitStrands as limit_strands}
+use Rattle.cp_model.specs.declared.tree.Limits.{Limits}
 use Rattle.cp_theory.specs.Lawful.{IsWithinLimits}
 use Rattle.cp_theory.proofs.LabelDescents.{left_is_complete, shapes_are_complete}
 use Rattle.cp_roots.specs.Roots.{Root}

@@ -3,7 +3,8 @@ use Rattle.std.specs.Prelude.{◌≡◌, ◌≢◌, ◌⊎◌, ℕ, suc, List, [
 use Rattle.cp_lists.specs.Lists.{item_at}
 use Rattle.cp_model.specs.Skeleton.{Skeleton}
 use Rattle.cp_model.specs.Realisation.{AllDerivable}
-use Rattle.cp_model.specs.Tree.{dead, seen, Label}
+use Rattle.cp_model.specs.Tree.{Label}
+use Rattle.cp_model.specs.declared.tree.Mark.TheVariants.{Dead as dead, Seen as seen}
 
 -- No label was made from it. A realised label has its generalisation as a child where that is another skeleton, so that one
 -- with no child is its own generalisation.

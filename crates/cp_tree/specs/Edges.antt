@@ -1,7 +1,9 @@
 -- The edges of a tree, and its leaves.
 use Rattle.std.specs.Prelude.{◌≡◌, ℕ, List, [], ◌∷◌, Option, Some, None}
 use Rattle.cp_lists.specs.Lists.{item_at}
-use Rattle.cp_model.specs.Tree.{Mark, shape, dead, seen, instance_of, limit_steps, limit_strands, Label}
+use Rattle.cp_model.specs.Tree.{Label}
+use Rattle.cp_model.specs.declared.tree.Mark.{Mark}
+use Rattle.cp_model.specs.declared.tree.Mark.TheVariants.{Shape as shape, Dead as dead, Seen as seen, InstanceOf as instance_of, LimitSteps as limit_steps, LimitStrands as limit_strands}
 
 -- The label was not expanded, and no label was made from it.
 pub record IsLeafLabel (l : Label) : Type 0 where

@@ -1,6 +1,10 @@
 -- An example: the tree of a problem in which an encryption is heard, under a key that does not originate.
 use Rattle.std.specs.Prelude.{[], ◌∷◌, false, Some, None}
-use Rattle.cp_model.specs.Tree.{by_problem, by_added_strand, shape, complete, Test, Label, Tree, Limits}
+use Rattle.cp_model.specs.Tree.{Test, Label, Tree}
+use Rattle.cp_model.specs.declared.tree.Operation.TheVariants.{Problem as by_problem, AddedStrand as by_added_strand}
+use Rattle.cp_model.specs.declared.tree.Mark.TheVariants.{Shape as shape}
+use Rattle.cp_model.specs.declared.tree.Outcome.TheVariants.{Complete as complete}
+use Rattle.cp_model.specs.declared.tree.Limits.{Limits}
 use Rattle.cp_theory.specs.EncryptionExamples.{locked, locker, heard, reception, sent_before}
 use Rattle.cp_roots.specs.Roots.{Root, in_report_order}
 use Rattle.cp_cohort.specs.Example.{one_child}

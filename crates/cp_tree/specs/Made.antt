@@ -1,9 +1,13 @@
 -- Labels as they are made, and to which labels they may point.
 use Rattle.std.specs.Prelude.{◌≡◌, ◌<◌, ◌⊎◌, ℕ, List, map, take, Bool, false, Option, Some, None}
 use Rattle.cp_lists.specs.Lists.{item_at, Steps}
-use Rattle.cp_model.specs.Strand.{Declaration}
+use Rattle.cp_model.specs.declared.variable.Declaration.{Declaration}
 use Rattle.cp_model.specs.Skeleton.{Skeleton}
-use Rattle.cp_model.specs.Tree.{Operation, by_generalising, Mark, seen, Label}
+use Rattle.cp_model.specs.Tree.{Label}
+use Rattle.cp_model.specs.declared.tree.Operation.{Operation}
+use Rattle.cp_model.specs.declared.tree.Operation.TheVariants.{Generalised as by_generalising}
+use Rattle.cp_model.specs.declared.tree.Mark.{Mark}
+use Rattle.cp_model.specs.declared.tree.Mark.TheVariants.{Seen as seen}
 use Rattle.cp_shapes.specs.Shapes.{EmbedsAt}
 use Rattle.cp_roots.specs.Roots.{Root, in_report_order}
 use Rattle.cp_cohort.specs.CoveringChildren.{Child}

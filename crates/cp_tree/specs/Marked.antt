@@ -2,7 +2,9 @@
 use Rattle.std.specs.Prelude.{◌≡◌, ℕ, List, [], ◌∷◌, map, true, Some}
 use Rattle.cp_lists.specs.Lists.{item_at}
 use Rattle.cp_model.specs.Realisation.{AllDerivable}
-use Rattle.cp_model.specs.Tree.{by_generalising, seen, Label}
+use Rattle.cp_model.specs.Tree.{Label}
+use Rattle.cp_model.specs.declared.tree.Operation.TheVariants.{Generalised as by_generalising}
+use Rattle.cp_model.specs.declared.tree.Mark.TheVariants.{Seen as seen}
 use Rattle.cp_shapes.specs.Shapes.{IsLeast, IsInstanceWithin}
 use Rattle.cp_roots.specs.Roots.{Root}
 use Rattle.cp_general.specs.Generalisation.{IsMaximallyGeneral, GeneralisesTo}

@@ -1,8 +1,9 @@
 -- Labels that are those of roots, at the roots' numbers, and those that were made from them by generalising.
 use Rattle.std.specs.Prelude.{◌≡◌, ◌⊎◌, ℕ, List, Some, None}
 use Rattle.cp_lists.specs.Lists.{item_at}
-use Rattle.cp_model.specs.Strand.{Declaration}
-use Rattle.cp_model.specs.Tree.{by_generalising, Label}
+use Rattle.cp_model.specs.declared.variable.Declaration.{Declaration}
+use Rattle.cp_model.specs.Tree.{Label}
+use Rattle.cp_model.specs.declared.tree.Operation.TheVariants.{Generalised as by_generalising}
 use Rattle.cp_roots.specs.Roots.{Root}
 use Rattle.cp_general.specs.Generalisation.{GeneralisesTo}
 

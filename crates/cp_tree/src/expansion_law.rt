@@ -1,7 +1,8 @@
 // The law of expansions. It is the contract of a function that does nothing.
 ghost use Rattle.std.specs.Prelude.{List};
 ghost use Rattle.cp_lists.specs.Lists.{IsIn};
-ghost use Rattle.cp_model.specs.Strand.{Declaration, Role, Protocol};
+ghost use Rattle.cp_model.specs.Strand.{Role, Protocol};
+ghost use Rattle.cp_model.specs.declared.variable.Declaration.{Declaration};
 ghost use Rattle.cp_model.specs.Skeleton.{Skeleton};
 ghost use Rattle.cp_model.specs.PointOfView.{IsPointOfView};
 ghost use Rattle.cp_strand.specs.Declares.{DeclaresItsVariables};

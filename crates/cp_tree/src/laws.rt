@@ -1,12 +1,15 @@
 // Laws about trees. Each is the contract of a function that does nothing.
 ghost use Rattle.std.specs.Prelude.{◌≡◌, ◌<◌, ◌≤◌, ◌↔◌, ℕ, List, Some, None};
 ghost use Rattle.cp_lists.specs.Lists.{item_at, IsIn, Steps};
-ghost use Rattle.cp_model.specs.Strand.{Declaration, Role, Protocol};
+ghost use Rattle.cp_model.specs.Strand.{Role, Protocol};
+ghost use Rattle.cp_model.specs.declared.variable.Declaration.{Declaration};
 ghost use Rattle.cp_model.specs.Bundle.{Bundle, IsBundle};
 ghost use Rattle.cp_model.specs.Skeleton.{Skeleton, IsSkeleton};
 ghost use Rattle.cp_model.specs.Standing.{Standing, StandsIn, StandsApart};
 ghost use Rattle.cp_model.specs.PointOfView.{HasDeclaredVariables, IsPointOfView};
-ghost use Rattle.cp_model.specs.Tree.{dead, limit_steps, Label, Tree, Limits, expanded_count, IsTrueOf};
+ghost use Rattle.cp_model.specs.Tree.{Label, Tree, expanded_count, IsTrueOf};
+ghost use Rattle.cp_model.specs.declared.tree.Mark.TheVariants.{Dead as dead, LimitSteps as limit_steps};
+ghost use Rattle.cp_model.specs.declared.tree.Limits.{Limits};
 ghost use Rattle.cp_strand.specs.Declares.{DeclaresItsVariables};
 ghost use Rattle.cp_theory.specs.Lawful.{IsEdgeOf, IsLawful};
 ghost use Rattle.cp_roots.specs.Roots.{Root};

@@ -1,7 +1,10 @@
 // The law of limits. It is the contract of a function that does nothing.
 ghost use Rattle.std.specs.Prelude.{◌≡◌, ◌↔◌, List};
-ghost use Rattle.cp_model.specs.Strand.{Declaration, Protocol};
-ghost use Rattle.cp_model.specs.Tree.{at_step_limit, at_strand_limit, Tree, Limits, ReachedSteps, ReachedStrands};
+ghost use Rattle.cp_model.specs.Strand.{Protocol};
+ghost use Rattle.cp_model.specs.declared.variable.Declaration.{Declaration};
+ghost use Rattle.cp_model.specs.Tree.{Tree, ReachedSteps, ReachedStrands};
+ghost use Rattle.cp_model.specs.declared.tree.Outcome.TheVariants.{LimitSteps as at_step_limit, LimitStrands as at_strand_limit};
+ghost use Rattle.cp_model.specs.declared.tree.Limits.{Limits};
 ghost use Rattle.cp_roots.specs.Roots.{Root};
 ghost use Rattle.cp_tree.specs.Searched.{IsTreeFrom};
 

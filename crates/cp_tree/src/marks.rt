@@ -1,10 +1,13 @@
 // The law of marks. It is the contract of a function that does nothing.
 ghost use Rattle.std.specs.Prelude.{◌≡◌, ◌⊎◌, ◌<◌, ◌≤◌, ℕ, List, [], length, map, Some, None};
 ghost use Rattle.cp_lists.specs.Lists.{item_at};
-ghost use Rattle.cp_model.specs.Strand.{Declaration, Protocol};
+ghost use Rattle.cp_model.specs.Strand.{Protocol};
+ghost use Rattle.cp_model.specs.declared.variable.Declaration.{Declaration};
 ghost use Rattle.cp_model.specs.Derivable.{IsUnrealised};
 ghost use Rattle.cp_model.specs.Homomorphism.{Embeds};
-ghost use Rattle.cp_model.specs.Tree.{shape, dead, seen, instance_of, limit_steps, limit_strands, Label, Tree, Limits, expanded_count};
+ghost use Rattle.cp_model.specs.Tree.{Label, Tree, expanded_count};
+ghost use Rattle.cp_model.specs.declared.tree.Mark.TheVariants.{Shape as shape, Dead as dead, Seen as seen, InstanceOf as instance_of, LimitSteps as limit_steps, LimitStrands as limit_strands};
+ghost use Rattle.cp_model.specs.declared.tree.Limits.{Limits};
 ghost use Rattle.cp_shapes.specs.Shapes.{IsLeast};
 ghost use Rattle.cp_roots.specs.Roots.{Root};
 ghost use Rattle.cp_tree.specs.Made.{link_of, MayPointTo};

@@ -5,8 +5,11 @@ use Rattle.std.specs.Cmp.Lexicographic.{pointwise}
 use Rattle.std.specs.Option.{option_eq}
 use Rattle.std.proofs.lemmas.Bool.{eqb-true, eqb-false, ltb-true, ltb-false}
 use Rattle.cp_lists.specs.Lists.{IsIn, here, there}
-use Rattle.cp_model.specs.Message.{KeyPair, pubk, asymmetric, key, tag}
-use Rattle.cp_model.specs.Term.{Sort, text_sort, datum_sort, name_sort, skey_sort, akey_sort, Variable, SymmetricTerm, skey_variable, ltk_term, PairTerm, akey_variable, pubk_term, KeyTerm, symmetric_term, asymmetric_term, AtomTerm, text_variable, datum_variable, name_variable, key_term, Term, tag_term, atom_term, pair_term, enc_term, variables_of_key, variables_of_atom, variables_of, Assignment, flag_of, value_of_key, value_of_atom, value_of}
+use Rattle.cp_model.specs.Message.{KeyPair, pubk, asymmetric, key, tag, atom}
+use Rattle.cp_model.specs.Term.{SymmetricTerm, skey_variable, ltk_term, PairTerm, akey_variable, pubk_term, KeyTerm, symmetric_term, asymmetric_term, AtomTerm, text_variable, datum_variable, name_variable, key_term, Term, tag_term, atom_term, pair_term, enc_term, variables_of_key, variables_of_atom, variables_of, Assignment, flag_of, value_of_key, value_of_atom, value_of}
+use Rattle.cp_model.specs.declared.sort.Sort.{Sort}
+use Rattle.cp_model.specs.declared.sort.Sort.TheVariants.{Text as text_sort, Datum as datum_sort, Name as name_sort, Skey as skey_sort, Akey as akey_sort}
+use Rattle.cp_model.specs.declared.variable.Variable.{Variable}
 use Rattle.std.specs.Bool.{Decides}
 use Rattle.std.proofs.lemmas.Bool.Decides.{Decides-and}
 use Rattle.cp_model.proofs.LawTerms.{flag_last}
@@ -103,19 +106,19 @@ abbrev AtomFinding : AtomTerm → AtomTerm → Difference → Type 0
 AtomFinding u v d = Finding (u ≡ v) (λ g. value_of_atom g u ≡ value_of_atom g v) (both_variables u v) d
 
 texts_found : (m n : ℕ) → AtomFinding (text_variable m) (text_variable n) (between m (text_variable m) n (text_variable n))
-texts_found m n = kind_found _ _ text_sort text_variable (λ _. refl) (λ _. refl) (λ _ _ h. h) m n (λ e. ap text_variable e) (λ g e. sym e) (λ g e. e)
+texts_found m n = kind_found _ _ text_sort text_variable (λ _. refl) (λ _. refl) (λ _ _ h. h) m n (λ e. ap text_variable e) (λ g e. ap atom (sym e)) (λ g e. ap atom e)
 
 datums_found : (m n : ℕ) → AtomFinding (datum_variable m) (datum_variable n) (between m (datum_variable m) n (datum_variable n))
-datums_found m n = kind_found _ _ datum_sort datum_variable (λ _. refl) (λ _. refl) (λ _ _ h. h) m n (λ e. ap datum_variable e) (λ g e. sym e) (λ g e. e)
+datums_found m n = kind_found _ _ datum_sort datum_variable (λ _. refl) (λ _. refl) (λ _ _ h. h) m n (λ e. ap datum_variable e) (λ g e. ap atom (sym e)) (λ g e. ap atom e)
 
 names_found : (m n : ℕ) → AtomFinding (name_variable m) (name_variable n) (between_names m n)
-names_found m n = kind_found _ _ name_sort name_variable (λ _. refl) (λ _. refl) (λ _ _ h. h) m n (λ e. ap name_variable e) (λ g e. sym e) (λ g e. e)
+names_found m n = kind_found _ _ name_sort name_variable (λ _. refl) (λ _. refl) (λ _ _ h. h) m n (λ e. ap name_variable e) (λ g e. ap atom (sym e)) (λ g e. ap atom e)
 
 abbrev symmetric_atom : SymmetricTerm → AtomTerm
 symmetric_atom k = key_term (symmetric_term k)
 
 skeys_found : (m n : ℕ) → AtomFinding (symmetric_atom (skey_variable m)) (symmetric_atom (skey_variable n)) (difference_of_symmetric (skey_variable m) (skey_variable n))
-skeys_found m n = kind_found _ _ skey_sort (λ k. symmetric_atom (skey_variable k)) (λ _. refl) (λ _. refl) (λ _ _ h. h) m n (λ e. ap (λ (k : ℕ). symmetric_atom (skey_variable k)) e) (λ g e. sym e) (λ g e. e)
+skeys_found m n = kind_found _ _ skey_sort (λ k. symmetric_atom (skey_variable k)) (λ _. refl) (λ _. refl) (λ _ _ h. h) m n (λ e. ap (λ (k : ℕ). symmetric_atom (skey_variable k)) e) (λ g e. ap atom (sym e)) (λ g e. ap atom e)
 
 abbrev name_at : ℕ → Variable
 name_at n = record { sort = name_sort; number = n }
@@ -149,14 +152,14 @@ ltk_found a b c d =
 symmetric_found : (k j : SymmetricTerm) → AtomFinding (symmetric_atom k) (symmetric_atom j) (difference_of_symmetric k j)
 symmetric_found (skey_variable m) (skey_variable n) = skeys_found m n
 symmetric_found (skey_variable m) (ltk_term a b) = record {
-  every = λ g e. e;
+  every = λ g e. ap atom e;
   absent = λ h. skey_not_in_names h;
   left = here;
   right = λ x h. there h;
   before = tt;
 }
 symmetric_found (ltk_term a b) (skey_variable n) = record {
-  every = λ g e. sym e;
+  every = λ g e. ap atom (sym e);
   absent = λ h. skey_not_in_names h;
   left = there (there here);
   right = λ x h. in_append_left _ h;
@@ -208,8 +211,8 @@ akeys_between : (f h s : Bool) → flag_of f h ≡ s → (m n : ℕ) → (m ≡ 
     AtomFinding (akey_atom f m) (akey_atom h n) (between m (akey_atom s m) n (akey_atom s n))
 akeys_between f h s sum m n is_same =
     kind_found _ _ akey_sort (akey_atom s) (λ _. refl) (λ _. refl) (λ _ _ h. h) m n is_same
-    (λ g e. akeys_meet h f s (sum_comm h f ∙ sum) (g.akeys n) (g.akeys m) (sym e))
-    (λ g e. akeys_meet f h s sum (g.akeys m) (g.akeys n) e)
+    (λ g e. ap atom (akeys_meet h f s (sum_comm h f ∙ sum) (g.akeys n) (g.akeys m) (sym e)))
+    (λ g e. ap atom (akeys_meet f h s sum (g.akeys m) (g.akeys n) e))
 
 own_inverse : (f h : Bool) → flag_of f h ≡ true → (x : Bool × KeyPair) → key (asymmetric (flag_of f x.0) x.1) ≡ key (asymmetric (flag_of h x.0) x.1) → ⊥
 own_inverse f h sum x e = let e' : key (asymmetric x.0 x.1) ≡ key (asymmetric (not x.0) x.1) = akeys_meet f h true sum x x e in
@@ -250,14 +253,14 @@ names_choice f h p q a b false d = λ g w. let e0 : f ≡ h = cc in let e1 : p �
 pairs_found : (f : Bool) (k : PairTerm) (h : Bool) (j : PairTerm) → AtomFinding (asymmetric_atom f k) (asymmetric_atom h j) (difference_of_pairs f k h j)
 pairs_found f (akey_variable m) h (akey_variable n) = akeys_choice f h m n (same_bool f h) refl
 pairs_found f (akey_variable m) h (pubk_term p a) = record {
-  every = λ g e. name_key f h (g.akeys m) (pubk p (g.names a)) e;
+  every = λ g e. ap atom (name_key f h (g.akeys m) (pubk p (g.names a)) e);
   absent = λ i. akey_is_no_name (only_item i);
   left = here;
   right = λ x i. there i;
   before = tt;
 }
 pairs_found f (pubk_term p a) h (akey_variable n) = record {
-  every = λ g e. name_key h f (g.akeys n) (pubk p (g.names a)) (sym e);
+  every = λ g e. ap atom (name_key h f (g.akeys n) (pubk p (g.names a)) (sym e));
   absent = λ i. akey_is_no_name (only_item i);
   left = there here;
   right = λ x i. in_append_left (akey_at n ∷ []) i;

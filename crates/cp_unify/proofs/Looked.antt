@@ -4,11 +4,12 @@ use Rattle.std.specs.Bool.{Decides}
 use Rattle.std.specs.Option.{option_map}
 use Rattle.std.proofs.lemmas.List.{drop_all}
 use Rattle.cp_lists.proofs.Members.{drop_read}
-use Rattle.cp_model.specs.Term.{Sort, text_sort, datum_sort, name_sort, skey_sort, akey_sort, Variable, skey_variable, ltk_term, akey_variable, pubk_term, symmetric_term, asymmetric_term, AtomTerm, text_variable, datum_variable, name_variable, key_term, Term, tag_term, atom_term, pair_term, enc_term, atom_of_variable, apply_to}
+use Rattle.cp_model.specs.Term.{skey_variable, ltk_term, akey_variable, pubk_term, symmetric_term, asymmetric_term, AtomTerm, text_variable, datum_variable, name_variable, key_term, Term, tag_term, atom_term, pair_term, enc_term, variable_term, apply_to}
+use Rattle.cp_model.specs.declared.sort.Sort.{Sort}
+use Rattle.cp_model.specs.declared.sort.Sort.TheVariants.{Text as text_sort, Datum as datum_sort, Name as name_sort, Skey as skey_sort, Akey as akey_sort}
+use Rattle.cp_model.specs.declared.variable.Variable.{Variable}
 use Rattle.cp_model.proofs.LawTerms.{term_unchanged}
-use Rattle.cp_term.specs.Variables.{variable_term}
-use Rattle.cp_model.specs.declared.sort.Sort.{Sort as ProgramSort}
-use Rattle.cp_model.specs.declared.sort.Sort.TheVariants.{Text, Datum, Name, Skey, Akey}
+use Rattle.cp_term.specs.Variables.{variable_of_sort}
 use Rattle.cp_unify.specs.Atoms.{IsAtom, atom_of}
 use Rattle.cp_unify.specs.Bindings.{Binding, sort_of, variable_of, as_substitution}
 use Rattle.cp_unify.specs.Matched.{bound_term}
@@ -21,14 +22,10 @@ use Rattle.cp_unify.proofs.VariablesUnder.{bound, other}
 pub record IsVariableTerm (n : ℕ) (v : Term) : Type 0 where
   pub variable : Variable
   pub numbered : variable.number ≡ n
-  pub is_variable : v ≡ atom_term (atom_of_variable variable)
+  pub is_variable : v ≡ variable_term variable
 
-pub variable_is_term : (s : ProgramSort) (n : ℕ) → IsVariableTerm n (variable_term s n)
-variable_is_term Text n = record { variable = record { sort = text_sort; number = n }; numbered = refl; is_variable = refl }
-variable_is_term Datum n = record { variable = record { sort = datum_sort; number = n }; numbered = refl; is_variable = refl }
-variable_is_term Name n = record { variable = record { sort = name_sort; number = n }; numbered = refl; is_variable = refl }
-variable_is_term Skey n = record { variable = record { sort = skey_sort; number = n }; numbered = refl; is_variable = refl }
-variable_is_term Akey n = record { variable = record { sort = akey_sort; number = n }; numbered = refl; is_variable = refl }
+pub variable_is_term : (s : Sort) (n : ℕ) → IsVariableTerm n (variable_of_sort s n)
+variable_is_term s n = record { variable = record { sort = s; number = n }; numbered = refl; is_variable = refl }
 
 -- From place i on the bindings do to a variable what all do.
 pub record IsYetToFind (bs : List Binding) (i : ℕ) (v : Term) : Type 0 where
@@ -39,35 +36,35 @@ pub yet_to_find : (bs : List Binding) (v : Term) → IsYetToFind bs 0 v
 yet_to_find bs v = record { applied = refl; exact = refl }
 
 pub found_here : (bs : List Binding) (i : ℕ) (b : Binding) (v : Term) → IsYetToFind bs i v →
-    i < length bs → b ≡ get_or bs i b → v ≡ atom_term (atom_of_variable (variable_of b)) → apply_to (as_substitution bs) v ≡ atom_term b.term
+    i < length bs → b ≡ get_or bs i b → v ≡ variable_term (variable_of b) → apply_to (as_substitution bs) v ≡ atom_term b.term
 found_here bs i b v so_far below read here =
     so_far.applied ∙ ap (λ (cs : List Binding). apply_to (as_substitution cs) v) (drop_read bs i b below read)
     ∙ ap (apply_to (as_substitution (b ∷ drop (i + 1) bs))) here ∙ ap atom_term (bound b (as_substitution (drop (i + 1) bs)))
 
-term_here : (b : Binding) (bs : List Binding) (v : Term) → v ≡ atom_term (atom_of_variable (variable_of b)) → bound_term (b ∷ bs) v ≡ Some b.term
-term_here b bs v here = rw ((same_Decides v (atom_term (atom_of_variable (variable_of b)))).1 here) refl
+term_here : (b : Binding) (bs : List Binding) (v : Term) → v ≡ variable_term (variable_of b) → bound_term (b ∷ bs) v ≡ Some b.term
+term_here b bs v here = rw ((same_Decides v (variable_term (variable_of b))).1 here) refl
 
 pub found_exactly : (bs : List Binding) (i : ℕ) (b : Binding) (v : Term) → IsYetToFind bs i v →
-    i < length bs → b ≡ get_or bs i b → v ≡ atom_term (atom_of_variable (variable_of b)) → bound_term bs v ≡ Some b.term
+    i < length bs → b ≡ get_or bs i b → v ≡ variable_term (variable_of b) → bound_term bs v ≡ Some b.term
 found_exactly bs i b v so_far below read here =
     so_far.exact ∙ ap (λ (cs : List Binding). bound_term cs v) (drop_read bs i b below read) ∙ term_here b (drop (i + 1) bs) v here
 
-not_here : {n : ℕ} (b : Binding) (bs : List Binding) (v : Term) → IsVariableTerm n v → (v ≡ atom_term (atom_of_variable (variable_of b)) → ⊥) →
+not_here : {n : ℕ} (b : Binding) (bs : List Binding) (v : Term) → IsVariableTerm n v → (v ≡ variable_term (variable_of b) → ⊥) →
     apply_to (as_substitution (b ∷ bs)) v ≡ apply_to (as_substitution bs) v
 not_here b bs v is apart =
     ap (apply_to (as_substitution (b ∷ bs))) is.is_variable
-    ∙ ap atom_term (other b (as_substitution bs) is.variable (λ e. apart (is.is_variable ∙ ap (λ (x : Variable). atom_term (atom_of_variable x)) e)))
+    ∙ ap atom_term (other b (as_substitution bs) is.variable (λ e. apart (is.is_variable ∙ ap (λ (x : Variable). variable_term x) e)))
     ∙ sym (ap (apply_to (as_substitution bs)) is.is_variable)
 
-term_not_here : (b : Binding) (bs : List Binding) (v : Term) → (v ≡ atom_term (atom_of_variable (variable_of b)) → ⊥) → bound_term (b ∷ bs) v ≡ bound_term bs v
-term_not_here b bs v apart = choose (same_term v (atom_term (atom_of_variable (variable_of b)))) (same_Decides v (atom_term (atom_of_variable (variable_of b)))).0
+term_not_here : (b : Binding) (bs : List Binding) (v : Term) → (v ≡ variable_term (variable_of b) → ⊥) → bound_term (b ∷ bs) v ≡ bound_term bs v
+term_not_here b bs v apart = choose (same_term v (variable_term (variable_of b))) (same_Decides v (variable_term (variable_of b))).0
   where
-    choose : (c : Bool) → (c ≡ true → v ≡ atom_term (atom_of_variable (variable_of b))) → (if c then Some b.term else bound_term bs v) ≡ bound_term bs v
+    choose : (c : Bool) → (c ≡ true → v ≡ variable_term (variable_of b)) → (if c then Some b.term else bound_term bs v) ≡ bound_term bs v
     choose true p = absurd (apart (p refl))
     choose false p = refl
 
 pub found_later : {n : ℕ} (bs : List Binding) (i : ℕ) (b : Binding) (v : Term) → IsVariableTerm n v → IsYetToFind bs i v →
-    i < length bs → b ≡ get_or bs i b → (v ≡ atom_term (atom_of_variable (variable_of b)) → ⊥) → IsYetToFind bs (i + 1) v
+    i < length bs → b ≡ get_or bs i b → (v ≡ variable_term (variable_of b) → ⊥) → IsYetToFind bs (i + 1) v
 found_later bs i b v is so_far below read apart = record {
   applied = so_far.applied ∙ ap (λ (cs : List Binding). apply_to (as_substitution cs) v) (drop_read bs i b below read) ∙ not_here b (drop (i + 1) bs) v is apart;
   exact = so_far.exact ∙ ap (λ (cs : List Binding). bound_term cs v) (drop_read bs i b below read) ∙ term_not_here b (drop (i + 1) bs) v apart;
@@ -96,35 +93,31 @@ term_number (tag_term bytes) = 0
 term_number (pair_term a b) = 0
 term_number (enc_term a k) = 0
 
-number_of_atom : (s : Sort) (n : ℕ) → atom_number (atom_of_variable (record { sort = s; number = n })) ≡ n
-number_of_atom s n = elim s as (λ k. atom_number (atom_of_variable (record { sort = k; number = n })) ≡ n) [ text_sort ↦ refl | datum_sort ↦ refl | name_sort ↦ refl | skey_sort ↦ refl | akey_sort ↦ refl ]
+number_of_term : (s : Sort) (n : ℕ) → term_number (variable_of_sort s n) ≡ n
+number_of_term s n = elim s as (λ k. term_number (variable_of_sort k n) ≡ n) [ text_sort ↦ refl | datum_sort ↦ refl | name_sort ↦ refl | skey_sort ↦ refl | akey_sort ↦ refl ]
 
-number_of_term : (s : ProgramSort) (n : ℕ) → term_number (variable_term s n) ≡ n
-number_of_term s n =
-    let v = variable_is_term s n in ap term_number v.is_variable ∙ number_of_atom v.variable.sort v.variable.number ∙ v.numbered
-
-other_number : (s : ProgramSort) (n : ℕ) (b : Binding) → (b.number ≡ n → ⊥) → variable_term s n ≡ atom_term (atom_of_variable (variable_of b)) → ⊥
+other_number : (s : Sort) (n : ℕ) (b : Binding) → (b.number ≡ n → ⊥) → variable_of_sort s n ≡ variable_term (variable_of b) → ⊥
 other_number s n b apart e =
-    apart (sym (number_of_atom (sort_of b.term) b.number) ∙ sym (ap term_number e) ∙ number_of_term s n)
+    apart (sym (number_of_term (sort_of b.term) b.number) ∙ sym (ap term_number e) ∙ number_of_term s n)
 
-pub behind_applied : (s : ProgramSort) (n : ℕ) (rest bs : List Binding) → IsRestAfter n rest bs →
-    apply_to (as_substitution bs) (variable_term s n) ≡ apply_to (as_substitution rest) (variable_term s n)
-behind_applied s n rest [] h = ap (λ (cs : List Binding). apply_to (as_substitution cs) (variable_term s n)) (sym h)
-behind_applied s n rest (b ∷ bs) (inl e) = ap (λ (cs : List Binding). apply_to (as_substitution cs) (variable_term s n)) (sym e)
+pub behind_applied : (s : Sort) (n : ℕ) (rest bs : List Binding) → IsRestAfter n rest bs →
+    apply_to (as_substitution bs) (variable_of_sort s n) ≡ apply_to (as_substitution rest) (variable_of_sort s n)
+behind_applied s n rest [] h = ap (λ (cs : List Binding). apply_to (as_substitution cs) (variable_of_sort s n)) (sym h)
+behind_applied s n rest (b ∷ bs) (inl e) = ap (λ (cs : List Binding). apply_to (as_substitution cs) (variable_of_sort s n)) (sym e)
 behind_applied s n rest (b ∷ bs) (inr p) =
-    not_here b bs (variable_term s n) (variable_is_term s n) (other_number s n b p.0) ∙ behind_applied s n rest bs p.1
+    not_here b bs (variable_of_sort s n) (variable_is_term s n) (other_number s n b p.0) ∙ behind_applied s n rest bs p.1
 
-pub behind_bound : (s : ProgramSort) (n : ℕ) (rest bs : List Binding) → IsRestAfter n rest bs →
-    bound_term bs (variable_term s n) ≡ bound_term rest (variable_term s n)
-behind_bound s n rest [] h = ap (λ (cs : List Binding). bound_term cs (variable_term s n)) (sym h)
-behind_bound s n rest (b ∷ bs) (inl e) = ap (λ (cs : List Binding). bound_term cs (variable_term s n)) (sym e)
+pub behind_bound : (s : Sort) (n : ℕ) (rest bs : List Binding) → IsRestAfter n rest bs →
+    bound_term bs (variable_of_sort s n) ≡ bound_term rest (variable_of_sort s n)
+behind_bound s n rest [] h = ap (λ (cs : List Binding). bound_term cs (variable_of_sort s n)) (sym h)
+behind_bound s n rest (b ∷ bs) (inl e) = ap (λ (cs : List Binding). bound_term cs (variable_of_sort s n)) (sym e)
 behind_bound s n rest (b ∷ bs) (inr p) =
-    term_not_here b bs (variable_term s n) (other_number s n b p.0) ∙ behind_bound s n rest bs p.1
+    term_not_here b bs (variable_of_sort s n) (other_number s n b p.0) ∙ behind_bound s n rest bs p.1
 
 -- What a look-up in the rest has found is of all.
-pub found_behind : {A : Type 0} (f : A → Term) (s : ProgramSort) (n : ℕ) (rest bs : List Binding) (found : Option A) → IsRestAfter n rest bs →
-    MatchOption found (apply_to (as_substitution rest) (variable_term s n) ≡ variable_term s n) (λ t. apply_to (as_substitution rest) (variable_term s n) ≡ f t) →
-    MatchOption found (apply_to (as_substitution bs) (variable_term s n) ≡ variable_term s n) (λ t. apply_to (as_substitution bs) (variable_term s n) ≡ f t)
+pub found_behind : {A : Type 0} (f : A → Term) (s : Sort) (n : ℕ) (rest bs : List Binding) (found : Option A) → IsRestAfter n rest bs →
+    MatchOption found (apply_to (as_substitution rest) (variable_of_sort s n) ≡ variable_of_sort s n) (λ t. apply_to (as_substitution rest) (variable_of_sort s n) ≡ f t) →
+    MatchOption found (apply_to (as_substitution bs) (variable_of_sort s n) ≡ variable_of_sort s n) (λ t. apply_to (as_substitution bs) (variable_of_sort s n) ≡ f t)
 found_behind f s n rest bs None h k = behind_applied s n rest bs h ∙ k
 found_behind f s n rest bs (Some t) h k = behind_applied s n rest bs h ∙ k
 

@@ -2,7 +2,7 @@
 use Rattle.std.proofs.Common.{◌⊎◌, inl, inr, List, ◌∷◌, ◌++◌, subst}
 use Rattle.cp_lists.specs.Lists.{IsIn}
 use Rattle.cp_lists.proofs.Members.{in_cases, in_append_left, in_append_right, in_append}
-use Rattle.cp_model.specs.Term.{Variable}
+use Rattle.cp_model.specs.declared.variable.Variable.{Variable}
 use Rattle.cp_unify.specs.Unifiers.{AreVariablesAmong}
 
 either_among : (x : Variable) (xs ys zs : List Variable) → AreVariablesAmong xs zs → AreVariablesAmong ys zs → IsIn x xs ⊎ IsIn x ys → IsIn x zs

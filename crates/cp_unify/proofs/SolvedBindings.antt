@@ -1,7 +1,9 @@
 -- What solved bindings do to terms, and how a further binding is added to them.
 use Rattle.std.proofs.Common.{◌≡◌, Bool, List, [], ◌∷◌, ◌++◌, map, refl, sym, ap, ◌∙◌, subst}
 use Rattle.cp_model.specs.Message.{KeyPair, symmetric, asymmetric, key}
-use Rattle.cp_model.specs.Term.{Sort, Variable, SymmetricTerm, PairTerm, symmetric_term, asymmetric_term, AtomTerm, text_variable, datum_variable, name_variable, key_term, Term, atom_of_variable, Assignment, value_of_symmetric, value_of_half, value_of_atom, value_of, Substitution, apply_to_symmetric, apply_to_half, apply_to_atom, apply_to, after, composed}
+use Rattle.cp_model.specs.Term.{SymmetricTerm, PairTerm, symmetric_term, asymmetric_term, AtomTerm, text_variable, datum_variable, name_variable, key_term, Term, variable_term, Assignment, value_of_symmetric, value_of_half, value_of, Substitution, apply_to_symmetric, apply_to_half, apply_to_atom, apply_to, after, composed, atom_term}
+use Rattle.cp_model.specs.declared.sort.Sort.{Sort}
+use Rattle.cp_model.specs.declared.variable.Variable.{Variable}
 use Rattle.cp_model.proofs.LawTerms.{atom_after, value_after}
 use Rattle.cp_unify.specs.Bindings.{Binding, sort_of, variable_of, Meets, as_substitution}
 use Rattle.cp_unify.specs.Joined.{moved, joined_bindings}
@@ -41,17 +43,17 @@ sort_kept s (key_term (asymmetric_term flag k)) = refl
 pub variable_kept : (q : List Binding) (b : Binding) → variable_of (moved q b) ≡ variable_of b
 variable_kept q b = ap (λ (k : Sort). let x : Variable = record { sort = k; number = b.number } in x) (sort_kept (as_substitution q) b.term)
 
-left_kept : (g : Assignment) (q : List Binding) (b : Binding) → value_of_atom g (atom_of_variable (variable_of (moved q b))) ≡ value_of_atom g (atom_of_variable (variable_of b))
-left_kept g q b = ap (λ (x : Variable). value_of_atom g (atom_of_variable x)) (variable_kept q b)
+left_kept : (g : Assignment) (q : List Binding) (b : Binding) → value_of g (variable_term (variable_of (moved q b))) ≡ value_of g (variable_term (variable_of b))
+left_kept g q b = ap (λ (x : Variable). value_of g (variable_term x)) (variable_kept q b)
 
 -- What meets q meets bindings where it meets them with their terms under q.
 pub moved_meets : (g : Assignment) (r q : List Binding) → Meets g q → Meets g r → Meets g (map (moved q) r)
 moved_meets g [] q met m = tt
-moved_meets g (b ∷ bs) q met m = (left_kept g q b ∙ m.0 ∙ sym (atom_met g q b.term met), moved_meets g bs q met m.1)
+moved_meets g (b ∷ bs) q met m = (left_kept g q b ∙ m.0 ∙ sym (value_met g q (atom_term b.term) met), moved_meets g bs q met m.1)
 
 pub meets_moved : (g : Assignment) (r q : List Binding) → Meets g q → Meets g (map (moved q) r) → Meets g r
 meets_moved g [] q met m = tt
-meets_moved g (b ∷ bs) q met m = (sym (left_kept g q b) ∙ m.0 ∙ atom_met g q b.term met, meets_moved g bs q met m.1)
+meets_moved g (b ∷ bs) q met m = (sym (left_kept g q b) ∙ m.0 ∙ value_met g q (atom_term b.term) met, meets_moved g bs q met m.1)
 
 meets_append : (g : Assignment) (r q : List Binding) → Meets g r → Meets g q → Meets g (r ++ q)
 meets_append g [] q m n = n
@@ -79,10 +81,10 @@ AlwaysMet r = (g : Assignment) → Meets (after g (as_substitution r)) r
 
 -- Bindings that leave both sides of a further one, and which leaves its own term, with that one.
 pub always_met_joined : (r : List Binding) (b : Binding) → AlwaysMet r →
-    apply_to_atom (as_substitution r) (atom_of_variable (variable_of b)) ≡ atom_of_variable (variable_of b) →
-    apply_to_atom (as_substitution r) b.term ≡ b.term →
-    apply_to_atom (as_substitution (b ∷ [])) (atom_of_variable (variable_of b)) ≡ b.term →
-    apply_to_atom (as_substitution (b ∷ [])) b.term ≡ b.term →
+    apply_to (as_substitution r) (variable_term (variable_of b)) ≡ variable_term (variable_of b) →
+    apply_to (as_substitution r) (atom_term b.term) ≡ atom_term b.term →
+    apply_to (as_substitution (b ∷ [])) (variable_term (variable_of b)) ≡ atom_term b.term →
+    apply_to (as_substitution (b ∷ [])) (atom_term b.term) ≡ atom_term b.term →
     AlwaysMet (joined_bindings r (b ∷ []))
 always_met_joined r b met left right bound absent g =
     let q : List Binding = b ∷ [] in
@@ -90,12 +92,12 @@ always_met_joined r b met left right bound absent g =
     let h : Assignment = after f (as_substitution r) in
     let same : after g (as_substitution (joined_bindings r q)) ≡ h =
     ap (λ (s : Substitution). after g s) (as_joined r q) ∙ after_composed g (as_substitution r) (as_substitution q) in
-    let at_variable : value_of_atom h (atom_of_variable (variable_of b)) ≡ value_of_atom g b.term =
-    atom_after f (as_substitution r) (atom_of_variable (variable_of b)) ∙ ap (value_of_atom f) left
-    ∙ atom_after g (as_substitution q) (atom_of_variable (variable_of b)) ∙ ap (value_of_atom g) bound in
-    let at_term : value_of_atom h b.term ≡ value_of_atom g b.term =
-    atom_after f (as_substitution r) b.term ∙ ap (value_of_atom f) right
-    ∙ atom_after g (as_substitution q) b.term ∙ ap (value_of_atom g) absent in
+    let at_variable : value_of h (variable_term (variable_of b)) ≡ value_of g (atom_term b.term) =
+    value_after f (as_substitution r) (variable_term (variable_of b)) ∙ ap (value_of f) left
+    ∙ value_after g (as_substitution q) (variable_term (variable_of b)) ∙ ap (value_of g) bound in
+    let at_term : value_of h (atom_term b.term) ≡ value_of g (atom_term b.term) =
+    value_after f (as_substitution r) (atom_term b.term) ∙ ap (value_of f) right
+    ∙ value_after g (as_substitution q) (atom_term b.term) ∙ ap (value_of g) absent in
     let all : Meets h (joined_bindings r q) = meets_joined h r q (met f) (at_variable ∙ sym at_term, tt) in
     subst (λ (k : Assignment). Meets k (joined_bindings r q)) (sym same) all
 
@@ -120,7 +122,7 @@ unified r a b met equal =
 solved_where_met : (s : Substitution) (q : List Binding) → Meets (after free s) q → Solves s q
 solved_where_met s [] m = tt
 solved_where_met s (b ∷ bs) m =
-    (same_atoms _ _ (sym (atom_after free s (atom_of_variable (variable_of b))) ∙ m.0 ∙ atom_after free s b.term), solved_where_met s bs m.1)
+    (same_terms _ _ (sym (value_after free s (variable_term (variable_of b))) ∙ m.0 ∙ value_after free s (atom_term b.term)), solved_where_met s bs m.1)
 
 pub solves : (r q : List Binding) → AlwaysMet r → ((g : Assignment) → Meets g r → Meets g q) → Solves (as_substitution r) q
 solves r q met sound = solved_where_met (as_substitution r) q (sound (after free (as_substitution r)) (met free))
@@ -132,7 +134,7 @@ solvable r met = record { solution = after free (as_substitution r); meets = met
 met_where_solved : (s : Substitution) (q : List Binding) → Solves s q → Meets (after free s) q
 met_where_solved s [] h = tt
 met_where_solved s (b ∷ bs) h =
-    (atom_after free s (atom_of_variable (variable_of b)) ∙ ap (value_of_atom free) h.0 ∙ sym (atom_after free s b.term), met_where_solved s bs h.1)
+    (value_after free s (variable_term (variable_of b)) ∙ ap (value_of free) h.0 ∙ sym (value_after free s (atom_term b.term)), met_where_solved s bs h.1)
 
 pub factoring : (r q : List Binding) (a b : Term) → ((g : Assignment) → Meets g q → value_of g a ≡ value_of g b → Meets g r) →
     (t : Substitution) → Solves t q → apply_to t a ≡ apply_to t b → (u : Term) → apply_to t (apply_to (as_substitution r) u) ≡ apply_to t u

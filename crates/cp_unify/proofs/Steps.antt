@@ -1,7 +1,10 @@
 -- The loop that mends one difference after the other.
 use Rattle.std.proofs.Common.{◌≡◌, ◌⊎◌, inl, inr, ◌<◌, ℕ, true, false, List, [], ◌∷◌, ◌++◌, refl, sym, ap, ◌∙◌, subst, arith}
 use Rattle.cp_lists.specs.Lists.{IsIn, here, there}
-use Rattle.cp_model.specs.Term.{Sort, text_sort, datum_sort, name_sort, skey_sort, akey_sort, Variable, skey_variable, ltk_term, akey_variable, pubk_term, symmetric_term, asymmetric_term, AtomTerm, text_variable, datum_variable, name_variable, key_term, Term, atom_of_variable, variables_of_atom, variables_of, Assignment, value_of, Substitution, apply_to_atom, apply_to}
+use Rattle.cp_model.specs.Term.{skey_variable, ltk_term, akey_variable, pubk_term, symmetric_term, asymmetric_term, AtomTerm, text_variable, datum_variable, name_variable, key_term, Term, atom_of_variable, variable_term, variables_of_atom, variables_of, Assignment, value_of, Substitution, apply_to_atom, apply_to, atom_term}
+use Rattle.cp_model.specs.declared.sort.Sort.{Sort}
+use Rattle.cp_model.specs.declared.sort.Sort.TheVariants.{Text as text_sort, Datum as datum_sort, Name as name_sort, Skey as skey_sort, Akey as akey_sort}
+use Rattle.cp_model.specs.declared.variable.Variable.{Variable}
 use Rattle.cp_model.specs.Identity.{unchanged}
 use Rattle.cp_model.proofs.LawTerms.{atom_unchanged, term_composed}
 use Rattle.cp_unify.specs.Bindings.{Binding, variable_of, Meets, put_term, as_substitution, variables_of_bindings}
@@ -20,9 +23,9 @@ use Rattle.cp_unify.proofs.Substituted.{as_joined, value_met}
 
 -- What bindings give to a variable is over their variables and that one.
 gives_cases : (b : Binding) (s : Substitution) (zs : List Variable) (x : Variable) → AreVariablesAmong (variables_of_atom b.term) zs →
-    AreVariablesAmong (variables_of_atom (apply_to_atom s (atom_of_variable x))) zs →
+    AreVariablesAmong (variables_of (apply_to s (variable_term x))) zs →
     ((is_variable x (variable_of b) ≡ true) × (x ≡ variable_of b)) ⊎ ((is_variable x (variable_of b) ≡ false) × (x ≡ variable_of b → ⊥)) →
-    AreVariablesAmong (variables_of_atom (apply_to_atom (put_term b.number b.term s) (atom_of_variable x))) zs
+    AreVariablesAmong (variables_of (apply_to (put_term b.number b.term s) (variable_term x))) zs
 gives_cases b s zs x own rest (inl p) =
     let e : apply_to_atom (put_term b.number b.term s) (atom_of_variable x) ≡ b.term =
     ap (λ (y : Variable). apply_to_atom (put_term b.number b.term s) (atom_of_variable y)) p.1 ∙ bound b s in
@@ -37,7 +40,7 @@ one_variable skey_sort n zs h y i = subst (λ (z : Variable). IsIn z zs) (sym (o
 one_variable akey_sort n zs h y i = subst (λ (z : Variable). IsIn z zs) (sym (only_item i)) h
 
 as_gives : (q : List Binding) (zs : List Variable) → AreVariablesAmong (variables_of_bindings q) zs → (x : Variable) → IsIn x zs →
-    AreVariablesAmong (variables_of_atom (apply_to_atom (as_substitution q) (atom_of_variable x))) zs
+    AreVariablesAmong (variables_of (apply_to (as_substitution q) (variable_term x))) zs
 as_gives [] zs h x i = rw atom_unchanged (one_variable x.sort x.number zs i)
 as_gives (b ∷ bs) zs h x i =
     gives_cases b (as_substitution bs) zs x (λ y j. h y (there (in_append_left (variables_of_bindings bs) j)))
@@ -157,9 +160,9 @@ reduced_further a0 b0 r0 a b r x h n =
     let of_x : AreVariablesAmong (variables_of_bindings q) zs =
     among_cons (variable_of x) _ zs (both _ n.left) (among_append (variables_of_atom x.term) [] zs (λ y i. both y (n.right y i)) (λ y i. absurd (not_in_none i))) in
     let met : AlwaysMet (joined_bindings r q) =
-    always_met_joined r x h.solved.met (left_alone (variable_of x) n.left)
-    (leaves_atom (as_substitution r) x.term (λ y i. left_alone y (n.right y i)))
-    (bound x unchanged) (leaves_absent x x.term n.absent) in
+    always_met_joined r x h.solved.met (ap atom_term (left_alone (variable_of x) n.left))
+    (ap atom_term (leaves_atom (as_substitution r) x.term (λ y i. left_alone y (n.right y i))))
+    (ap atom_term (bound x unchanged)) (ap atom_term (leaves_absent x x.term n.absent)) in
     record {
       solved = record { met = met; later_to_earlier = joined_before r x h.solved.later_to_earlier n.before };
       sound = λ g m e.
@@ -196,7 +199,7 @@ one_of skey_sort n y i = only_item i
 one_of akey_sort n y i = only_item i
 
 gone_one : (x : Binding) → (IsIn (variable_of x) (variables_of_atom x.term) → ⊥) → (z y : Variable) →
-    IsIn y (variables_of_atom (apply_to_atom (as_substitution (x ∷ [])) (atom_of_variable z))) → y ≡ variable_of x → ⊥
+    IsIn y (variables_of (apply_to (as_substitution (x ∷ [])) (variable_term z))) → y ≡ variable_of x → ⊥
 gone_one x absent z y i e =
     elim (is_variable_tells z (variable_of x)) [
       | inl p ↦

@@ -2,7 +2,7 @@
 use Rattle.std.proofs.Common.{◌≡◌, ℕ, Bool, true, false, if◌then◌else◌, ◌==◌, List, [], ◌∷◌, refl, sym, ap, ◌∙◌}
 use Rattle.std.proofs.lemmas.Bool.{eqb-true}
 use Rattle.cp_model.specs.Message.{KeyPair}
-use Rattle.cp_model.specs.Term.{PairTerm, KeyTerm, symmetric_term, asymmetric_term, AtomTerm, text_variable, datum_variable, name_variable, key_term, Term, atom_of_variable, Assignment, value_of_symmetric, value_of_half, value_of_atom, value_of, Substitution, apply_to_symmetric, apply_to_half, apply_to_key, apply_to_atom, apply_to, after, composed}
+use Rattle.cp_model.specs.Term.{PairTerm, KeyTerm, symmetric_term, asymmetric_term, AtomTerm, text_variable, datum_variable, name_variable, key_term, Term, variable_term, Assignment, value_of_symmetric, value_of_half, value_of_atom, value_of, Substitution, apply_to_symmetric, apply_to_half, apply_to_key, apply_to_atom, apply_to, after, composed, atom_term}
 use Rattle.cp_model.proofs.LawTerms.{atom_after, value_after}
 use Rattle.cp_unify.specs.Bindings.{Binding, variable_of, MeetsBinding, Meets, put, put_key, put_term, as_substitution}
 use Rattle.cp_unify.specs.Joined.{joined_bindings}
@@ -43,7 +43,7 @@ as_joined (b ∷ bs) q =
     ∙ put_composed b.number b.term (as_substitution bs) (as_substitution q)
 
 -- Under an assignment that meets the bindings, the substitution changes no value.
-after_put_key : (g : Assignment) (x : ℕ) (k : KeyTerm) (s : Substitution) → value_of_atom g (atom_of_variable (variable_of (record { number = x; term = key_term k }))) ≡ value_of_atom g (key_term k) →
+after_put_key : (g : Assignment) (x : ℕ) (k : KeyTerm) (s : Substitution) → value_of g (variable_term (variable_of (record { number = x; term = key_term k }))) ≡ value_of g (atom_term (key_term k)) →
     after g s ≡ g → after g (put_key x k s) ≡ g
 after_put_key g x (symmetric_term k) s e p =
     let e' : value_of_symmetric g k ≡ g.skeys x = cc in
@@ -56,7 +56,7 @@ after_put_key g x (asymmetric_term flag k) s e p =
     λ i. record (p i) { akeys = λ n. put_same f g.akeys x (flag, k) s.akeys e' (λ m j. (p j).akeys m) n i }
 
 after_put : (g : Assignment) (b : Binding) (s : Substitution) → MeetsBinding g b → after g s ≡ g → after g (put_term b.number b.term s) ≡ g
-after_put g b s = elim b.term as (λ u. value_of_atom g (atom_of_variable (variable_of (record { number = b.number; term = u }))) ≡ value_of_atom g u → after g s ≡ g → after g (put_term b.number u s) ≡ g) [
+after_put g b s = elim b.term as (λ u. value_of g (variable_term (variable_of (record { number = b.number; term = u }))) ≡ value_of g (atom_term u) → after g s ≡ g → after g (put_term b.number u s) ≡ g) [
   | text_variable m ↦ λ e p. let e' : g.texts m ≡ g.texts b.number = cc in
       λ i. record (p i) { texts = λ n. put_same g.texts g.texts b.number m s.texts e' (λ k j. (p j).texts k) n i }
   | datum_variable m ↦ λ e p. let e' : g.datums m ≡ g.datums b.number = cc in

@@ -1,6 +1,9 @@
 -- Bindings of variables to terms, and the substitution that they are.
 use Rattle.std.specs.Prelude.{◌≡◌, ℕ, List, [], ◌∷◌, ◌++◌, ◌==◌, if◌then◌else◌}
-use Rattle.cp_model.specs.Term.{Sort, text_sort, datum_sort, name_sort, skey_sort, akey_sort, Variable, KeyTerm, symmetric_term, asymmetric_term, AtomTerm, text_variable, datum_variable, name_variable, key_term, atom_of_variable, variables_of_atom, Assignment, value_of_atom, Substitution}
+use Rattle.cp_model.specs.Term.{KeyTerm, symmetric_term, asymmetric_term, AtomTerm, text_variable, datum_variable, name_variable, key_term, atom_term, variable_term, variables_of_atom, Assignment, value_of, Substitution}
+use Rattle.cp_model.specs.declared.sort.Sort.{Sort}
+use Rattle.cp_model.specs.declared.sort.Sort.TheVariants.{Text as text_sort, Datum as datum_sort, Name as name_sort, Skey as skey_sort, Akey as akey_sort}
+use Rattle.cp_model.specs.declared.variable.Variable.{Variable}
 use Rattle.cp_model.specs.Identity.{unchanged}
 
 -- A variable, by its number, and the term that it is bound to. The variable has the sort of the term.
@@ -26,7 +29,7 @@ variable_of b = record { sort = sort_of b.term; number = b.number }
 
 -- The assignment gives the variable of the binding the value of its term.
 abbrev pub MeetsBinding : Assignment → Binding → Type 0
-MeetsBinding g b = value_of_atom g (atom_of_variable (variable_of b)) ≡ value_of_atom g b.term
+MeetsBinding g b = value_of g (variable_term (variable_of b)) ≡ value_of g (atom_term b.term)
 
 -- The assignment gives the variable of each binding the value of its term.
 abbrev pub Meets : Assignment → List Binding → Type 0

@@ -3,20 +3,21 @@
 use Rattle.std.specs.Prelude.{ℕ, Bool, true, false, List, [], ◌∷◌, Option, Some, None, ◌&&◌, nat_eq, if◌then◌else◌, option_and_then}
 use Rattle.std.specs.Cmp.Lexicographic.{pointwise}
 use Rattle.std.specs.Option.{option_eq}
-use Rattle.cp_model.specs.Term.{SymmetricTerm, skey_variable, ltk_term, PairTerm, akey_variable, pubk_term, KeyTerm, symmetric_term, asymmetric_term, AtomTerm, text_variable, datum_variable, name_variable, key_term, Term, tag_term, atom_term, pair_term, enc_term, atom_of_variable, flag_of}
-use Rattle.cp_model.specs.Same.{same_bool, same_atom, same_term}
+use Rattle.cp_model.specs.Term.{SymmetricTerm, skey_variable, ltk_term, PairTerm, akey_variable, pubk_term, KeyTerm, symmetric_term, asymmetric_term, AtomTerm, text_variable, datum_variable, name_variable, key_term, Term, tag_term, atom_term, pair_term, enc_term, atom_of_variable, variable_term, flag_of}
+use Rattle.cp_model.specs.declared.sort.Sort.TheVariants.{Text as text_sort, Datum as datum_sort, Name as name_sort, Skey as skey_sort, Akey as akey_sort}
+use Rattle.cp_model.specs.declared.variable.Variable.{Variable}
+use Rattle.cp_model.specs.Same.{same_bool, same_atom, same_term, has_variable}
 use Rattle.cp_unify.specs.Bindings.{Binding, variable_of}
-use Rattle.cp_unify.specs.Matches.{is_number_of}
 
--- The test whether a number is listed; where there is no list, each is.
-abbrev pub is_listed : Option (List ℕ) → ℕ → Bool
-is_listed None m = true
-is_listed (Some ns) m = is_number_of ns m
+-- The test whether a variable is listed; where there is no list, each is.
+abbrev pub is_listed : Option (List Variable) → Variable → Bool
+is_listed None x = true
+is_listed (Some xs) x = has_variable xs x
 
 -- The term of the first binding of a variable, which is given as a term.
 abbrev pub bound_term : List Binding → Term → Option AtomTerm
 bound_term [] v = None
-bound_term (b ∷ bs) v = if same_term v (atom_term (atom_of_variable (variable_of b))) then Some b.term else bound_term bs v
+bound_term (b ∷ bs) v = if same_term v (variable_term (variable_of b)) then Some b.term else bound_term bs v
 
 -- Two keys have the same sort.
 abbrev pub is_same_key_sort : KeyTerm → KeyTerm → Bool
@@ -37,48 +38,48 @@ abbrev pub matched_local : ℕ → AtomTerm → List Binding → Option AtomTerm
 matched_local m v r None = Some (record { number = m; term = v } ∷ r)
 matched_local m v r (Some t) = if same_atom t v then Some r else None
 
--- The variable x of number m and the term v: a local may stand for any term of its sort, another variable for itself.
-abbrev pub matched_variable : (ℕ → Bool) → ℕ → AtomTerm → AtomTerm → List Binding → Option (List Binding)
-matched_variable is_local m x v r =
-    if is_same_sort x v
-    then (if is_local m then matched_local m v r (bound_term r (atom_term x)) else (if same_atom x v then Some r else None))
+-- A variable and the term v: a local may stand for any term of its sort, another variable for itself.
+abbrev pub matched_variable : (Variable → Bool) → Variable → AtomTerm → List Binding → Option (List Binding)
+matched_variable is_local x v r =
+    if is_same_sort (atom_of_variable x) v
+    then (if is_local x then matched_local x.number v r (bound_term r (variable_term x)) else (if same_atom (atom_of_variable x) v then Some r else None))
     else None
 
 -- A name and a name.
-abbrev pub matched_names : (ℕ → Bool) → ℕ → ℕ → List Binding → Option (List Binding)
-matched_names is_local a b r = matched_variable is_local a (name_variable a) (name_variable b) r
+abbrev pub matched_names : (Variable → Bool) → ℕ → ℕ → List Binding → Option (List Binding)
+matched_names is_local a b r = matched_variable is_local (record { sort = name_sort; number = a }) (name_variable b) r
 
 -- A symmetric key and another.
-abbrev pub matched_symmetric : (ℕ → Bool) → SymmetricTerm → SymmetricTerm → List Binding → Option (List Binding)
-matched_symmetric is_local (skey_variable m) j r = matched_variable is_local m (key_term (symmetric_term (skey_variable m))) (key_term (symmetric_term j)) r
+abbrev pub matched_symmetric : (Variable → Bool) → SymmetricTerm → SymmetricTerm → List Binding → Option (List Binding)
+matched_symmetric is_local (skey_variable m) j r = matched_variable is_local (record { sort = skey_sort; number = m }) (key_term (symmetric_term j)) r
 matched_symmetric is_local (ltk_term a b) (skey_variable n) r = None
 matched_symmetric is_local (ltk_term a b) (ltk_term c d) r = option_and_then (matched_names is_local b d) (matched_names is_local a c r)
 
 -- An asymmetric key and another; the flags say which are inverses.
-abbrev pub matched_pairs : (ℕ → Bool) → Bool → PairTerm → Bool → PairTerm → List Binding → Option (List Binding)
+abbrev pub matched_pairs : (Variable → Bool) → Bool → PairTerm → Bool → PairTerm → List Binding → Option (List Binding)
 matched_pairs is_local f (akey_variable m) g j r =
-    matched_variable is_local m (key_term (asymmetric_term false (akey_variable m))) (key_term (asymmetric_term (flag_of f g) j)) r
+    matched_variable is_local (record { sort = akey_sort; number = m }) (key_term (asymmetric_term (flag_of f g) j)) r
 matched_pairs is_local f (pubk_term p a) g (akey_variable n) r = None
 matched_pairs is_local f (pubk_term p a) g (pubk_term q b) r =
     if same_bool f g && option_eq (pointwise nat_eq) p q then matched_names is_local a b r else None
 
 -- A key and a key.
-abbrev pub matched_keys : (ℕ → Bool) → KeyTerm → KeyTerm → List Binding → Option (List Binding)
+abbrev pub matched_keys : (Variable → Bool) → KeyTerm → KeyTerm → List Binding → Option (List Binding)
 matched_keys is_local (symmetric_term k) (symmetric_term j) r = matched_symmetric is_local k j r
 matched_keys is_local (asymmetric_term f k) (asymmetric_term g j) r = matched_pairs is_local f k g j r
 matched_keys is_local (symmetric_term k) (asymmetric_term g j) r = None
 matched_keys is_local (asymmetric_term f k) (symmetric_term j) r = None
 
 -- Two terms of atom sorts.
-abbrev pub matched_atoms : (ℕ → Bool) → AtomTerm → AtomTerm → List Binding → Option (List Binding)
-matched_atoms is_local (text_variable m) v r = matched_variable is_local m (text_variable m) v r
-matched_atoms is_local (datum_variable m) v r = matched_variable is_local m (datum_variable m) v r
-matched_atoms is_local (name_variable m) v r = matched_variable is_local m (name_variable m) v r
+abbrev pub matched_atoms : (Variable → Bool) → AtomTerm → AtomTerm → List Binding → Option (List Binding)
+matched_atoms is_local (text_variable m) v r = matched_variable is_local (record { sort = text_sort; number = m }) v r
+matched_atoms is_local (datum_variable m) v r = matched_variable is_local (record { sort = datum_sort; number = m }) v r
+matched_atoms is_local (name_variable m) v r = matched_variable is_local (record { sort = name_sort; number = m }) v r
 matched_atoms is_local (key_term k) (key_term j) r = matched_keys is_local k j r
 matched_atoms is_local (key_term k) v r = None
 
 -- A pattern and a term. The key of an encryption comes before its plaintext.
-abbrev pub matched : (ℕ → Bool) → Term → Term → List Binding → Option (List Binding)
+abbrev pub matched : (Variable → Bool) → Term → Term → List Binding → Option (List Binding)
 matched is_local (tag_term x) (tag_term y) r = if pointwise nat_eq x y then Some r else None
 matched is_local (atom_term u) (atom_term v) r = matched_atoms is_local u v r
 matched is_local (pair_term a b) (pair_term c d) r = option_and_then (matched is_local b d) (matched is_local a c r)

@@ -1,7 +1,8 @@
 -- Most general unifiers.
 use Rattle.std.specs.Prelude.{◌≡◌, ◌<◌, ℕ, List, [], ◌∷◌, ◌++◌}
 use Rattle.cp_lists.specs.Lists.{IsIn}
-use Rattle.cp_model.specs.Term.{Variable, SymmetricTerm, skey_variable, ltk_term, PairTerm, akey_variable, pubk_term, KeyTerm, symmetric_term, asymmetric_term, AtomTerm, text_variable, datum_variable, name_variable, key_term, Term, atom_of_variable, variables_of, Assignment, value_of, Substitution, apply_to_atom, apply_to}
+use Rattle.cp_model.specs.Term.{SymmetricTerm, skey_variable, ltk_term, PairTerm, akey_variable, pubk_term, KeyTerm, symmetric_term, asymmetric_term, AtomTerm, text_variable, datum_variable, name_variable, key_term, Term, atom_term, variable_term, variables_of, Assignment, value_of, Substitution, apply_to}
+use Rattle.cp_model.specs.declared.variable.Variable.{Variable}
 use Rattle.cp_unify.specs.Bindings.{Binding, variable_of, Meets, as_substitution, variables_of_bindings}
 
 -- The symmetric key, where it is a variable, is one with a smaller number than x, so one that was made before.
@@ -38,7 +39,7 @@ AreVariablesAmong xs ys = (x : Variable) → IsIn x xs → IsIn x ys
 -- The substitution makes both sides of each binding equal.
 abbrev pub Solves : Substitution → List Binding → Type 0
 Solves s [] = Unit {0}
-Solves s (b ∷ bs) = (apply_to_atom s (atom_of_variable (variable_of b)) ≡ apply_to_atom s b.term) × Solves s bs
+Solves s (b ∷ bs) = (apply_to s (variable_term (variable_of b)) ≡ apply_to s (atom_term b.term)) × Solves s bs
 
 -- Some assignment meets the bindings.
 pub record IsSolvable (r : List Binding) : Type 0 where

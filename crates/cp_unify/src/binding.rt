@@ -1,7 +1,7 @@
 // Bindings of variables to terms.
 ghost use Rattle.std.specs.Prelude.{◌≡◌, ◌↔◌, ℕ, IsTrue, IfOk};
-ghost use Rattle.cp_model.specs.Term.{atom_term, atom_of_variable};
-ghost use Rattle.cp_term.specs.Variables.{variable_term};
+ghost use Rattle.cp_model.specs.Term.{atom_term, variable_term};
+ghost use Rattle.cp_term.specs.Variables.{variable_of_sort};
 ghost use Rattle.cp_unify.specs.Atoms.{IsAtom, atom_of};
 ghost use Rattle.cp_unify.specs.Bindings.{sort_of, variable_of};
 
@@ -53,8 +53,8 @@ impl Binding {
 
     /// The sort of the variable and of its term.
     pub fn sort(&self) -> Sort
-        ensures sort { (n : ℕ) → variable_term result n
-            ≡ atom_term (atom_of_variable (record { sort = sort_of self.now.term; number = n })) }
+        ensures sort { (n : ℕ) → variable_of_sort result n
+            ≡ variable_term (record { sort = sort_of self.now.term; number = n }) }
     {
         match self.term.shape() {
             Shape::Variable(_, sort) => sort,
@@ -66,14 +66,14 @@ impl Binding {
 
     /// Whether this variable of this sort is the one that is bound.
     pub(crate) fn binds(&self, sort: Sort, variable: VarId) -> bool
-        ensures { IsTrue result ↔ (variable_term sort variable ≡ atom_term (atom_of_variable (variable_of self.now))) }
+        ensures { IsTrue result ↔ (variable_of_sort sort variable ≡ variable_term (variable_of self.now)) }
     {
         self.variable == variable && self.sort() == sort
     }
 
     /// The variable as a term.
     pub(crate) fn left(&self, alloc: Global) -> Result<Term, AllocError>
-        ensures { IfOk result (λ t. t ≡ atom_term (atom_of_variable (variable_of self.now))) }
+        ensures { IfOk result (λ t. t ≡ variable_term (variable_of self.now)) }
     {
         var(alloc, self.variable, self.sort())
     }

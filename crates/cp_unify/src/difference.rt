@@ -4,7 +4,7 @@ ghost use Rattle.std.specs.Cmp.Lexicographic.{pointwise};
 ghost use Rattle.std.specs.Option.{option_map, option_eq};
 ghost use Rattle.cp_model.specs.Term.{atom_term, akey_variable, pubk_term, symmetric_term, ltk_term, tag_term, asymmetric_term, KeyTerm, key_term, inverse_term};
 ghost use Rattle.cp_term.specs.Keys.{key_as_term, IsKey};
-ghost use Rattle.cp_term.specs.Variables.{variable_term};
+ghost use Rattle.cp_term.specs.Variables.{variable_of_sort};
 ghost use Rattle.cp_unify.specs.Atoms.{IsAtom, atom_of};
 ghost use Rattle.cp_unify.specs.Differences.{akey_atom, between, between_names, between_akeys, between_opposites, difference_of_symmetric, difference_of_pairs, difference_of};
 ghost use Rattle.cp_term.specs.Spines.{HasTail};
@@ -43,7 +43,7 @@ fn bind_later(x: VarId, a: &Term, y: VarId, b: &Term) -> Result<Difference, Allo
 
 /// The difference of two variables of this sort that must be equal.
 fn alike_difference(alloc: Global, sort: Sort, x: VarId, y: VarId) -> Result<Difference, AllocError>
-    ensures { IfOk result (λ d. d ≡ between x (atom_of (variable_term sort x)) y (atom_of (variable_term sort y))) }
+    ensures { IfOk result (λ d. d ≡ between x (atom_of (variable_of_sort sort x)) y (atom_of (variable_of_sort sort y))) }
 {
     if x == y {
         return Ok(Difference::Same);
@@ -142,7 +142,7 @@ fn variable_difference(
     a: &Term,
     b: &Term,
 ) -> Result<Difference, AllocError>
-    requires { a.now ≡ variable_term sort x }
+    requires { a.now ≡ variable_of_sort sort x }
     ensures { IfOk result (λ d. d ≡ difference_of a.now b.now) }
 {
     match b.shape() {

@@ -3,7 +3,7 @@ ghost use Rattle.std.specs.Prelude.{◌≡◌, true, false, Some, None, if◌the
 ghost use Rattle.std.specs.Option.{option_map};
 ghost use Rattle.cp_model.specs.Term.{ltk_term, pubk_term, symmetric_term, asymmetric_term};
 ghost use Rattle.cp_term.specs.Keys.{key_as_term};
-ghost use Rattle.cp_term.specs.Variables.{variable_term};
+ghost use Rattle.cp_term.specs.Variables.{variable_of_sort};
 ghost use Rattle.cp_unify.specs.Beside.{MatchesBeside, NeverMatchesBeside};
 ghost use Rattle.cp_unify.specs.Matched.{is_listed, matched, matched_names};
 
@@ -14,7 +14,7 @@ use cp_term::{Shape, Sort, Term, VarId, is_of_sort};
 
 /// Whether a variable of this sort is bound to the term; `None` if it is not bound and has the term's sort.
 fn known_variable(variable: VarId, sort: Sort, term: &Term, given: &Subst) -> Option<bool>
-    ensures { IfSome result (λ same. matched (is_listed None) (variable_term sort variable) term.now given.now ≡ (if same then Some given.now else None)) }
+    ensures { IfSome result (λ same. matched (is_listed None) (variable_of_sort sort variable) term.now given.now ≡ (if same then Some given.now else None)) }
 {
     if !is_of_sort(term, sort) {
         return Some(false);

@@ -4,34 +4,41 @@ ghost use Rattle.std.specs.Option.{option_map};
 ghost use Rattle.cp_model.specs.Term.{AtomTerm, atom_term, ltk_term, pubk_term, symmetric_term, asymmetric_term, tag_term, variables_of};
 ghost use Rattle.cp_term.specs.Keys.{key_as_term};
 ghost use Rattle.cp_model.specs.Same.{same_atom};
-ghost use Rattle.cp_term.specs.Variables.{variable_term};
+ghost use Rattle.cp_term.specs.Variables.{variable_of_sort};
 ghost use Rattle.cp_unify.specs.Atoms.{IsAtom, atom_of};
 ghost use Rattle.cp_unify.specs.Differences.{akey_atom};
 ghost use Rattle.cp_unify.specs.Beside.{MatchesBeside, NeverMatchesBeside};
 ghost use Rattle.cp_unify.specs.Matched.{is_listed, bound_term, matched, matched_names};
-ghost use Rattle.cp_unify.specs.Matches.{with_numbers, IsMatch, HasNoMatch};
+ghost use Rattle.cp_unify.specs.Matches.{BindsOnly, IsMatch, HasNoMatch};
 ghost use Rattle.cp_term.specs.Spines.{HasTail};
 
 use crate::binding::Binding;
 use crate::difference::is_same_purpose;
 use crate::sides::{Sides, beside};
 use crate::subst::Subst;
+use cp_model::{Variable, has_variable};
 use cp_term::{Shape, Sort, Term, VarId, invert, is_of_sort, var};
 use std::alloc::{AllocError, Global};
 
 /// Whether a variable is one of the locals; without a list, every variable is.
-fn is_local(locals: Option<&[VarId]>, variable: VarId) -> bool
-    ensures { result ≡ is_listed (option_map (λ ns. ns.now) locals.entry) variable }
+fn is_local(locals: Option<&[Variable]>, sort: Sort, variable: VarId) -> bool
+    ensures { result ≡ is_listed (option_map (λ xs. xs.now) locals.entry) (record { sort = sort; number = variable }) }
 {
     match locals {
-        Some(locals) => locals.contains(&variable),
+        Some(locals) => has_variable(
+            locals,
+            Variable {
+                sort,
+                number: variable.number(),
+            },
+        ),
         None => true,
     }
 }
 
 /// Whether a term is this variable of this sort.
 pub(crate) fn is_variable(term: &Term, sort: Sort, variable: VarId) -> bool
-    ensures { IsTrue result ↔ (term.now ≡ variable_term sort variable) }
+    ensures { IsTrue result ↔ (term.now ≡ variable_of_sort sort variable) }
 {
     match term.shape() {
         Shape::Variable(other, other_sort) => other == variable && other_sort == sort,
@@ -43,7 +50,7 @@ pub(crate) fn is_variable(term: &Term, sort: Sort, variable: VarId) -> bool
 pub(crate) fn is_bound_to(given: &Subst, sort: Sort, variable: VarId, term: &Term) -> Option<bool>
     requires { IsAtom term.now }
     ensures { result ≡ option_map (λ t. same_atom t (atom_of term.now))
-        (bound_term given.now (variable_term sort variable)) }
+        (bound_term given.now (variable_of_sort sort variable)) }
 {
     match given.bound(sort, variable) {
         Some(found) => Some(found.same(term)),
@@ -56,16 +63,16 @@ fn variable_match(
     variable: VarId,
     sort: Sort,
     term: &Term,
-    locals: Option<&[VarId]>,
+    locals: Option<&[Variable]>,
     given: Subst,
 ) -> Result<Option<Subst>, AllocError>
     ensures { IfOk result (λ found. found
-        ≡ matched (is_listed (option_map (λ ns. ns.now) locals.entry)) (variable_term sort variable) term.now given) }
+        ≡ matched (is_listed (option_map (λ xs. xs.now) locals.entry)) (variable_of_sort sort variable) term.now given) }
 {
     if !is_of_sort(term, sort) {
         return Ok(None);
     }
-    if !is_local(locals, variable) {
+    if !is_local(locals, sort, variable) {
         if is_variable(term, sort, variable) {
             return Ok(Some(given));
         }
@@ -87,19 +94,19 @@ fn name_match(
     alloc: Global,
     a: VarId,
     b: VarId,
-    locals: Option<&[VarId]>,
+    locals: Option<&[Variable]>,
     given: Subst,
 ) -> Result<Option<Subst>, AllocError>
     ensures { IfOk result (λ found. found
-        ≡ matched_names (is_listed (option_map (λ ns. ns.now) locals.entry)) a b given) }
+        ≡ matched_names (is_listed (option_map (λ xs. xs.now) locals.entry)) a b given) }
 {
     let name = var(alloc, b, Sort::Name)?;
     variable_match(a, Sort::Name, &name, locals, given)
 }
 
 /// Matches a tag with a term.
-fn tag_match(text: &str, term: &Term, locals: Option<&[VarId]>, given: Subst) -> Option<Subst>
-    ensures { result ≡ matched (is_listed (option_map (λ ns. ns.now) locals.entry)) (tag_term text.now) term.now given }
+fn tag_match(text: &str, term: &Term, locals: Option<&[Variable]>, given: Subst) -> Option<Subst>
+    ensures { result ≡ matched (is_listed (option_map (λ xs. xs.now) locals.entry)) (tag_term text.now) term.now given }
 {
     match term.shape() {
         Shape::Tag(other) => { if text == other { Some(given) } else { None } }
@@ -112,11 +119,11 @@ fn inverse_match(
     alloc: Global,
     variable: VarId,
     term: &Term,
-    locals: Option<&[VarId]>,
+    locals: Option<&[Variable]>,
     given: Subst,
 ) -> Result<Option<Subst>, AllocError>
     ensures { IfOk result (λ found. found
-        ≡ matched (is_listed (option_map (λ ns. ns.now) locals.entry)) (atom_term (akey_atom true variable)) term.now given) }
+        ≡ matched (is_listed (option_map (λ xs. xs.now) locals.entry)) (atom_term (akey_atom true variable)) term.now given) }
 {
     if !is_of_sort(term, Sort::Akey) {
         return Ok(None);
@@ -131,11 +138,11 @@ fn ltk_match(
     a: VarId,
     b: VarId,
     term: &Term,
-    locals: Option<&[VarId]>,
+    locals: Option<&[Variable]>,
     given: Subst,
 ) -> Result<Option<Subst>, AllocError>
     ensures { IfOk result (λ found. found
-        ≡ matched (is_listed (option_map (λ ns. ns.now) locals.entry)) (key_as_term (symmetric_term (ltk_term a b))) term.now given) }
+        ≡ matched (is_listed (option_map (λ xs. xs.now) locals.entry)) (key_as_term (symmetric_term (ltk_term a b))) term.now given) }
 {
     match term.shape() {
         Shape::Ltk(c, d) => match name_match(alloc, a, c, locals, given)? {
@@ -153,10 +160,10 @@ fn pubk_match(
     purpose: Option<&str>,
     a: VarId,
     term: &Term,
-    locals: Option<&[VarId]>,
+    locals: Option<&[Variable]>,
     given: Subst,
 ) -> Result<Option<Subst>, AllocError>
-    ensures { IfOk result (λ found. found ≡ matched (is_listed (option_map (λ ns. ns.now) locals.entry))
+    ensures { IfOk result (λ found. found ≡ matched (is_listed (option_map (λ xs. xs.now) locals.entry))
         (key_as_term (asymmetric_term flag (pubk_term (option_map (λ s. s.now) purpose.entry) a))) term.now given) }
 {
     match term.shape() {
@@ -176,12 +183,12 @@ fn leaf_match(
     alloc: Global,
     pattern: &Term,
     term: &Term,
-    locals: Option<&[VarId]>,
+    locals: Option<&[Variable]>,
     given: Subst,
 ) -> Result<Option<Subst>, AllocError>
     requires { ¬ HasTail pattern.now }
     ensures { IfOk result (λ found. found
-        ≡ matched (is_listed (option_map (λ ns. ns.now) locals.entry)) pattern.now term.now given) }
+        ≡ matched (is_listed (option_map (λ xs. xs.now) locals.entry)) pattern.now term.now given) }
 {
     match pattern.shape() {
         Shape::Tag(text) => Ok(tag_match(text, term, locals, given)),
@@ -198,11 +205,11 @@ fn match_beside(
     alloc: Global,
     pattern: &Term,
     term: &Term,
-    locals: Option<&[VarId]>,
+    locals: Option<&[Variable]>,
     given: Subst,
 ) -> Result<Option<Subst>, AllocError>
     ensures { IfOk result (λ found. found
-        ≡ matched (is_listed (option_map (λ ns. ns.now) locals.entry)) pattern.now term.now given) }
+        ≡ matched (is_listed (option_map (λ xs. xs.now) locals.entry)) pattern.now term.now given) }
 {
     let mut left = pattern;
     let mut right = term;
@@ -223,16 +230,16 @@ fn match_beside(
     }
 }
 
-/// Values of the locals that make the pattern the term; `None` exactly if none do. The locals are all variables of the
-/// pattern with the listed numbers.
+/// Values of the locals that occur in the pattern which make it the term; `None` exactly if none do.
 pub fn matching(
     alloc: Global,
     pattern: &Term,
     term: &Term,
-    locals: &[VarId],
+    locals: &[Variable],
 ) -> Result<Option<Subst>, AllocError>
-    ensures some { IfOk result (λ answer. IfSome answer (λ r. IsMatch pattern.now term.now (with_numbers locals.now (variables_of pattern.now)) r)) }
-    ensures none { IfOk result (λ answer. IfNone answer (HasNoMatch pattern.now term.now (with_numbers locals.now (variables_of pattern.now)))) }
+    ensures some { IfOk result (λ answer. IfSome answer (λ r. IsMatch pattern.now term.now locals.now r)) }
+    ensures occur { IfOk result (λ answer. IfSome answer (λ r. BindsOnly (variables_of pattern.now) r)) }
+    ensures none { IfOk result (λ answer. IfNone answer (HasNoMatch pattern.now term.now locals.now)) }
 {
     match_beside(alloc, pattern, term, Some(locals), Subst::new(alloc))
 }

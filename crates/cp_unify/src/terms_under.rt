@@ -2,7 +2,7 @@
 ghost use Rattle.std.specs.Prelude.{◌≡◌, MatchOption, IfOk};
 ghost use Rattle.std.specs.Option.{option_map};
 ghost use Rattle.cp_model.specs.Term.{Assignment, after, apply_to, value_of, atom_term};
-ghost use Rattle.cp_term.specs.Variables.{variable_term};
+ghost use Rattle.cp_term.specs.Variables.{variable_of_sort};
 ghost use Rattle.cp_unify.specs.Bindings.{as_substitution};
 ghost use Rattle.cp_unify.specs.Matched.{bound_term};
 
@@ -14,10 +14,10 @@ use std::alloc::{AllocError, Global};
 /// The term to which these bindings bind a variable of this sort, by the first binding of it.
 fn first_bound<'a>(bindings: &'a [Binding], sort: Sort, variable: VarId) -> Option<&'a Term>
     ensures applied { MatchOption result
-        (apply_to (as_substitution bindings.now) (variable_term sort variable) ≡ variable_term sort variable)
-        (λ t. apply_to (as_substitution bindings.now) (variable_term sort variable) ≡ t.now) }
+        (apply_to (as_substitution bindings.now) (variable_of_sort sort variable) ≡ variable_of_sort sort variable)
+        (λ t. apply_to (as_substitution bindings.now) (variable_of_sort sort variable) ≡ t.now) }
     ensures exact { option_map (λ t. t.now) result
-        ≡ option_map (λ u. atom_term u) (bound_term bindings.now (variable_term sort variable)) }
+        ≡ option_map (λ u. atom_term u) (bound_term bindings.now (variable_of_sort sort variable)) }
 {
     for binding in bindings {
         if binding.binds(sort, variable) {
@@ -31,10 +31,10 @@ impl Subst {
     /// The term to which a variable of this sort is bound.
     pub(crate) fn bound(&self, sort: Sort, variable: VarId) -> Option<&Term>
         ensures applied { MatchOption result
-            (apply_to (as_substitution self.now) (variable_term sort variable) ≡ variable_term sort variable)
-            (λ t. apply_to (as_substitution self.now) (variable_term sort variable) ≡ t.now) }
+            (apply_to (as_substitution self.now) (variable_of_sort sort variable) ≡ variable_of_sort sort variable)
+            (λ t. apply_to (as_substitution self.now) (variable_of_sort sort variable) ≡ t.now) }
         ensures exact { option_map (λ t. t.now) result
-            ≡ option_map (λ u. atom_term u) (bound_term self.now (variable_term sort variable)) }
+            ≡ option_map (λ u. atom_term u) (bound_term self.now (variable_of_sort sort variable)) }
     {
         first_bound(self.from_number(variable.number()), sort, variable)
     }

@@ -5,9 +5,10 @@ use Rattle.std.specs.Str.{bytes_eq}
 use Rattle.clap.specs.Words.{Text}
 use Rattle.clap.specs.Takes.{use_passes, walk_passes}
 use Rattle.clap.specs.Walk.{nothing_held}
-use Rattle.cp_model.specs.Tree.{Limits}
-use Rattle.cp_words.specs.Command.{Command}
-use Rattle.cp_words.specs.CommandWords.{parsed_number, Setting, first_setting, limits_of, limits_set, limits_behind_both, limits_behind, limits_by, name_text, command_named, command_with, command_of}
+use Rattle.cp_model.specs.declared.tree.Limits.{Limits}
+use Rattle.cp_words.specs.declared.command.Command.{Command}
+use Rattle.cp_words.specs.declared.accepted.Setting.{Setting}
+use Rattle.cp_words.specs.CommandWords.{parsed_number, first_setting, limits_of, limits_set, limits_behind_both, limits_behind, limits_by, name_text, command_named, command_with, command_of}
 use Rattle.cp_words.specs.Parsed.{IsParsedAs}
 use Rattle.cp_words.specs.declared.command.CommandName.{CommandName}
 use Rattle.cp_words.specs.declared.command.CommandName.TheVariants.{Analyse, Shapes}

@@ -5,8 +5,8 @@ use Rattle.clap.specs.Words.{Row, Text, first_of}
 use Rattle.clap.specs.Takes.{default_passes, is_valid, level_passes, settle_passes, use_passes}
 use Rattle.clap.specs.Walk.{Walk, nothing_held, rows_after, with_default}
 use Rattle.clap.proofs.OnLiterals.{clap_on_literals}
-use Rattle.cp_model.specs.Tree.{Limits}
-use Rattle.cp_words.specs.Command.{Command}
+use Rattle.cp_model.specs.declared.tree.Limits.{Limits}
+use Rattle.cp_words.specs.declared.command.Command.{Command}
 use Rattle.cp_words.specs.CommandWords.{parsed_number, name_text, command_named}
 use Rattle.cp_words.specs.Parsed.{limits_in, limits_from, command_found, IsParsedAs}
 use Rattle.cp_words.specs.declared.command.CommandName.{CommandName}

@@ -1,6 +1,7 @@
 -- Words that are no command: too few, or too many.
 use Rattle.std.proofs.Common.{◌≡◌, ℕ, ◌<◌, List, [], ◌∷◌, length, map, None, Some, option_and_then, refl, sym, ap, arith}
-use Rattle.cp_words.specs.CommandWords.{Setting, first_setting, limits_behind, limits_behind_both, command_of}
+use Rattle.cp_words.specs.declared.accepted.Setting.{Setting}
+use Rattle.cp_words.specs.CommandWords.{first_setting, limits_behind, limits_behind_both, command_of}
 
 pub no_command : {X : Type 0} (f : X → List ℕ) (words : List X) → length words < 2 → None ≡ command_of (map f words)
 no_command f [] few = refl

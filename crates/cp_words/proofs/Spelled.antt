@@ -6,7 +6,9 @@ use Rattle.std.proofs.Math.ListN.{get_or}
 use Rattle.std.proofs.lemmas.Bool.{eqb-true, ltb-true}
 use Rattle.std.proofs.lemmas.List.Sums.{passes_at_first, split_at_first}
 use Rattle.std.proofs.lemmas.Slice.Eq.{bytes_eq-Decides}
-use Rattle.cp_words.specs.CommandWords.{parsed_number, Setting, limit, bound, setting_named, setting_of, is_equals_sign, name_and_value, with_words_behind, setting_from, first_setting}
+use Rattle.cp_words.specs.declared.accepted.Setting.{Setting}
+use Rattle.cp_words.specs.declared.accepted.Setting.TheVariants.{Limit as limit, Bound as bound}
+use Rattle.cp_words.specs.CommandWords.{parsed_number, setting_named, setting_of, is_equals_sign, name_and_value, with_words_behind, setting_from, first_setting}
 use Rattle.cp_words.proofs.Options.{Named, limit_named, bound_named, name_word}
 
 -- ---- a number begins with no hyphen

@@ -3,8 +3,10 @@ use Rattle.std.specs.Prelude.{ℕ, ◌^◌, ◌==◌, List, [], ◌∷◌, lengt
 use Rattle.std.specs.List.{position_or_len, before_first, after_first}
 use Rattle.std.specs.Str.{bytes_eq, all_ascii_digits}
 use Rattle.std.specs.Str.Parse.{without_leading_plus, digits_value}
-use Rattle.cp_model.specs.Tree.{Limits}
-use Rattle.cp_words.specs.Command.{Command}
+use Rattle.cp_model.specs.declared.tree.Limits.{Limits}
+use Rattle.cp_words.specs.declared.accepted.Setting.{Setting}
+use Rattle.cp_words.specs.declared.accepted.Setting.TheVariants.{Limit as limit, Bound as bound}
+use Rattle.cp_words.specs.declared.command.Command.{Command}
 use Rattle.cp_words.specs.declared.command.CommandName.{CommandName}
 use Rattle.cp_words.specs.declared.command.CommandName.TheVariants.{Analyse, Shapes}
 
@@ -22,11 +24,6 @@ parsed_number t =
     if is_numeral digits && nat_lt (digits_value 10 digits) (2 ^ 32) then Some (digits_value 10 digits) else None
 
 -- ---- options
-
--- An option with the number that is its value.
-pub data Setting : Type 0 where
-  limit : ℕ → Setting
-  bound : ℕ → Setting
 
 abbrev pub setting_named : List ℕ → ℕ → Option Setting
 setting_named name n =

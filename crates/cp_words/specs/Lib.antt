@@ -1,5 +1,3 @@
-pub mod Command
 pub mod CommandWords
-pub mod Settings
 pub mod Description
 pub mod Parsed

@@ -3,8 +3,8 @@ use Rattle.std.specs.Prelude.{◌≡◌, ℕ, true, List, Option, Some, None, co
 use Rattle.clap.specs.Words.{Row, Text, first_of, subcommand_of, takes}
 use Rattle.clap.specs.declared.error.kind.ErrorKind.{ErrorKind}
 use Rattle.clap.specs.declared.error.kind.ErrorKind.TheVariants.{OutOfMemory}
-use Rattle.cp_model.specs.Tree.{Limits}
-use Rattle.cp_words.specs.Command.{Command}
+use Rattle.cp_model.specs.declared.tree.Limits.{Limits}
+use Rattle.cp_words.specs.declared.command.Command.{Command}
 use Rattle.cp_words.specs.CommandWords.{parsed_number, command_named}
 use Rattle.cp_words.specs.Description.{described}
 use Rattle.cp_words.specs.declared.command.CommandName.{CommandName}

@@ -1,8 +1,6 @@
 // The words that are a command.
 ghost use Rattle.std.specs.Prelude.{◌≡◌, is_some, map, option_map, string_bytes};
 ghost use Rattle.cp_words.specs.CommandWords.{parsed_number, setting_of, name_and_value, first_setting, limits_of, limits_set, limits_behind, limits_by, command_named, command_of};
-ghost use Rattle.cp_words.specs.Settings.{setting_view, command_view};
-ghost use Rattle.cp_skel.specs.Trees.{limits_view};
 
 use crate::{Command, CommandName};
 use cp_skel::Limits;
@@ -31,7 +29,7 @@ pub(crate) fn number(text: &str) -> Option<u32>
 
 /// The option of this name, with the number that the text is read as.
 fn setting_of(name: &str, value: &str) -> Option<Setting>
-    ensures { option_map setting_view result ≡ setting_of name.now value.now }
+    ensures { result ≡ setting_of name.now value.now }
 {
     let number = number(value)?;
     match name {
@@ -50,7 +48,7 @@ fn name_and_value(word: &str) -> Option<(&str, &str)>
 
 /// The option that the words begin with, in one word or in two, and the words after it.
 fn first_setting(words: &[String]) -> Option<(Setting, &[String])>
-    ensures { option_map (λ x. (setting_view x.0, map string_bytes x.1.now)) result ≡ first_setting (map string_bytes words.now) }
+    ensures { option_map (λ x. (x.0, map string_bytes x.1.now)) result ≡ first_setting (map string_bytes words.now) }
 {
     let (word, rest) = words.split_first()?;
     if let Some((name, value)) = name_and_value(word.as_str()) {
@@ -62,14 +60,14 @@ fn first_setting(words: &[String]) -> Option<(Setting, &[String])>
 
 /// The limits with these numbers, if a command may have them.
 fn limits_of(steps: u32, strands: u32) -> Option<Limits>
-    ensures { option_map limits_view result ≡ limits_of steps strands }
+    ensures { result ≡ limits_of steps strands }
 {
     (steps <= GREATEST_LIMIT && (1..=32).contains(&strands)).then_some(Limits { steps, strands })
 }
 
 /// The limits that one option or two set.
 fn limits_set(first: Setting, second: Option<Setting>) -> Option<Limits>
-    ensures { option_map limits_view result ≡ limits_set (setting_view first) (option_map setting_view second) }
+    ensures { result ≡ limits_set first second }
 {
     match (first, second) {
         (Setting::Limit(steps), None) => limits_of(steps, DEFAULT_BOUND),
@@ -82,7 +80,7 @@ fn limits_set(first: Setting, second: Option<Setting>) -> Option<Limits>
 
 /// The limits that the options set: this option and those in the words after it.
 fn limits_behind(first: Setting, rest: &[String]) -> Option<Limits>
-    ensures { option_map limits_view result ≡ limits_behind (setting_view first, map string_bytes rest.now) }
+    ensures { result ≡ limits_behind (first, map string_bytes rest.now) }
 {
     if rest.is_empty() {
         return limits_set(first, None);
@@ -97,7 +95,7 @@ fn limits_behind(first: Setting, rest: &[String]) -> Option<Limits>
 
 /// The limits that the options set.
 fn limits_by(options: &[String]) -> Option<Limits>
-    ensures { option_map limits_view result ≡ limits_by (map string_bytes options.now) }
+    ensures { result ≡ limits_by (map string_bytes options.now) }
 {
     if options.is_empty() {
         return limits_of(DEFAULT_LIMIT, DEFAULT_BOUND);
@@ -120,7 +118,7 @@ pub(crate) fn command_named(word: &str) -> Option<CommandName>
 /// The command that the words are: a name for the program, the name of the command, and its options, each at most once:
 /// `--limit` with a number of at most 100,000, and `--bound` with a number from 1 to 32. `None` for any other words.
 fn command_of(words: &[String]) -> Option<Command>
-    ensures { option_map command_view result ≡ command_of (map string_bytes words.now) }
+    ensures { result ≡ command_of (map string_bytes words.now) }
 {
     let [_, name, options @ ..] = words else {
         return None;

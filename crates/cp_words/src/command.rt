@@ -1,7 +1,6 @@
 // The command that the words of the command line are.
 ghost use Rattle.std.specs.Prelude.{◌≡◌, ◌↔◌, IfErr, IfOk, None, Some, map, string_bytes};
 ghost use Rattle.cp_words.specs.CommandWords.{command_of};
-ghost use Rattle.cp_words.specs.Settings.{command_view};
 ghost use Rattle.cp_words.specs.declared.error.WordsError.TheVariants.{Usage};
 
 use crate::WordsError;
@@ -33,7 +32,7 @@ pub struct Command {
 /// The error is `Usage` exactly if the words are no such command. `Memory` means that they are one, but a growth in
 /// memory was refused.
 pub fn read_command(alloc: Global, words: &[String]) -> Result<Command, WordsError>
-    ensures command { IfOk result (λ command. command_of (map string_bytes words.now) ≡ Some (command_view command)) }
+    ensures command { IfOk result (λ command. command_of (map string_bytes words.now) ≡ Some command) }
     ensures usage { IfErr result (λ cause. (cause ≡ Usage) ↔ (command_of (map string_bytes words.now) ≡ None)) }
 {
     if !is_command(words) {

@@ -1,12 +1,10 @@
 // The command that words are, as the parser of command lines reads them.
-ghost use Rattle.std.specs.Prelude.{◌≡◌, IfErr, IfOk, Some, map, option_map, string_bytes, true};
+ghost use Rattle.std.specs.Prelude.{◌≡◌, IfErr, IfOk, Some, map, string_bytes, true};
 ghost use Rattle.clap.specs.Words.{HasMatchesOf, app_of, found_of, rows_of, subcommand_rows_of, takes};
-ghost use Rattle.cp_skel.specs.Trees.{limits_view};
-ghost use Rattle.cp_words.specs.Command.{Command as CommandData};
+ghost use Rattle.cp_words.specs.declared.command.Command.{Command as CommandData};
 ghost use Rattle.cp_words.specs.CommandWords.{command_of};
 ghost use Rattle.cp_words.specs.Description.{described, described_as};
 ghost use Rattle.cp_words.specs.Parsed.{command_found, limits_in, option_number};
-ghost use Rattle.cp_words.specs.Settings.{command_view};
 ghost use Rattle.cp_words.specs.declared.error.WordsError.TheVariants.{Memory};
 
 use crate::accepted::{command_named, number};
@@ -52,7 +50,7 @@ fn number_in(options: &ArgMatches<'_>, name: &str) -> Option<u32>
 
 // The limits that the options set.
 fn limits_in(options: &ArgMatches<'_>) -> Option<Limits>
-    ensures { option_map limits_view result ≡ limits_in (rows_of (found_of options.now)) }
+    ensures { result ≡ limits_in (rows_of (found_of options.now)) }
 {
     let steps = number_in(options, "limit")?;
     let strands = number_in(options, "bound")?;
@@ -61,7 +59,7 @@ fn limits_in(options: &ArgMatches<'_>) -> Option<Limits>
 
 // The command that was found.
 fn command_found(matches: &ArgMatches<'_>) -> Option<Command>
-    ensures { option_map command_view result ≡ command_found (subcommand_rows_of matches.now) }
+    ensures { result ≡ command_found (subcommand_rows_of matches.now) }
 {
     let (name, options) = matches.subcommand()?;
     let name = command_named(name)?;
@@ -71,7 +69,7 @@ fn command_found(matches: &ArgMatches<'_>) -> Option<Command>
 
 /// The command that the words are.
 pub(crate) fn parse(alloc: Global, words: &[String]) -> Result<Command, WordsError>
-    ensures command { (d : CommandData) → command_of (map string_bytes words.now) ≡ Some d → IfOk result (λ c. command_view c ≡ d) }
+    ensures command { (d : CommandData) → command_of (map string_bytes words.now) ≡ Some d → IfOk result (λ c. c ≡ d) }
     ensures memory { (d : CommandData) → command_of (map string_bytes words.now) ≡ Some d → IfErr result (λ e. e ≡ Memory) }
 {
     command_found(&matches_in(alloc, words)?).ok_or(WordsError::Usage)

@@ -27,10 +27,10 @@ fn agree(one: &TreeNode, other: &TreeNode) -> bool {
     one.parent == other.parent
         && is_same_operation(&one.operation, &other.operation)
         && one.mark == other.mark
-        && one.children == other.children
+        && one.children.as_slice() == other.children.as_slice()
         && tested(one) == tested(other)
-        && one.unrealised == other.unrealised
-        && have_as_many_locals(&one.patterns, &other.patterns)
+        && one.unrealised.as_slice() == other.unrealised.as_slice()
+        && have_as_many_locals(one.patterns.as_slice(), other.patterns.as_slice())
         && have_same_shapes(one.skeleton.strands(), other.skeleton.strands())
 }
 

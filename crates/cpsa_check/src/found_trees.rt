@@ -23,8 +23,8 @@ pub(crate) fn searched(
 ) -> Result<Vec<Tree>, Stopped> {
     let input = load(alloc, forms)?;
     let mut trees = Vec::new(alloc);
-    for problem in &input.problems {
-        let Some(problem) = problem else {
+    for entry in &input.entries {
+        let Some(problem) = entry.problem() else {
             continue;
         };
         let tree = search(alloc, &problem.protocol, &problem.skeleton, limits)?;

@@ -10,7 +10,7 @@ pub(crate) fn is_same_operation(one: &Operation, other: &Operation) -> bool {
         | (Operation::Displaced(a), Operation::Displaced(b)) => a == b,
         (Operation::AddedStrand(a), Operation::AddedStrand(b))
         | (Operation::AddedListener(a), Operation::AddedListener(b)) => a == b,
-        (Operation::Collapsed(a), Operation::Collapsed(b)) => a == b,
+        (Operation::Collapsed(a), Operation::Collapsed(b)) => a.as_slice() == b.as_slice(),
         _ => false,
     }
 }

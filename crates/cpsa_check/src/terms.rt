@@ -27,9 +27,9 @@ fn terms_of(alloc: Global, label: &TreeNode) -> Result<Vec<Term>, AllocError> {
     let mut terms = Vec::new(alloc);
     add_messages(&label.skeleton.events(alloc)?, &mut terms)?;
     if let Some(test) = &label.test {
-        terms.push(test.term.copy()?)?;
+        terms.push(test.critical.copy()?)?;
     }
-    add_patterns(&label.patterns, &mut terms)?;
+    add_patterns(label.patterns.as_slice(), &mut terms)?;
     Ok(terms)
 }
 

@@ -1,13 +1,13 @@
 use Rattle.std.proofs.Common.{subst}
 use Rattle.cp_load.specs.Inputs.{problem_view}
-use Rattle.cp_skel.specs.Trees.{limits_view, tree_view}
+use Rattle.cp_skel.specs.Trees.{tree_view}
 use Rattle.cp_strand.specs.Declares.{HasDeclaringRoles}
 use Rattle.cp_app.proofs.Trees.{analysis_of}
 use Rattle.cp_app.proofs.analysis.tree_of.Goals as goal
 
 pub returns : goal.returns
 returns c =
-    let limits = limits_view c.args.limits in
+    let limits = c.args.limits in
     let problem = problem_view c.args.problem.now in
     let tree = tree_view c.in_ok-tree.tree in
     let found = c.in_ok-tree.ensures in

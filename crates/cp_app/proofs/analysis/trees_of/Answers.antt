@@ -1,26 +1,22 @@
-use Rattle.std.proofs.Common.{sym, ap, subst}
-use Rattle.cp_skel.specs.Trees.{limits_view}
-use Rattle.cp_app.proofs.Trees.{AreTreesUpTo, IsBehind, is_stated, none_next, tree_next, trees_done}
+use Rattle.std.proofs.Common.{Bor, sym, ap, ◌∙◌}
+use Rattle.std.specs.Prelude.{option_map}
+use Rattle.cp_load.specs.declared.input.Problem.{Problem}
+use Rattle.cp_app.proofs.Trees.{is_listed, none_next, tree_next, trees_done}
 use Rattle.cp_app.proofs.analysis.trees_of.Goals as goal
-use Rattle.cp_app.proofs.analysis.trees_of.Goals.{in-Some+in_ok-add_tree, in_default}
 
 pub add_tree-requires : goal.add_tree-requires
 add_tree-requires c =
-    record { analysable = c.requires.analysable _ (is_stated c.args.problems.now c.loop-problem.problem-index c.problem-item.result c.in-Some.problem c.loop-problem-test.true c.problem-item.is c.in-Some.is) }
+    record { analysable = c.requires.analysable _ (is_listed c.args.entries.now c.loop-entry.entry-index c.entry-item.result c.in-Some.problem.now c.loop-entry-test.true c.entry-item.is c.in-Some.ensures) }
 
-pub loop-problem-preserved : goal.loop-problem-preserved
-loop-problem-preserved c =
-    let limits = limits_view c.args.limits in
-    let problems = c.args.problems.now in
-    let i = c.loop-problem.problem-index in
-    elim c.match-problem.branch [
-      | in-Some+in_ok-add_tree w ↦
-          tree_next limits problems i c.problem-item.result w.in-Some.problem c.loop-problem.trees.items c.match-problem.trees.items c.loop-problem-test.true c.problem-item.is w.in-Some.is
-          (subst (IsBehind limits w.in-Some.problem c.loop-problem.trees.items) (ap (λ v. v.items) (sym w.trees-is)) w.in_ok-add_tree.ensures) c.loop-problem.invariant
-      | in_default w ↦
-          none_next limits problems i c.problem-item.result c.match-problem.trees.items c.loop-problem-test.true c.problem-item.is w.in_default.is
-          (subst (λ v. AreTreesUpTo limits problems i v.items) (sym w.trees-is) c.loop-problem.invariant)
-    ]
+pub loop-entry-preserved-in_default : goal.loop-entry-preserved-in_default
+loop-entry-preserved-in_default c =
+    none_next c.args.limits c.args.entries.now c.loop-entry.entry-index c.entry-item.result c.loop-entry.trees.items c.loop-entry-test.true c.entry-item.is
+    (sym (ap (option_map (λ (p : Bor Problem). p.now)) c.in_default.is) ∙ c.problem.ensures) c.loop-entry.invariant
+
+pub loop-entry-preserved : goal.loop-entry-preserved
+loop-entry-preserved c =
+    tree_next c.args.limits c.args.entries.now c.loop-entry.entry-index c.entry-item.result c.in-Some.problem.now c.loop-entry.trees.items c.add_tree.new.trees.items c.loop-entry-test.true c.entry-item.is c.in-Some.ensures
+    c.in_ok-add_tree.ensures c.loop-entry.invariant
 
 pub returns : goal.returns
-returns c = trees_done (limits_view c.args.limits) c.args.problems.now c.loop-problem.problem-index c.loop-problem.trees.items c.loop-problem-test.false c.loop-problem.invariant
+returns c = trees_done c.args.limits c.args.entries.now c.loop-entry.entry-index c.loop-entry.trees.items c.loop-entry-test.false c.loop-entry.invariant

@@ -1,7 +1,6 @@
 use Rattle.std.proofs.Common.{add-one, ◌≡◌, length, map, ap, arith}
 use Rattle.std.proofs.lemmas.Result.{on_ok_weaker}
 use Rattle.cp_lists.proofs.Mapped.{length_of}
-use Rattle.cp_skel.specs.Trees.{variables_view}
 use Rattle.cp_skel.specs.View.{skeleton_view}
 use Rattle.cp_strand.specs.View.{strand_view}
 use Rattle.cp_cohort.specs.Cohort.{is_reception}
@@ -33,5 +32,5 @@ returns c =
     on_ok_weaker c.release.result
     (λ p. puts_other c.args.children.now.items c.release.new.children.items
     (added_at (guarded_test_view c.args.guarded_test.now) c.args.role.now.value c.args.index sent.0 sent.1 (skeleton_view c.in_ok-grown.grown) (c.in_ok-grown.ensures c.args.index (add-one c.args.index)).adds
-    (length c.strands-strand.result.now) (number (goal.at.returns c).In_ok-grown) (variables_view c.in_ok-grown.grown.variables) (c.in_ok-grown.ensures c.args.index (add-one c.args.index)).variables) p)
+    (length c.strands-strand.result.now) (number (goal.at.returns c).In_ok-grown) c.in_ok-grown.grown.variables (c.in_ok-grown.ensures c.args.index (add-one c.args.index)).variables) p)
     c.release.ensures

@@ -1,8 +1,6 @@
 use Rattle.std.proofs.Common.{◌≡◌, ◌<◌, ◌≤◌, length, ap, ◌∙◌, arith}
-use Rattle.cp_lists.proofs.Mapped.{length_of}
 use Rattle.cp_model.specs.Problem.{numbers_from}
 use Rattle.cp_model.specs.Strand.{Role}
-use Rattle.cp_strand.specs.View.{event_view}
 use Rattle.cp_cohort.specs.Cohort.{AddsEvent}
 use Rattle.cp_cohort.specs.Views.{guarded_test_view}
 use Rattle.cp_cohort.proofs.ChildLists.{puts_first, puts_next, puts_last, number_there, numbers_past}
@@ -14,13 +12,13 @@ loop-index-init c = puts_first (AddsEvent (guarded_test_view c.args.guarded_test
 pub add_event-requires : goal.add_event-requires
 add_event-requires c =
     let same : length c.trace-events.result.now ≡ length c.args.role.now.value.trace =
-    length_of event_view c.trace-events.result.now c.args.role.now.value.trace (c.trace-events.ensures ∙ ap (λ (r : Role). r.trace) c.deref.ensures) in
+    ap length (c.trace-events.ensures ∙ ap (λ (r : Role). r.trace) c.deref.ensures) in
     record { test = c.requires.test; reached = omega (arith, same, c.loop-index-test.true) }
 
 pub loop-index-preserved : goal.loop-index-preserved
 loop-index-preserved c =
     let same : length c.trace-events.result.now ≡ length c.args.role.now.value.trace =
-    length_of event_view c.trace-events.result.now c.args.role.now.value.trace (c.trace-events.ensures ∙ ap (λ (r : Role). r.trace) c.deref.ensures) in
+    ap length (c.trace-events.ensures ∙ ap (λ (r : Role). r.trace) c.deref.ensures) in
     let lt : c.loop-index.index < length c.args.role.now.value.trace = omega (arith, same, c.loop-index-test.true) in
     puts_next (AddsEvent (guarded_test_view c.args.guarded_test.now) c.args.role.now.value) (numbers_from 0 c.args.role.now.value.trace) c.loop-index.index c.loop-index.index
     (number_there c.args.role.now.value.trace c.loop-index.index lt) _ _ _ c.loop-index.invariant c.in_ok-add_event.ensures
@@ -28,6 +26,6 @@ loop-index-preserved c =
 pub returns : goal.returns
 returns c =
     let same : length c.trace-events.result.now ≡ length c.args.role.now.value.trace =
-    length_of event_view c.trace-events.result.now c.args.role.now.value.trace (c.trace-events.ensures ∙ ap (λ (r : Role). r.trace) c.deref.ensures) in
+    ap length (c.trace-events.ensures ∙ ap (λ (r : Role). r.trace) c.deref.ensures) in
     let past : length c.args.role.now.value.trace ≤ c.loop-index.index = omega (arith, same, c.loop-index-test.false) in
     puts_last (AddsEvent (guarded_test_view c.args.guarded_test.now) c.args.role.now.value) (numbers_from 0 c.args.role.now.value.trace) c.loop-index.index (numbers_past c.args.role.now.value.trace c.loop-index.index past) _ _ c.loop-index.invariant

@@ -1,5 +1,5 @@
 use Rattle.std.proofs.lemmas.Result.{on_ok_weaker}
-use Rattle.cp_model.specs.Strand.{recv}
+use Rattle.cp_model.specs.declared.strand.Event.TheVariants.{Receive as recv}
 use Rattle.cp_cohort.specs.Views.{guarded_test_view}
 use Rattle.cp_cohort.proofs.FourLists.{all_put}
 use Rattle.cp_cohort.proofs.children.put_all.Goals as goal

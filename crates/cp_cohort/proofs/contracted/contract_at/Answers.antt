@@ -6,8 +6,6 @@ use Rattle.cp_model.specs.Strand.{payload}
 use Rattle.cp_model.specs.Term.{Term}
 use Rattle.cp_theory.specs.Inside.{IsInside}
 use Rattle.cp_pattern.specs.Unifiers.{UnifiesMostGenerally, NeverEqual}
-use Rattle.cp_skel.specs.Events.{located_event_view}
-use Rattle.cp_skel.specs.Trees.{variables_view}
 use Rattle.cp_skel.specs.View.{skeleton_view}
 use Rattle.cp_unify.specs.Bindings.{as_substitution}
 use Rattle.cp_cohort.specs.Cohort.{is_inside, is_critical, never_equal}
@@ -18,7 +16,7 @@ use Rattle.cp_cohort.proofs.contracted.contract_at.Goals as goal
 
 pub returns-then-branch : goal.returns-then-branch
 returns-then-branch c =
-    let inside : IsTrue c.in_ok-is_guarded.field-0 ↔ IsInside c.args.guarded_test.now.patterns.now unchanged (payload (located_event_view c.args.occurrence.now).event) c.args.path.now =
+    let inside : IsTrue c.in_ok-is_guarded.field-0 ↔ IsInside c.args.guarded_test.now.patterns.now unchanged (payload c.args.occurrence.now.event) c.args.path.now =
     subst (λ (t : Term). IsTrue c.in_ok-is_guarded.field-0 ↔ IsInside c.args.guarded_test.now.patterns.now unchanged t c.args.path.now) c.payload-message.ensures c.in_ok-is_guarded.ensures in
     puts_nothing c.args.children.now.items (is_inside (inside.0 c.if-branch.true))
 
@@ -34,12 +32,12 @@ returns-in_default-2 c =
 pub returns : goal.returns
 returns c =
     let q = guarded_test_view c.args.guarded_test.now in
-    let o = located_event_view c.args.occurrence.now in
+    let o = c.args.occurrence.now in
     let inside : IsTrue c.in_ok-is_guarded.field-0 ↔ IsInside c.args.guarded_test.now.patterns.now unchanged (payload o.event) c.args.path.now =
     subst (λ (t : Term). IsTrue c.in_ok-is_guarded.field-0 ↔ IsInside c.args.guarded_test.now.patterns.now unchanged t c.args.path.now) c.payload-message.ensures c.in_ok-is_guarded.ensures in
     let unifies : UnifiesMostGenerally c.in-Some.term.now c.args.guarded_test.now.critical.now (as_substitution c.in-Some-2.s) = rw c.in-Some-2.is at c.in_ok-s.ensures.some in
     on_ok_weaker c.put_forms.result
     (λ p. puts_other c.args.children.now.items c.put_forms.new.children.items
-    (contracted_by q o c.args.path.now c.in-Some.term.now (as_substitution c.in-Some-2.s) (skeleton_view c.in_ok-skeleton.skeleton) (variables_view c.in_ok-skeleton.skeleton.variables) (λ i. not_both c.if-branch.false (inside.1 i))
-    (read_at c.payload-message.result.now _ _ c.args.path.now c.in-Some.ensures c.payload-message.ensures) (λ e. not_both c.if-same.false (c.same.ensures.1 e)) unifies c.in_ok-skeleton.ensures.same (ap variables_view c.in_ok-skeleton.ensures.variables)) p)
+    (contracted_by q o c.args.path.now c.in-Some.term.now (as_substitution c.in-Some-2.s) (skeleton_view c.in_ok-skeleton.skeleton) c.in_ok-skeleton.skeleton.variables (λ i. not_both c.if-branch.false (inside.1 i))
+    (read_at c.payload-message.result.now _ _ c.args.path.now c.in-Some.ensures c.payload-message.ensures) (λ e. not_both c.if-same.false (c.same.ensures.1 e)) unifies c.in_ok-skeleton.ensures.same c.in_ok-skeleton.ensures.variables) p)
     c.put_forms.ensures

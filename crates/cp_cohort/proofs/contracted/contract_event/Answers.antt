@@ -5,7 +5,6 @@ use Rattle.cp_lists.proofs.Members.{item_is_in}
 use Rattle.cp_model.proofs.CarriedParts.{not_both}
 use Rattle.cp_model.specs.Strand.{payload}
 use Rattle.cp_pattern.specs.Candidates.{may_equal}
-use Rattle.cp_skel.specs.Events.{located_event_view}
 use Rattle.cp_model.specs.declared.step.Step.{Step}
 use Rattle.cp_model.specs.Positions.{positions_where}
 use Rattle.cp_cohort.specs.Cohort.{Contracts}
@@ -20,12 +19,12 @@ pub returns-then-not-is_sent_before : goal.returns-then-not-is_sent_before
 returns-then-not-is_sent_before c = puts_nothing c.args.children.now.items (not_before (λ b. not_both c.if-not-is_sent_before.true (c.is_sent_before.ensures.1 b)))
 
 pub loop-path-init : goal.loop-path-init
-loop-path-init c = puts_first (Contracts (guarded_test_view c.args.guarded_test.now) (located_event_view c.args.occurrence.now)) c.deref-path-items.result.now c.args.children.now.items
+loop-path-init c = puts_first (Contracts (guarded_test_view c.args.guarded_test.now) c.args.occurrence.now) c.deref-path-items.result.now c.args.children.now.items
 
 pub contract_at-requires : goal.contract_at-requires
 contract_at-requires c =
     let q = guarded_test_view c.args.guarded_test.now in
-    let o = located_event_view c.args.occurrence.now in
+    let o = c.args.occurrence.now in
     let all : c.deref-path-items.result.now ≡ positions_where (may_equal q.critical) (payload o.event) =
     c.deref-path-items.ensures.value ∙ c.in_ok-paths.ensures ∙ ap (positions_where (may_equal q.critical)) c.payload.ensures in
     listed_position (may_equal q.critical) (payload o.event) c.path-item.result
@@ -33,13 +32,13 @@ contract_at-requires c =
 
 pub loop-path-preserved : goal.loop-path-preserved
 loop-path-preserved c =
-    puts_next (Contracts (guarded_test_view c.args.guarded_test.now) (located_event_view c.args.occurrence.now)) c.deref-path-items.result.now c.loop-path.path-index c.path-item.result
+    puts_next (Contracts (guarded_test_view c.args.guarded_test.now) c.args.occurrence.now) c.deref-path-items.result.now c.loop-path.path-index c.path-item.result
     (item_of_read c.deref-path-items.result.now c.loop-path.path-index c.path-item.result c.loop-path-test.true c.path-item.is) _ _ _ c.loop-path.invariant c.in_ok-contract_at.ensures
 
 pub returns : goal.returns
 returns c =
     let q = guarded_test_view c.args.guarded_test.now in
-    let o = located_event_view c.args.occurrence.now in
+    let o = c.args.occurrence.now in
     let all : c.deref-path-items.result.now ≡ positions_where (may_equal q.critical) (payload o.event) =
     c.deref-path-items.ensures.value ∙ c.in_ok-paths.ensures ∙ ap (positions_where (may_equal q.critical)) c.payload.ensures in
     puts_other c.args.children.now.items c.loop-path.children.items (event_contracted q o c.deref-path-items.result.now all (c.is_sent_before.ensures.0 c.if-not-is_sent_before.false))

@@ -3,9 +3,9 @@ use Rattle.std.proofs.lemmas.Result.{on_ok_weaker}
 use Rattle.cp_lists.specs.Lists.{item_at}
 use Rattle.cp_model.proofs.CarriedParts.{not_both}
 use Rattle.cp_model.specs.Homomorphism.{substitution_by}
-use Rattle.cp_model.specs.Strand.{send, recv, Role}
+use Rattle.cp_model.specs.Strand.{Role}
+use Rattle.cp_model.specs.declared.strand.Event.TheVariants.{Send as send, Receive as recv}
 use Rattle.cp_model.specs.Term.{Term}
-use Rattle.cp_skel.specs.Trees.{variables_view}
 use Rattle.cp_skel.specs.View.{skeleton_view}
 use Rattle.cp_cohort.specs.Cohort.{is_reception, is_before}
 use Rattle.cp_cohort.specs.Views.{guarded_test_view}
@@ -34,7 +34,7 @@ pub release-requires : goal.release-requires
 release-requires c =
     let sent = subst (λ (r : Role). (t : Term) × (item_at r.trace c.args.index ≡ Some (send t))) c.role.ensures (c.is_sent.ensures.sent c.if-not-is_sent.false) in
     grown_pair (guarded_test_view c.args.guarded_test.now) c.args.strand c.args.instance.now.role c.args.instance.now.height c.args.index (substitution_by c.args.instance.now.values) sent.0 c.requires.there sent.1
-    (variables_view c.in_ok-grown.grown.variables) (skeleton_view c.in_ok-grown.grown) (c.in_ok-grown.ensures c.args.index (add-one c.args.index)).grows c.requires.other c.requires.test
+    c.in_ok-grown.grown.variables (skeleton_view c.in_ok-grown.grown) (c.in_ok-grown.ensures c.args.index (add-one c.args.index)).grows c.requires.other c.requires.test
 
 pub returns : goal.returns
 returns c =
@@ -42,5 +42,5 @@ returns c =
     on_ok_weaker c.release.result
     (λ p. puts_other c.args.children.now.items c.release.new.children.items
     (displaced_each (guarded_test_view c.args.guarded_test.now) c.args.strand c.args.instance.now.role c.args.instance.now.height c.args.index (substitution_by c.args.instance.now.values) sent.0 c.requires.there sent.1
-    (variables_view c.in_ok-grown.grown.variables) (skeleton_view c.in_ok-grown.grown) (c.in_ok-grown.ensures c.args.index (add-one c.args.index)).grows (λ b. not_both c.if-comes_before.false (c.comes_before.ensures.1 b))) p)
+    c.in_ok-grown.grown.variables (skeleton_view c.in_ok-grown.grown) (c.in_ok-grown.ensures c.args.index (add-one c.args.index)).grows (λ b. not_both c.if-comes_before.false (c.comes_before.ensures.1 b))) p)
     c.release.ensures

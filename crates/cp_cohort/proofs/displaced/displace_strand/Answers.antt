@@ -1,11 +1,10 @@
 use Rattle.std.proofs.Common.{◌≡◌, ◌<◌, ◌≤◌, Some, length, ap, sym, ◌∙◌, arith}
 use Rattle.cp_lists.specs.Lists.{item_at}
-use Rattle.cp_lists.proofs.Mapped.{length_of}
 use Rattle.cp_model.specs.Problem.{numbers_from}
 use Rattle.cp_model.specs.Skeleton.{SkeletonStrand, listener}
 use Rattle.cp_model.specs.Strand.{Role}
 use Rattle.cp_model.specs.Data.{StrandData}
-use Rattle.cp_strand.specs.View.{event_view, strand_view}
+use Rattle.cp_strand.specs.View.{strand_view}
 use Rattle.cp_cohort.specs.Cohort.{DisplacesEvent, of_listener, of_node, of_role}
 use Rattle.cp_cohort.specs.Views.{guarded_test_view}
 use Rattle.cp_cohort.proofs.ChildLists.{puts_nothing, puts_other, puts_first, puts_next, puts_last, number_there, numbers_past}
@@ -15,7 +14,7 @@ use Rattle.cp_cohort.proofs.displaced.displace_strand.Goals as goal
 
 -- as many events are read as the role has
 as_many : (c : After-trace-events) → length c.trace-events.result.now ≡ length c.in-Instance.instance.now.role.trace
-as_many c = length_of event_view c.trace-events.result.now c.in-Instance.instance.now.role.trace (c.trace-events.ensures ∙ ap (λ (r : Role). r.trace) (c.deref.ensures ∙ c.role.ensures))
+as_many c = ap length (c.trace-events.ensures ∙ ap (λ (r : Role). r.trace) (c.deref.ensures ∙ c.role.ensures))
 
 pub returns-in_default : goal.returns-in_default
 returns-in_default c =

@@ -1,7 +1,6 @@
 use Rattle.std.proofs.Common.{◌≡◌, ◌<◌, ◌≤◌, ◌++◌, ℕ, length, ap, ◌∙◌, arith}
 use Rattle.std.proofs.lemmas.Result.{on_ok_weaker}
 use Rattle.cp_model.specs.Strand.{Role}
-use Rattle.cp_skel.specs.Trees.{variables_view}
 use Rattle.cp_model.specs.PrefixVariables.{added_variables}
 use Rattle.cp_theory.specs.Fresh.{fresh_terms}
 use Rattle.cp_cohort.specs.CoveringChildren.{declarations_among}
@@ -29,9 +28,9 @@ returns c =
     let are : c.deref-2.result.now ≡ fresh_terms (length c.args.k.now.variables) (added_variables i.role i.height c.args.height) =
     c.deref-2.ensures.value ∙ c.in_ok-values.ensures.values ∙ ap (λ (r : Role). fresh_terms (length c.args.k.now.variables) (added_variables r c.height-before.result c.args.height)) role_is
     ∙ ap (λ (m : ℕ). fresh_terms (length c.args.k.now.variables) (added_variables i.role m c.args.height)) c.height-before.ensures in
-    let more : variables_view c.declare_added.new.k.variables ≡ variables_view c.args.k.now.variables ++ declarations_among i.role (added_variables i.role i.height c.args.height) =
-    c.in_ok-values.ensures.declared ∙ ap (λ (r : Role). variables_view c.args.k.now.variables ++ declarations_among r (added_variables r c.height-before.result c.args.height)) role_is
-    ∙ ap (λ (m : ℕ). variables_view c.args.k.now.variables ++ declarations_among i.role (added_variables i.role m c.args.height)) c.height-before.ensures in
+    let more : c.declare_added.new.k.variables ≡ c.args.k.now.variables ++ declarations_among i.role (added_variables i.role i.height c.args.height) =
+    c.in_ok-values.ensures.declared ∙ ap (λ (r : Role). c.args.k.now.variables ++ declarations_among r (added_variables r c.height-before.result c.args.height)) role_is
+    ∙ ap (λ (m : ℕ). c.args.k.now.variables ++ declarations_among i.role (added_variables i.role m c.args.height)) c.height-before.ensures in
     let higher : i.height < c.args.height = omega (arith, c.if-height-before.false, c.height-before.ensures) in
     on_ok_weaker c.extend.result
     (λ extends j is. grown_by c.args.k.now c.args.height c.declare_added.new.k c.in_ok-values.ensures.rest c.args.strand i c.requires.there c.deref-2.result.now are (omega (arith, higher)) higher j is c.extend.new.self more extends c.extend.ensures.variables)

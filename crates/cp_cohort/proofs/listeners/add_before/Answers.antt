@@ -3,7 +3,6 @@ use Rattle.cp_model.specs.Skeleton.{Skeleton}
 use Rattle.cp_model.specs.Data.{SkeletonData}
 use Rattle.cp_model.specs.Extensions.{AddsListener}
 use Rattle.cp_skel.specs.Sound.{IsSound}
-use Rattle.cp_skel.specs.Trees.{variables_view}
 use Rattle.cp_skel.specs.View.{skeleton_view}
 use Rattle.cp_theory.specs.Covering.{put_before}
 use Rattle.cp_cohort.specs.Views.{guarded_test_view}
@@ -34,5 +33,5 @@ returns c =
     record {
       number = c.in_ok-strand.ensures.number ∙ ap (λ (k : SkeletonData). length (skeleton_view k).strands) c.requires.copied;
       put = put_there c.add_listener.new.self c.add_order.new.self _ _ rest (c.in_ok-add_order.ensures.pairs c.if-not-branch.false) ∙ ap (λ (k : Skeleton). put_before (record { strand = c.in_ok-strand.strand; index = 1 }) q.node k) adds;
-      variables = ap variables_view (rest.variables ∙ c.add_listener.ensures.variables ∙ ap (λ (k : SkeletonData). k.variables) c.requires.copied);
+      variables = rest.variables ∙ c.add_listener.ensures.variables ∙ ap (λ (k : SkeletonData). k.variables) c.requires.copied;
     }

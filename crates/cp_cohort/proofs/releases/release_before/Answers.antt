@@ -1,8 +1,7 @@
 use Rattle.std.proofs.Common.{◌≡◌, ap, ◌∙◌}
 use Rattle.std.proofs.lemmas.Result.{on_ok_weaker}
-use Rattle.cp_model.specs.Strand.{send}
+use Rattle.cp_model.specs.declared.strand.Event.TheVariants.{Send as send}
 use Rattle.cp_model.specs.Skeleton.{Skeleton, term_event_at}
-use Rattle.cp_skel.specs.Trees.{variables_view}
 use Rattle.cp_skel.specs.View.{skeleton_view}
 use Rattle.cp_theory.specs.Covering.{put_before}
 use Rattle.cp_cohort.specs.Views.{guarded_test_view, operation_of_made}
@@ -12,7 +11,7 @@ use Rattle.cp_cohort.proofs.releases.release_before.Goals as goal
 
 pub returns-then-not-branch : goal.returns-then-not-branch
 returns-then-not-branch c =
-    puts_nothing c.args.children.now.items (nothing_released (guarded_test_view c.args.guarded_test.now) (variables_view c.args.grown.now.variables) (operation_of_made c.args.made) c.args.node (skeleton_view c.args.grown.now) (c.in_ok-add_order.ensures.refused.0 c.if-not-branch.true))
+    puts_nothing c.args.children.now.items (nothing_released (guarded_test_view c.args.guarded_test.now) c.args.grown.now.variables (operation_of_made c.args.made) c.args.node (skeleton_view c.args.grown.now) (c.in_ok-add_order.ensures.refused.0 c.if-not-branch.true))
 
 pub add_order-requires : goal.add_order-requires
 add_order-requires c = record { pair = c.requires }
@@ -29,6 +28,6 @@ returns c =
     put_there c.args.grown.now c.add_order.new.self c.args.node c.args.guarded_test.now.node (c.in_ok-add_order.ensures.rest c.if-not-branch.false) (c.in_ok-add_order.ensures.pairs c.if-not-branch.false) in
     on_ok_weaker c.release_each.result
     (λ p. puts_other c.args.children.now.items c.release_each.new.children.items
-    (released_all (guarded_test_view c.args.guarded_test.now) (variables_view c.args.grown.now.variables) (operation_of_made c.args.made) c.args.node (skeleton_view c.add_order.new.self) (skeleton_view c.args.grown.now) c.in_ok-message.message
-    (variables_view c.add_order.new.self.variables) (ap variables_view (c.in_ok-add_order.ensures.rest c.if-not-branch.false).variables) same (λ t there. c.in_ok-message.ensures (send t) there)) p)
+    (released_all (guarded_test_view c.args.guarded_test.now) c.args.grown.now.variables (operation_of_made c.args.made) c.args.node (skeleton_view c.add_order.new.self) (skeleton_view c.args.grown.now) c.in_ok-message.message
+    c.add_order.new.self.variables (c.in_ok-add_order.ensures.rest c.if-not-branch.false).variables same (λ t there. c.in_ok-message.ensures (send t) there)) p)
     c.release_each.ensures

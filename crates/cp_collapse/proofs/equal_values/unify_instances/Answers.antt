@@ -1,8 +1,6 @@
-use Rattle.std.proofs.Common.{rules, ◌≡◌, ◌+◌, ◌≤◌, ◌∙◌, List, min, length, map, refl, sym, ap, ap₂, subst, arith}
-use Rattle.std.proofs.lemmas.List.{length-map}
+use Rattle.std.proofs.Common.{rules, ◌≡◌, ◌+◌, ◌≤◌, ◌∙◌, List, min, length, refl, sym, ap, ap₂, subst, arith}
 use Rattle.cp_model.specs.Strand.{Role, prefix_of}
 use Rattle.cp_model.specs.Homomorphism.{substitution_by}
-use Rattle.cp_strand.specs.View.{declaration_view}
 use Rattle.cp_unify.specs.Bindings.{Binding, Meets}
 use Rattle.cp_collapse.specs.FirstPartitions.{IsExactFor}
 use Rattle.cp_collapse.proofs.Prefixes.{AgreeBelow, variable_at, closed_lower, at_declaration, given_first, below_passes, below_takes, below_never, below_last, equal_below, term_there}
@@ -61,7 +59,6 @@ returns c =
     let a = c.args.a.now in
     let b = c.args.b.now in
     let ds = c.variables-declaration-items.result.now in
-    let are : map declaration_view ds ≡ a.role.variables = c.variables-declaration-items.ensures ∙ ap (λ (r : Role). r.variables) (c.deref-2.ensures ∙ c.role-2.ensures) in
-    let done = subst (λ n. n ≤ l.number) (sym (length-map ds declaration_view)) c.loop-number-test.false in
+    let are : ds ≡ a.role.variables = c.variables-declaration-items.ensures ∙ ap (λ (r : Role). r.variables) (c.deref-2.ensures ∙ c.role-2.ensures) in
     below_last (λ g. Meets g c.args.given.now.value) a.role (min a.height b.height) (substitution_by a.values) (substitution_by b.values) (closed_lower a.role a.height b.height c.requires.declared) l.number l.bindings.value l.invariant
-    a.height b.height refl (subst (λ vs. length vs ≤ l.number) are done)
+    a.height b.height refl (subst (λ vs. length vs ≤ l.number) are c.loop-number-test.false)

@@ -1,4 +1,4 @@
-use Rattle.std.proofs.Common.{◌≡◌, map, ap, subst, ◌∙◌, List}
+use Rattle.std.proofs.Common.{◌≡◌, ap, subst, ◌∙◌, List}
 use Rattle.std.specs.Prelude.{◌↔◌}
 use Rattle.cp_model.specs.Derivable.{DerivableAt}
 use Rattle.cp_model.specs.Term.{Term}
@@ -6,7 +6,7 @@ use Rattle.cp_skel.specs.View.{skeleton_view}
 use Rattle.cp_derive.specs.Assumed.{assumed_values}
 use Rattle.cp_derive.specs.Before.{ArePlacesBefore, transmissions_of, given_by}
 use Rattle.cp_derive.specs.Given.{Given, IsDerivable}
-use Rattle.cp_derive.specs.Transmissions.{Transmission, transmission_view}
+use Rattle.cp_derive.specs.Transmissions.{Transmission}
 use Rattle.cp_derive.proofs.GivenAtNode.{ordered_of, derivable_at_node, given_from}
 use Rattle.cp_derive.proofs.TransmissionPlaces.{ok_then}
 use Rattle.cp_derive.proofs.at_node.known.Goals as goal
@@ -14,10 +14,10 @@ use Rattle.cp_derive.proofs.at_node.known.Goals as goal
 pub returns : goal.returns
 returns c =
     let all : List Transmission = transmissions_of (skeleton_view c.args.k.now) in
-    let lent : map transmission_view c.deref.result.now ≡ all = ap (map transmission_view) c.deref.ensures.value ∙ c.in_ok-transmissions.ensures in
-    let lent_again : map transmission_view c.deref-3.result.now ≡ all = ap (map transmission_view) c.deref-3.ensures.value ∙ c.in_ok-transmissions.ensures in
-    let before : ArePlacesBefore c.args.k.now.order c.args.node (map transmission_view c.deref.result.now) c.in_ok-places.places.items =
-    subst (λ ps. ArePlacesBefore ps c.args.node (map transmission_view c.deref.result.now) c.in_ok-places.places.items) (c.in_ok-sorted.ensures ∙ c.pairs.ensures ∙ c.order.ensures) c.in_ok-places.ensures in
+    let lent : c.deref.result.now ≡ all = c.deref.ensures.value ∙ c.in_ok-transmissions.ensures in
+    let lent_again : c.deref-3.result.now ≡ all = c.deref-3.ensures.value ∙ c.in_ok-transmissions.ensures in
+    let before : ArePlacesBefore c.args.k.now.order c.args.node c.deref.result.now c.in_ok-places.places.items =
+    subst (λ ps. ArePlacesBefore ps c.args.node c.deref.result.now c.in_ok-places.places.items) (c.in_ok-sorted.ensures ∙ c.pairs.ensures ∙ c.order.ensures) c.in_ok-places.ensures in
     let before_all : ArePlacesBefore c.args.k.now.order c.args.node all c.in_ok-places.places.items =
     subst (λ ts. ArePlacesBefore c.args.k.now.order c.args.node ts c.in_ok-places.places.items) lent before in
     record {

@@ -1,5 +1,5 @@
 use Rattle.cp_model.proofs.CarriedParts.{not_both}
-use Rattle.cp_model.specs.Strand.{recv}
+use Rattle.cp_model.specs.declared.strand.Event.TheVariants.{Receive as recv}
 use Rattle.cp_skel.specs.View.{skeleton_view}
 use Rattle.cp_derive.proofs.GivenAtNode.{unrealised_at, realised_at, passed, taken, event_at, all_passed, other_realised, reception_at}
 use Rattle.cp_derive.proofs.receptions.unrealised_among.Goals as goal

@@ -1,8 +1,7 @@
-use Rattle.std.proofs.Common.{◌≡◌, ◌++◌, List, map, drop}
+use Rattle.std.proofs.Common.{◌≡◌, ◌++◌, List, drop}
 use Rattle.cp_model.specs.declared.node.Node.{Node}
 use Rattle.cp_skel.specs.View.{skeleton_view}
 use Rattle.cp_derive.specs.Before.{given_by}
-use Rattle.cp_skel.specs.Events.{located_event_view}
 use Rattle.cp_derive.specs.Picked.{Picks}
 use Rattle.cp_derive.proofs.receptions.unrealised_among.Given as goal
 
@@ -10,6 +9,6 @@ use Rattle.cp_derive.proofs.receptions.unrealised_among.Given as goal
 abbrev pub invariant-loop-occurrence : goal.invariant-loop-occurrence
 invariant-loop-occurrence l = record {
   given : l.known_before.known ≡ given_by (skeleton_view l.k) l.known_before.places.items;
-  picks : (ns : List Node) → Picks (skeleton_view l.k) (map located_event_view (drop l.occurrence-index l.occurrences)) ns →
-      Picks (skeleton_view l.k) (map located_event_view l.occurrences) (l.nodes.items ++ ns);
+  picks : (ns : List Node) → Picks (skeleton_view l.k) (drop l.occurrence-index l.occurrences) ns →
+      Picks (skeleton_view l.k) l.occurrences (l.nodes.items ++ ns);
 }

@@ -1,7 +1,5 @@
-use Rattle.std.proofs.Common.{map}
 use Rattle.cp_lists.proofs.Fronts.{none_if_empty}
 use Rattle.cp_skel.specs.View.{skeleton_view}
-use Rattle.cp_skel.specs.Events.{located_event_view}
 use Rattle.cp_derive.proofs.ByStrand.{before_among, on_among, picked_in_front, all_gone_through}
 use Rattle.cp_derive.proofs.receptions.unrealised_by_strand.Goals as goal
 
@@ -14,7 +12,7 @@ pub loop-left-preserved : goal.loop-left-preserved
 loop-left-preserved c = record {
   given = c.in_ok-more.ensures.given;
   among = before_among (skeleton_view c.args.k.now) c.args.occurrences.now c.loop-left.left.now c.split_at.result.0.now c.split_at.result.1.now c.split_at.ensures.by_index.0
-      (map located_event_view c.args.occurrences.now) c.loop-left.invariant.among;
+      c.args.occurrences.now c.loop-left.invariant.among;
   picks = picked_in_front (skeleton_view c.args.k.now) c.args.occurrences.now c.loop-left.left.now c.split_at.result.0.now c.split_at.result.1.now c.split_at.ensures.by_index.0
       c.loop-left.nodes.items c.in_ok-more.more.items c.reverse.new.self.items c.append.new.self.items c.in_ok-more.ensures.picks c.reverse.ensures.items c.in_ok-append.ensures.items
       c.loop-left.invariant.picks;

@@ -1,8 +1,7 @@
-use Rattle.std.proofs.Common.{◌≡◌, ◌++◌, List, map, reverse, length}
+use Rattle.std.proofs.Common.{◌≡◌, ◌++◌, List, reverse, length}
 use Rattle.cp_model.specs.declared.node.Node.{Node}
 use Rattle.cp_skel.specs.View.{skeleton_view}
 use Rattle.cp_derive.specs.Before.{given_by}
-use Rattle.cp_skel.specs.Events.{located_event_view}
 use Rattle.cp_derive.specs.Picked.{AreEventsAmong, Picks}
 use Rattle.cp_derive.proofs.receptions.unrealised_by_strand.Given as goal
 
@@ -10,9 +9,9 @@ use Rattle.cp_derive.proofs.receptions.unrealised_by_strand.Given as goal
 abbrev pub invariant-loop-left : goal.invariant-loop-left
 invariant-loop-left l = record {
   given : l.known_before.known ≡ given_by (skeleton_view l.k) l.known_before.places.items;
-  among : AreEventsAmong (map located_event_view l.left) (map located_event_view l.occurrences);
-  picks : (ns : List Node) → Picks (skeleton_view l.k) (map located_event_view l.left) ns →
-      Picks (skeleton_view l.k) (map located_event_view l.occurrences) (ns ++ reverse l.nodes.items);
+  among : AreEventsAmong l.left l.occurrences;
+  picks : (ns : List Node) → Picks (skeleton_view l.k) l.left ns →
+      Picks (skeleton_view l.k) l.occurrences (ns ++ reverse l.nodes.items);
 }
 
 abbrev pub decreases-loop-left : goal.decreases-loop-left

@@ -1,15 +1,12 @@
-use Rattle.std.proofs.Common.{◌++◌, map, ap, ◌∙◌}
+use Rattle.std.proofs.Common.{◌++◌, ap, ◌∙◌}
 use Rattle.cp_model.specs.Strand.{variables_of_trace}
-use Rattle.cp_skel.specs.Events.{located_event_view}
 use Rattle.cp_skel.specs.View.{skeleton_view}
-use Rattle.cp_strand.specs.View.{event_view}
-use Rattle.cp_escape.proofs.Uses.{variables_listed, variables_at, uses_last, listed_from, listed_shown}
+use Rattle.cp_escape.proofs.Uses.{variables_listed, variables_at, uses_last, listed_from}
 use Rattle.cp_escape.proofs.used.add_messages.Goals as goal
 
 pub returns : goal.returns
 returns c =
-    let old = variables_of_trace (map event_view c.args.uses.now.items) in
-    uses_last (λ o. variables_at (located_event_view o)) c.deref-occurrence-items.result.now c.loop-occurrence.occurrence-index c.loop-occurrence-test.false old _ c.loop-occurrence.invariant ∙
+    let old = variables_of_trace c.args.uses.now.items in
+    uses_last variables_at c.deref-occurrence-items.result.now c.loop-occurrence.occurrence-index c.loop-occurrence-test.false old _ c.loop-occurrence.invariant ∙
     ap (λ vs. old ++ vs)
-    (listed_shown variables_at located_event_view c.deref-occurrence-items.result.now ∙
-    ap (variables_listed variables_at) (ap (map located_event_view) c.deref-occurrence-items.ensures.value ∙ c.in_ok-occurrences.ensures.listed) ∙ listed_from 0 (skeleton_view c.args.k.now).strands)
+    (ap (variables_listed variables_at) (c.deref-occurrence-items.ensures.value ∙ c.in_ok-occurrences.ensures.listed) ∙ listed_from 0 (skeleton_view c.args.k.now).strands)

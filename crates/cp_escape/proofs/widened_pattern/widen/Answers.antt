@@ -1,11 +1,7 @@
-use Rattle.std.proofs.Common.{◌≡◌, ap, ◌∙◌}
-use Rattle.cp_theory.specs.Critical.{used_variables}
 use Rattle.cp_theory.specs.Above.{encryptions_above}
 use Rattle.cp_model.specs.Term.{Term}
-use Rattle.cp_skel.specs.Trees.{variables_view}
 use Rattle.cp_skel.specs.View.{skeleton_view}
 use Rattle.cp_escape.specs.Escape.{IsFirstWith}
-use Rattle.cp_escape.specs.UsedVariables.{is_new_in, variables_where, numbers}
 use Rattle.cp_escape.specs.WidenedPattern.{EndsBySending, StaysClosed}
 use Rattle.cp_escape.proofs.Widened.{new_is_pattern, new_widens}
 use Rattle.cp_escape.proofs.widened_pattern.widen.Goals.{In-Some, In_ok-locals}
@@ -20,21 +16,18 @@ returns-in_default-clause-none c p w =
 sends : (c : In-Some) → EndsBySending (skeleton_view c.args.k.now) (skeleton_view c.args.child.now) c.in-Some.message
 sends c = rw c.in-Some.is at c.in_ok-message.ensures.some
 
--- the encryption is the outermost that stays closed, and these are its new variables
+-- the encryption is the outermost that stays closed
 first : (c : In_ok-locals) → IsFirstWith (StaysClosed (skeleton_view c.args.k.now)) (encryptions_above c.in-Some.message c.args.path.now) c.in-Some-2.encryption
 first c = rw c.in-Some-2.is at c.in_ok-encryption.ensures.some
-
-new_ones : (c : In_ok-locals) → c.in_ok-locals.locals ≡ numbers (variables_where (is_new_in c.in-Some-2.encryption (used_variables (skeleton_view c.args.k.now))) 0 (variables_view c.args.child.now.variables))
-new_ones c = c.in_ok-locals.ensures ∙ ap (λ vs. numbers (variables_where (is_new_in c.in-Some-2.encryption (used_variables (skeleton_view c.args.k.now))) 0 (variables_view vs))) c.variables.ensures
 
 pub new-requires : goal.new-requires
 new-requires c =
     let at = goal.at.new-requires c in
-    new_is_pattern (skeleton_view c.args.k.now) (skeleton_view c.args.child.now) (variables_view c.args.child.now.variables) c.requires.declared c.args.path.now c.in-Some.message (sends at.In-Some) c.in-Some-2.encryption
-    (first at.In_ok-locals) c.in_ok-locals.locals (new_ones at.In_ok-locals)
+    new_is_pattern (skeleton_view c.args.k.now) (skeleton_view c.args.child.now) c.args.path.now c.in-Some.message (sends at.In-Some) c.in-Some-2.encryption (first at.In_ok-locals) c.in_ok-locals.locals
+    c.in_ok-locals.ensures
 
 pub returns-clause-some : goal.returns-clause-some
 returns-clause-some c =
     let at = goal.at.returns-clause-some c in
-    new_widens (skeleton_view c.args.k.now) (skeleton_view c.args.child.now) (variables_view c.args.child.now.variables) c.requires.declared c.args.path.now c.in-Some.message (sends at.In-Some) c.in-Some-2.encryption
-    (first at.In_ok-locals) c.in_ok-locals.locals (new_ones at.In_ok-locals) (c.in_ok-binds_nothing.ensures.0 c.if-not-branch.false) c.new.result c.new.ensures
+    new_widens (skeleton_view c.args.k.now) (skeleton_view c.args.child.now) c.args.path.now c.in-Some.message (sends at.In-Some) c.in-Some-2.encryption (first at.In_ok-locals) c.in_ok-locals.locals
+    c.in_ok-locals.ensures (c.in_ok-binds_nothing.ensures.0 c.if-not-branch.false) c.new.result c.new.ensures

@@ -1,5 +1,5 @@
 use Rattle.std.proofs.Common.{IsNone, refl, sym, subst}
-use Rattle.cp_model.specs.Strand.{recv}
+use Rattle.cp_model.specs.declared.strand.Event.TheVariants.{Receive as recv}
 use Rattle.cp_skel.specs.View.{skeleton_view}
 use Rattle.cp_expansion.proofs.Chosen.{none_left, chosen_reception}
 use Rattle.cp_expansion.proofs.chosen_test.test_of.Goals as goal

@@ -13,7 +13,7 @@ use Rattle.cp_theory.specs.Critical.{IsTest}
 use Rattle.cp_theory.specs.Guards.{Guards}
 use Rattle.cp_expansion.specs.Widened.{IsGiven}
 use Rattle.cp_expansion.specs.declared.expansion.Expansion.{Expansion}
-use Rattle.cp_expansion.proofs.OnceMore.{place_below, given_child, IsNext, grown_skeleton, grown_declared, child_declared, table_behind, next_test, if_widened, if_same}
+use Rattle.cp_expansion.proofs.OnceMore.{place_below, given_child, IsNext, grown_skeleton, grown_declared, table_behind, next_test, if_widened, if_same}
 use Rattle.cp_expansion.proofs.expansion.+widened.Goals.{In_ok-push}
 use Rattle.cp_expansion.proofs.expansion.+widened.Goals as goal
 
@@ -28,7 +28,7 @@ next t c =
     record {
       given = g;
       read = map_of_read child_view cs place c.index.result.now (place_below (skeleton_view k) cs place p g) c.index.ensures;
-      sound = λ d listed. let s = c.in_ok-children.ensures.sound (record { skeleton = c.requires.skeleton; declared = c.requires.declared }) d listed in (s.more, s.declared);
+      sound = λ d listed. (c.in_ok-children.ensures.sound (record { skeleton = c.requires.skeleton; declared = c.requires.declared }) d listed).more;
       grew = c.in_ok-grown.ensures ∙ ap (λ vs. record k { variables = vs }) c.variables.ensures;
       pushed = c.in_ok-push.ensures.items;
     }
@@ -36,18 +36,18 @@ next t c =
 pub returns-then-len-ge-MOST_PATTERNS-clause-widened : goal.returns-then-len-ge-MOST_PATTERNS-clause-widened
 returns-then-len-ge-MOST_PATTERNS-clause-widened t c =
     let cs = map child_view c.in_ok-children.children.items in
-    let q = guarded_test_of c.args.k.now c.args.test.now.node c.args.test.now.term c.args.patterns.items in
+    let q = guarded_test_of c.args.k.now c.args.test.now.node c.args.test.now.critical c.args.patterns.items in
     let exact : IsCohort c.args.protocol.now q cs = rw c.deref.ensures.value at c.in_ok-children.ensures.exact in
     let most : 32 ≤ length c.args.patterns.items = grind arith in
-    subst (λ s. AreWidened c.args.protocol.now q (guarded_test_of s c.args.test.now.node c.args.test.now.term c.args.patterns.items) cs) (sym c.in_ok-skeleton.ensures.same) (widened_by_most c.args.protocol.now q cs most exact)
+    subst (λ s. AreWidened c.args.protocol.now q (guarded_test_of s c.args.test.now.node c.args.test.now.critical c.args.patterns.items) cs) (sym c.in_ok-skeleton.ensures.same) (widened_by_most c.args.protocol.now q cs most exact)
 
 pub returns-in_default-clause-widened : goal.returns-in_default-clause-widened
 returns-in_default-clause-widened t c =
     let cs = map child_view c.in_ok-children.children.items in
-    let q = guarded_test_of c.args.k.now c.args.test.now.node c.args.test.now.term c.args.patterns.items in
+    let q = guarded_test_of c.args.k.now c.args.test.now.node c.args.test.now.critical c.args.patterns.items in
     let exact : IsCohort c.args.protocol.now q cs = rw c.deref.ensures.value at c.in_ok-children.ensures.exact in
     let few : length c.args.patterns.items < 32 = grind arith in
-    subst (λ s. AreWidened c.args.protocol.now q (guarded_test_of s c.args.test.now.node c.args.test.now.term c.args.patterns.items) cs) (sym c.in_ok-skeleton-2.ensures.same)
+    subst (λ s. AreWidened c.args.protocol.now q (guarded_test_of s c.args.test.now.node c.args.test.now.critical c.args.patterns.items) cs) (sym c.in_ok-skeleton-2.ensures.same)
     (widened_no_more c.args.protocol.now q cs few exact (rw c.deref-2.ensures.value at (rw c.in_default.is at c.in_ok-widening.ensures)))
 
 pub index-requires : goal.index-requires
@@ -76,9 +76,8 @@ widened-requires t c =
     let p = c.in-Some.widening.pattern in
     let n = next t (goal.at.widened-requires t c).In_ok-push in
     let same : skeleton_view k ≡ skeleton_view c.in_ok-grown.grown = grown_skeleton k c.in_ok-grown.grown c.index.result.now.skeleton.variables n.grew in
-    let guards : Guards (c.args.patterns.items ++ p ∷ []) (skeleton_view k) c.args.test.now.node c.args.test.now.term =
-    c.widening_keeps_guards.ensures c.args.patterns.items (skeleton_view k) n.given.child.skeleton c.args.test.now.node c.args.test.now.term n.given.child.path p n.given.child.variables
-    (child_declared k c.in_ok-grown.grown c.args.patterns.items c.push.new.self.items cs place p c.index.result.now n) c.requires.guards n.given.gives.widens in
+    let guards : Guards (c.args.patterns.items ++ p ∷ []) (skeleton_view k) c.args.test.now.node c.args.test.now.critical =
+    c.widening_keeps_guards.ensures c.args.patterns.items (skeleton_view k) n.given.child.skeleton c.args.test.now.node c.args.test.now.critical n.given.child.path p c.requires.guards n.given.gives.widens in
     let few : length c.args.patterns.items < 32 = grind arith in
     let longer : length c.push.new.self.items ≡ length c.args.patterns.items + 1 = ap length n.pushed ∙ length-append c.args.patterns.items (p ∷ []) in (
       omega (arith, few, longer, c.decreases),
@@ -87,8 +86,8 @@ widened-requires t c =
         (
           grown_declared k c.in_ok-grown.grown c.args.patterns.items c.push.new.self.items cs place p c.index.result.now n c.requires.declared,
           (
-            subst (λ s. IsTest s c.args.test.now.node c.args.test.now.term) same c.requires.test,
-            subst (λ s. Guards c.push.new.self.items s c.args.test.now.node c.args.test.now.term) same (subst (λ ps. Guards ps (skeleton_view k) c.args.test.now.node c.args.test.now.term) (sym n.pushed) guards),
+            subst (λ s. IsTest s c.args.test.now.node c.args.test.now.critical) same c.requires.test,
+            subst (λ s. Guards c.push.new.self.items s c.args.test.now.node c.args.test.now.critical) same (subst (λ ps. Guards ps (skeleton_view k) c.args.test.now.node c.args.test.now.critical) (sym n.pushed) guards),
           ),
         ),
       ),
@@ -98,7 +97,7 @@ pub returns-clause-widened : goal.returns-clause-widened
 returns-clause-widened t c =
     let k = c.args.k.now in
     let node = c.args.test.now.node in
-    let term = c.args.test.now.term in
+    let term = c.args.test.now.critical in
     let cs = c.in_ok-children.children.items in
     let place = c.in-Some.widening.child in
     let p = c.in-Some.widening.pattern in

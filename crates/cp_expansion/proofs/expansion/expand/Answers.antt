@@ -3,11 +3,11 @@ use Rattle.cp_expansion.proofs.TestsAreTests.{is_test}
 use Rattle.cp_expansion.proofs.Expansions.{expansion_made}
 use Rattle.cp_expansion.proofs.expansion.expand.Goals as goal
 
-pub escape-requires-clause-test : goal.escape-requires-clause-test
-escape-requires-clause-test c = is_test (skeleton_view c.args.k.now) c.args.test.now.node c.args.test.now.term c.requires.test
+pub escape-requires : goal.escape-requires
+escape-requires c = record { test = is_test (skeleton_view c.args.k.now) c.args.test.now.node c.args.test.now.critical c.requires.test }
 
 pub widened-requires-clause-test : goal.widened-requires-clause-test
-widened-requires-clause-test c = is_test (skeleton_view c.args.k.now) c.args.test.now.node c.args.test.now.term c.requires.test
+widened-requires-clause-test c = is_test (skeleton_view c.args.k.now) c.args.test.now.node c.args.test.now.critical c.requires.test
 
 pub returns-clause-exact : goal.returns-clause-exact
 returns-clause-exact c =

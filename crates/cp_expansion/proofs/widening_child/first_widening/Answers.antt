@@ -1,11 +1,7 @@
 use Rattle.std.proofs.Common.{arith}
 use Rattle.cp_skel.specs.View.{skeleton_view}
-use Rattle.cp_model.specs.PointOfView.{HasDeclaredVariables}
-use Rattle.cp_expansion.proofs.ChildPatterns.{none_next, none_at_last, given_at, declared_child}
+use Rattle.cp_expansion.proofs.ChildPatterns.{none_next, none_at_last, given_at}
 use Rattle.cp_expansion.proofs.widening_child.first_widening.Goals as goal
-
-pub pattern_of-requires : goal.pattern_of-requires
-pattern_of-requires c = record { declared = declared_child {Q = λ d. HasDeclaredVariables d.variables d.skeleton} c.args.children.now c.loop-number.number c.index-children-number.result c.loop-number-test.true c.index-children-number.is c.requires.declared }
 
 pub returns-in-Some : goal.returns-in-Some
 returns-in-Some c =

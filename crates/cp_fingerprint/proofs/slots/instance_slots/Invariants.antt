@@ -1,11 +1,10 @@
-use Rattle.std.proofs.Common.{◌≡◌, ◌++◌, drop, map}
+use Rattle.std.proofs.Common.{◌≡◌, ◌++◌, drop}
 use Rattle.cp_model.specs.Strand.{variables_of_trace}
 use Rattle.cp_model.specs.Homomorphism.{substitution_by}
-use Rattle.cp_strand.specs.View.{declaration_view, event_view}
 use Rattle.cp_fingerprint.specs.SharedValues.{declared_slots}
 use Rattle.cp_fingerprint.proofs.slots.instance_slots.Given as goal
 
 abbrev pub invariant-loop-number : goal.invariant-loop-number
 invariant-loop-number l =
-    l.slots.items ++ declared_slots l.name (variables_of_trace (map event_view l.prefix)) (substitution_by l.instance.values) l.number (map declaration_view (drop l.number l.declarations))
-    ≡ declared_slots l.name (variables_of_trace (map event_view l.prefix)) (substitution_by l.instance.values) 0 (map declaration_view l.declarations)
+    l.slots.items ++ declared_slots l.name (variables_of_trace l.prefix) (substitution_by l.instance.values) l.number (drop l.number l.declarations)
+    ≡ declared_slots l.name (variables_of_trace l.prefix) (substitution_by l.instance.values) 0 l.declarations

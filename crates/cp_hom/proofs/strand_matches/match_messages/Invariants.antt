@@ -1,5 +1,4 @@
 use Rattle.std.proofs.Common.{drop}
-use Rattle.cp_strand.specs.View.{event_view}
 use Rattle.cp_hom.specs.PartialMaps.{partial_view}
 use Rattle.cp_hom.proofs.Extended.{IsSoFar}
 use Rattle.cp_hom.proofs.Messages.{AllMade}
@@ -7,4 +6,4 @@ use Rattle.cp_hom.proofs.strand_matches.match_messages.Given as goal
 
 abbrev pub invariant-loop-index : goal.invariant-loop-index
 invariant-loop-index l =
-    IsSoFar (AllMade event_view l.events l.others) (AllMade event_view (drop l.index l.events) (drop l.index l.others)) (partial_view l.fn.given) (partial_view l.found)
+    IsSoFar (AllMade l.events l.others) (AllMade (drop l.index l.events) (drop l.index l.others)) (partial_view l.fn.given) (partial_view l.found)

@@ -1,13 +1,14 @@
-use Rattle.std.proofs.Common.{ℕ, List, [], ◌∷◌, ◌++◌, ap, ap₂, ◌∙◌}
+use Rattle.std.proofs.Common.{List, [], ◌∷◌, ◌++◌, ap, ap₂, ◌∙◌}
 use Rattle.cp_model.specs.Term.{skey_variable, symmetric_term, enc_term}
-use Rattle.cp_term.specs.Variables.{variable_term}
 use Rattle.cp_model.specs.declared.sort.Sort.TheVariants.{Text, Skey}
+use Rattle.cp_model.specs.declared.variable.Variable.{Variable}
+use Rattle.cp_term.specs.Variables.{variable_of_sort}
 use Rattle.cp_term.proofs.LocalVariables.{text_under_key_is_pattern}
 use Rattle.cp_input_tests.proofs.guarded.pattern.Goals as goal
 
 pub new-requires : goal.new-requires
 new-requires c =
     text_under_key_is_pattern c.in_ok-term.term c.push.new.self
-    (c.in_ok-term.ensures.plain (symmetric_term (skey_variable 1)) (c.in_ok-key.ensures.plain ∙ ap (variable_term Skey) c.numbered.ensures)
-    ∙ ap (λ b. enc_term b (symmetric_term (skey_variable 1))) (c.in_ok-var.ensures.plain ∙ ap (variable_term Text) c.numbered-text.ensures))
-    (c.in_ok-push.ensures.ok ∙ ap₂ (λ (ns : List ℕ) (n : ℕ). ns ++ n ∷ []) c.new-locals.ensures c.numbered-text.ensures)
+    (c.in_ok-term.ensures.plain (symmetric_term (skey_variable 1)) (c.in_ok-key.ensures.plain ∙ ap (variable_of_sort Skey) c.numbered.ensures)
+    ∙ ap (λ b. enc_term b (symmetric_term (skey_variable 1))) (c.in_ok-var.ensures.plain ∙ ap (variable_of_sort Text) c.numbered-text.ensures))
+    (c.in_ok-push.ensures.ok ∙ ap₂ (λ (xs : List Variable) (x : Variable). xs ++ x ∷ []) c.new-locals.ensures c.text_numbered.ensures)

@@ -1,6 +1,5 @@
 use Rattle.std.proofs.Common.{◌≡◌, map, drop}
 use Rattle.cp_sexpr.specs.View.{view}
-use Rattle.cp_strand.specs.View.{declaration_view}
 use Rattle.cp_report.specs.Misfits.{each_misfits}
 use Rattle.cp_report.specs.Spelled.{pattern_misfits}
 use Rattle.cp_spelled.specs.FirstMisfit.{first_onto}
@@ -8,5 +7,5 @@ use Rattle.cp_items.proofs.label_tests.patterns_misfits.Given as goal
 
 abbrev pub invariant-loop-item : goal.invariant-loop-item
 invariant-loop-item l =
-    first_onto l.first (each_misfits (pattern_misfits (map declaration_view l.variables)) (map view (drop l.item-index l.items)))
-    ≡ first_onto l.initial.first (each_misfits (pattern_misfits (map declaration_view l.variables)) (map view l.items))
+    first_onto l.first (each_misfits (pattern_misfits l.variables) (map view (drop l.item-index l.items)))
+    ≡ first_onto l.initial.first (each_misfits (pattern_misfits l.variables) (map view l.items))

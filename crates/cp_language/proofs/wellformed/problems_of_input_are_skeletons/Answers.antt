@@ -1,5 +1,8 @@
-use Rattle.cp_language.proofs.Problems.{map_to_themselves}
+use Rattle.cp_language.proofs.Problems.{map_to_themselves, state_their_pairs}
 use Rattle.cp_language.proofs.wellformed.problems_of_input_are_skeletons.Goals as goal
 
 pub returns-clause-own : goal.returns-clause-own
 returns-clause-own c = map_to_themselves
+
+pub returns-clause-pairs : goal.returns-clause-pairs
+returns-clause-pairs c = state_their_pairs

@@ -1,6 +1,5 @@
 use Rattle.std.proofs.Common.{◌≡◌, Some, map, sym, ap, ◌∙◌}
 use Rattle.cp_sexpr.specs.View.{view}
-use Rattle.cp_roles.specs.Above.{protocols_view}
 use Rattle.cp_load.proofs.SoundUnchecked.{unchecked_sound}
 use Rattle.cp_load.proofs.TopForms.{protocols-all, no-faults, entries-finished, input-loaded, input-refused}
 use Rattle.cp_load.proofs.loader.load.Goals as goal
@@ -8,17 +7,19 @@ use Rattle.cp_load.proofs.loader.load.Goals as goal
 pub returns-in-Some-clause-refused : goal.returns-in-Some-clause-refused
 returns-in-Some-clause-refused c = λ r e.
     let same : c.in-Some.fault ≡ r = cc in
-    input-refused c.args.forms.now c.new-first.result c.read_forms.new.first c.new-first.ensures c.in_ok-protocols.ensures.faults r (sym c.found.ensures ∙ c.in-Some.is ∙ ap Some same)
+    input-refused c.args.forms.now c.new-first.result c.read_forms.new.first c.new-first.ensures c.in_ok-unchecked_entries.ensures.faults r (sym c.found.ensures ∙ c.in-Some.is ∙ ap Some same)
 
 pub all_finished-requires : goal.all_finished-requires
 all_finished-requires c =
-    unchecked_sound c.args.forms.now c.in_ok-protocols.field-0.unchecked_problems.items
-    (no-faults c.args.forms.now c.new-first.result c.read_forms.new.first c.new-first.ensures c.in_ok-protocols.ensures.faults (sym c.found.ensures ∙ c.in-None.is)) c.in_ok-protocols.ensures.problems
+    unchecked_sound c.args.forms.now c.in_ok-unchecked_entries.unchecked_entries.items
+    (no-faults c.args.forms.now c.new-first.result c.read_forms.new.first c.new-first.ensures c.in_ok-unchecked_entries.ensures.faults (sym c.found.ensures ∙ c.in-None.is)) c.in_ok-unchecked_entries.ensures.entries
 
 pub returns-in_ok-all_finished-in-None-clause-input : goal.returns-in_ok-all_finished-in-None-clause-input
 returns-in_ok-all_finished-in-None-clause-input c =
-    input-loaded c.args.forms.now c.new-first.result c.read_forms.new.first c.new-first.ensures c.in_ok-protocols.ensures.faults (sym c.found.ensures ∙ c.in-None.is) _
-    (entries-finished c.in_ok-protocols.field-0.unchecked_problems.items c.in_ok-all_finished-in-None.field-0.items c.in_ok-all_finished-in-None.ensures (map view c.args.forms.now) c.in_ok-protocols.ensures.problems)
+    input-loaded c.args.forms.now c.new-first.result c.read_forms.new.first c.new-first.ensures c.in_ok-unchecked_entries.ensures.faults (sym c.found.ensures ∙ c.in-None.is) _
+    (entries-finished c.in_ok-unchecked_entries.unchecked_entries.items c.in_ok-all_finished-in-None.field-0.items c.in_ok-all_finished-in-None.ensures (map view c.args.forms.now) c.in_ok-unchecked_entries.ensures.entries)
 
 pub returns-in_ok-all_finished-in-None-clause-protocols : goal.returns-in_ok-all_finished-in-None-clause-protocols
-returns-in_ok-all_finished-in-None-clause-protocols c = protocols-all c.args.forms.now (protocols_view c.in_ok-protocols.field-0.protocols.items) c.in_ok-protocols.ensures.protocols
+returns-in_ok-all_finished-in-None-clause-protocols c =
+    protocols-all c.args.forms.now _
+    (entries-finished c.in_ok-unchecked_entries.unchecked_entries.items c.in_ok-all_finished-in-None.field-0.items c.in_ok-all_finished-in-None.ensures (map view c.args.forms.now) c.in_ok-unchecked_entries.ensures.entries)

@@ -1,7 +1,6 @@
 use Rattle.std.proofs.Common.{map}
-use Rattle.cp_model.specs.RunView.{event_view}
 use Rattle.cp_model.specs.FirstCarriers.{NoneCarriesBefore}
 use Rattle.cp_model.proofs.origin.first_carrying.Given as goal
 
 abbrev pub invariant-loop-place : goal.invariant-loop-place
-invariant-loop-place l = NoneCarriesBefore l.message (map event_view l.events) l.place
+invariant-loop-place l = NoneCarriesBefore l.message l.events l.place

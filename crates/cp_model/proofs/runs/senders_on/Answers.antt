@@ -1,5 +1,5 @@
-use Rattle.cp_model.proofs.Paired.{paired_whole}
+use Rattle.cp_model.proofs.Paired.{paired_to_the_end}
 use Rattle.cp_model.proofs.runs.senders_on.Goals as goal
 
 pub returns : goal.returns
-returns c = paired_whole _ _ _ _ _ c.loop-event-test.false c.loop-event.invariant
+returns c = paired_to_the_end _ _ _ _ c.loop-event-test.false c.loop-event.invariant

@@ -1,12 +1,11 @@
-use Rattle.std.proofs.Common.{map, sym, ap, ◌∙◌, arith}
-use Rattle.cp_scope.specs.Terms.{variable_view}
+use Rattle.std.proofs.Common.{sym, ap, ◌∙◌, arith}
 use Rattle.cp_names.proofs.LocalsFound.{one_found, found_again, no_local, all_found}
 use Rattle.cp_names.proofs.locals.locals_in_order.Goals as goal
 use Rattle.cp_names.proofs.locals.locals_in_order.Goals.{then-has_variable+then-not-has_variable+in_ok-push, else-has_variable, else-has_variable-via-then-has_variable+else-not-has_variable, else-has_variable-via-else-has_variable}
 
 pub loop-variable-preserved : goal.loop-variable-preserved
 loop-variable-preserved c =
-    let ls = map variable_view c.args.locals.now in
+    let ls = c.args.locals.now in
     let i = c.loop-variable.variable-index in
     let found = c.loop-variable.found.items in
     elim c.if-has_variable.branch [
@@ -30,4 +29,4 @@ loop-variable-preserved c =
     ]
 
 pub returns : goal.returns
-returns c = all_found (map variable_view c.args.locals.now) c.args.variables.now c.loop-variable.variable-index _ c.loop-variable.found.items c.loop-variable.invariant (omega (arith, c.loop-variable-test.false))
+returns c = all_found c.args.locals.now c.args.variables.now c.loop-variable.variable-index _ c.loop-variable.found.items c.loop-variable.invariant (omega (arith, c.loop-variable-test.false))

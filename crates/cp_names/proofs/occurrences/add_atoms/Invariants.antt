@@ -1,7 +1,6 @@
-use Rattle.std.proofs.Common.{◌≡◌, ◌++◌, map, drop}
+use Rattle.std.proofs.Common.{◌≡◌, ◌++◌, drop}
 use Rattle.cp_model.specs.Problem.{variables_of_atoms}
-use Rattle.cp_scope.specs.Terms.{variable_view}
 use Rattle.cp_names.proofs.occurrences.add_atoms.Given as goal
 
 abbrev pub invariant-loop-atom : goal.invariant-loop-atom
-invariant-loop-atom l = map variable_view l.out.items ++ variables_of_atoms (drop l.atom-index l.atoms) ≡ map variable_view l.fn.out.items ++ variables_of_atoms l.atoms
+invariant-loop-atom l = l.out.items ++ variables_of_atoms (drop l.atom-index l.atoms) ≡ l.fn.out.items ++ variables_of_atoms l.atoms

@@ -1,8 +1,6 @@
-use Rattle.std.proofs.Common.{◌≡◌, ◌++◌, map, drop}
+use Rattle.std.proofs.Common.{◌≡◌, ◌++◌, drop}
 use Rattle.cp_model.specs.Strand.{variables_of_trace}
-use Rattle.cp_strand.specs.View.{event_view}
-use Rattle.cp_scope.specs.Terms.{variable_view}
 use Rattle.cp_names.proofs.occurrences.add_events.Given as goal
 
 abbrev pub invariant-loop-event : goal.invariant-loop-event
-invariant-loop-event l = map variable_view l.out.items ++ variables_of_trace (map event_view (drop l.event-index l.events)) ≡ map variable_view l.fn.out.items ++ variables_of_trace (map event_view l.events)
+invariant-loop-event l = l.out.items ++ variables_of_trace (drop l.event-index l.events) ≡ l.fn.out.items ++ variables_of_trace l.events

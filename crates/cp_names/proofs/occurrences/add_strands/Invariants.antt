@@ -1,8 +1,7 @@
 use Rattle.std.proofs.Common.{◌≡◌, ◌++◌, map, drop}
 use Rattle.cp_model.specs.Problem.{variables_of_strands}
 use Rattle.cp_strand.specs.View.{strand_view}
-use Rattle.cp_scope.specs.Terms.{variable_view}
 use Rattle.cp_names.proofs.occurrences.add_strands.Given as goal
 
 abbrev pub invariant-loop-strand : goal.invariant-loop-strand
-invariant-loop-strand l = map variable_view l.out.items ++ variables_of_strands (map strand_view (drop l.strand-index l.strands)) ≡ map variable_view l.fn.out.items ++ variables_of_strands (map strand_view l.strands)
+invariant-loop-strand l = l.out.items ++ variables_of_strands (map strand_view (drop l.strand-index l.strands)) ≡ l.fn.out.items ++ variables_of_strands (map strand_view l.strands)

@@ -1,8 +1,6 @@
-use Rattle.std.proofs.Common.{map}
 use Rattle.cp_skel.specs.View.{skeleton_view}
-use Rattle.cp_skel.specs.Events.{located_event_view}
 use Rattle.cp_normal.specs.MisplacedValues.{OriginatesMisplaced, NoneBefore}
 use Rattle.cp_normal.proofs.misplaced_values.some_is_misplaced.Given as goal
 
 abbrev pub invariant-loop-occurrence : goal.invariant-loop-occurrence
-invariant-loop-occurrence l = NoneBefore (OriginatesMisplaced (skeleton_view l.k)) (map located_event_view l.occurrences) l.occurrence-index
+invariant-loop-occurrence l = NoneBefore (OriginatesMisplaced (skeleton_view l.k)) l.occurrences l.occurrence-index

@@ -1,7 +1,6 @@
 use Rattle.std.proofs.Common.{ap, subst, sym, ◌∙◌}
 use Rattle.std.specs.Prelude.{IfSome, IfNone}
 use Rattle.cp_model.specs.declared.node.OrderPair.{OrderPair}
-use Rattle.cp_skel.specs.Events.{located_event_view}
 use Rattle.cp_normal.specs.Events.{IsPairBetween}
 use Rattle.cp_normal.proofs.ListLoops.{step, end, puts_one, puts_none}
 use Rattle.cp_normal.proofs.pairs.add_pairs_to.Goals as goal
@@ -9,7 +8,7 @@ use Rattle.cp_normal.proofs.pairs.add_pairs_to.Goals.{in-Some+in_ok-push, in_def
 
 pub loop-unique-preserved : goal.loop-unique-preserved
 loop-unique-preserved c =
-    let o = located_event_view c.args.occurrence.now in
+    let o = c.args.occurrence.now in
     elim c.match-pair_between.branch [
       | in-Some+in_ok-push w ↦
           step (λ u p. IsPairBetween o u p) c.args.uniques.now _ _ _ _ c.unique-item.result c.loop-unique-test.true c.unique-item.is
@@ -26,4 +25,4 @@ loop-unique-preserved c =
     ]
 
 pub returns : goal.returns
-returns c = end (λ u p. IsPairBetween (located_event_view c.args.occurrence.now) u p) c.args.uniques.now _ _ _ c.loop-unique-test.false c.loop-unique.invariant
+returns c = end (λ u p. IsPairBetween c.args.occurrence.now u p) c.args.uniques.now _ _ _ c.loop-unique-test.false c.loop-unique.invariant

@@ -11,5 +11,5 @@ returns c =
     let image = c.in_ok-image.ensures.plain ∙ ap (apply_to s) (c.term.ensures.term ∙ sym c.term-2.ensures.term) in
     let found = rw c.in-Some.is at c.in_ok-found.ensures.some in
     IfOk-weaker c.without.result _ _
-    (λ r kept. said_exactly c.args.pattern.now c.term.ensures.pattern s c.locals.result.now c.locals.ensures.numbers _ _ _ _ c.bindings.result.now c.term-2.ensures.term image c.new.ensures found c.bindings.ensures r kept)
+    (λ r kept. said_exactly c.args.pattern.now s c.locals.result.now c.locals.ensures.variables _ _ _ _ c.bindings.result.now c.term-2.ensures.term image c.new.ensures found c.bindings.ensures r kept)
     c.without.ensures

@@ -1,6 +1,5 @@
-use Rattle.std.proofs.Common.{refl, ap, subst}
+use Rattle.std.proofs.Common.{refl, subst}
 use Rattle.cp_model.proofs.CarriedParts.{not_both}
-use Rattle.cp_strand.specs.View.{event_view}
 use Rattle.cp_unify.specs.Bindings.{as_substitution}
 use Rattle.cp_model.specs.Identity.{unchanged}
 use Rattle.cp_pattern.specs.Outside.{IsFirstPositionOutside}
@@ -14,5 +13,5 @@ returns-in-Some c =
     subst (λ bs. IsFirstPositionOutside c.args.patterns.now (as_substitution bs) c.args.critical.now c.in-Send.message c.in-Some.field-0) c.new-nothing.ensures first in (
       λ e. absurd (not_both refl e),
       λ h. absurd (not_alone c.args.patterns.now unchanged c.args.critical.now c.in-Send.message c.in-Some.field-0 outside
-          (h c.in-Send.message c.if-not-occurrence.false (ap event_view c.in-Send.is) (c.comes_before.ensures.0 c.if-not-comes_before.false))),
+          (h c.in-Send.message c.if-not-occurrence.false c.in-Send.is (c.comes_before.ensures.0 c.if-not-comes_before.false))),
     )

@@ -1,5 +1,4 @@
-use Rattle.std.proofs.Common.{◌≡◌, List, map, refl, ap, ◌∙◌, subst}
-use Rattle.cp_skel.specs.Events.{located_event_view}
+use Rattle.std.proofs.Common.{◌≡◌, List, refl, ◌∙◌, subst}
 use Rattle.cp_pattern.specs.Sent.{IsGuardedAt}
 use Rattle.cp_pattern.proofs.Each.{each_next, each_last, not_each}
 use Rattle.cp_model.proofs.CarriedParts.{not_both}
@@ -22,19 +21,19 @@ pub returns-then-not-branch-2 : goal.returns-then-not-branch-2
 returns-then-not-branch-2 c =
     let k = skeleton_view c.args.k.now in (
       λ e. absurd (not_both refl e),
-      λ h. absurd (not_each (λ o. IsGuardedAt c.args.patterns.now k c.args.node c.args.critical.now (located_event_view o)) c.deref-occurrence-items.result.now c.loop-occurrence.occurrence-index c.occurrence-item.result c.loop-occurrence-test.true c.occurrence-item.is
+      λ h. absurd (not_each (λ o. IsGuardedAt c.args.patterns.now k c.args.node c.args.critical.now o) c.deref-occurrence-items.result.now c.loop-occurrence.occurrence-index c.occurrence-item.result c.loop-occurrence-test.true c.occurrence-item.is
           (λ g. not_both c.if-not-branch-2.true (c.in_ok-is_guarded_at.ensures.1 g))
-          (guarded_listed c.args.patterns.now k c.args.node c.args.critical.now c.deref-occurrence-items.result.now (ap (map located_event_view) c.deref-occurrence-items.ensures.value ∙ c.in_ok-occurrences.ensures.listed) h)),
+          (guarded_listed c.args.patterns.now k c.args.node c.args.critical.now c.deref-occurrence-items.result.now (c.deref-occurrence-items.ensures.value ∙ c.in_ok-occurrences.ensures.listed) h)),
     )
 
 pub loop-occurrence-preserved : goal.loop-occurrence-preserved
 loop-occurrence-preserved c =
-    each_next (λ o. IsGuardedAt c.args.patterns.now (skeleton_view c.args.k.now) c.args.node c.args.critical.now (located_event_view o)) c.deref-occurrence-items.result.now c.loop-occurrence.occurrence-index c.occurrence-item.result c.loop-occurrence-test.true c.occurrence-item.is
+    each_next (λ o. IsGuardedAt c.args.patterns.now (skeleton_view c.args.k.now) c.args.node c.args.critical.now o) c.deref-occurrence-items.result.now c.loop-occurrence.occurrence-index c.occurrence-item.result c.loop-occurrence-test.true c.occurrence-item.is
     c.loop-occurrence.invariant (c.in_ok-is_guarded_at.ensures.0 c.if-not-branch-2.false)
 
 pub returns : goal.returns
 returns c = (
-  λ _. guarded_by_each c.args.patterns.now (skeleton_view c.args.k.now) c.args.node c.args.critical.now c.deref-occurrence-items.result.now (ap (map located_event_view) c.deref-occurrence-items.ensures.value ∙ c.in_ok-occurrences.ensures.listed)
-      (each_last (λ o. IsGuardedAt c.args.patterns.now (skeleton_view c.args.k.now) c.args.node c.args.critical.now (located_event_view o)) c.deref-occurrence-items.result.now c.loop-occurrence.occurrence-index c.loop-occurrence-test.false c.loop-occurrence.invariant),
+  λ _. guarded_by_each c.args.patterns.now (skeleton_view c.args.k.now) c.args.node c.args.critical.now c.deref-occurrence-items.result.now (c.deref-occurrence-items.ensures.value ∙ c.in_ok-occurrences.ensures.listed)
+      (each_last (λ o. IsGuardedAt c.args.patterns.now (skeleton_view c.args.k.now) c.args.node c.args.critical.now o) c.deref-occurrence-items.result.now c.loop-occurrence.occurrence-index c.loop-occurrence-test.false c.loop-occurrence.invariant),
   λ _. refl,
 )

@@ -1,10 +1,8 @@
-use Rattle.std.proofs.Common.{◌++◌, map, ap, ◌∙◌}
+use Rattle.std.proofs.Common.{◌++◌, ap, ◌∙◌}
 use Rattle.cp_theory.specs.Normal.{variables_of_terms}
 use Rattle.cp_model.specs.Problem.{variables_of_atoms, variables_of_uniques}
 use Rattle.cp_model.specs.Strand.{variables_of_trace}
-use Rattle.cp_skel.specs.Events.{located_event_view}
 use Rattle.cp_skel.specs.View.{skeleton_view}
-use Rattle.cp_strand.specs.View.{event_view}
 use Rattle.cp_pattern.specs.Within.{variables_of_occurrences}
 use Rattle.cp_pattern.proofs.VariablesOfLists.{of_events, all_gathered}
 use Rattle.cp_pattern.proofs.used.used_in.Goals as goal
@@ -12,11 +10,11 @@ use Rattle.cp_pattern.proofs.used.used_in.Goals as goal
 pub returns : goal.returns
 returns c =
     let k = skeleton_view c.args.k.now in
-    all_gathered k (variables_of_trace (map event_view c.new-events.result.items)) (variables_of_trace (map event_view c.add_messages.new.events.items)) (variables_of_trace (map event_view c.add_atoms.new.events.items))
-    (variables_of_trace (map event_view c.add_atoms-2.new.events.items)) (variables_of_trace (map event_view c.add_uniques.new.events.items)) (variables_of_trace (map event_view c.add_terms.new.events.items))
-    (ap (λ es. variables_of_trace (map event_view es)) c.new-events.ensures.items)
-    (c.in_ok-add_messages.ensures ∙ ap (λ vs. variables_of_trace (map event_view c.new-events.result.items) ++ vs) (ap variables_of_occurrences (ap (map located_event_view) c.deref.ensures.value ∙ c.in_ok-occurrences.ensures.listed) ∙ of_events k))
-    (c.in_ok-add_atoms.ensures ∙ ap (λ vs. variables_of_trace (map event_view c.add_messages.new.events.items) ++ variables_of_atoms vs) (c.non_originating.ensures ∙ ap (λ a. a.non_originating) c.assumptions-assumptions.ensures))
-    (c.in_ok-add_atoms-2.ensures ∙ ap (λ vs. variables_of_trace (map event_view c.add_atoms.new.events.items) ++ variables_of_atoms vs) (c.penetrator_non_originating.ensures ∙ ap (λ a. a.penetrator_non_originating) c.assumptions-assumptions.ensures))
-    (c.in_ok-add_uniques.ensures ∙ ap (λ vs. variables_of_trace (map event_view c.add_atoms-2.new.events.items) ++ variables_of_uniques vs) (c.uniquely_originating.ensures ∙ ap (λ a. a.uniquely_originating) c.assumptions-assumptions.ensures))
-    (c.in_ok-add_terms.ensures ∙ ap (λ vs. variables_of_trace (map event_view c.add_uniques.new.events.items) ++ variables_of_terms vs) (c.values.ensures ∙ ap (λ p. p.values) c.from_problem.ensures))
+    all_gathered k (variables_of_trace c.new-events.result.items) (variables_of_trace c.add_messages.new.events.items) (variables_of_trace c.add_atoms.new.events.items)
+    (variables_of_trace c.add_atoms-2.new.events.items) (variables_of_trace c.add_uniques.new.events.items) (variables_of_trace c.add_terms.new.events.items)
+    (ap variables_of_trace c.new-events.ensures.items)
+    (c.in_ok-add_messages.ensures ∙ ap (λ vs. variables_of_trace c.new-events.result.items ++ vs) (ap variables_of_occurrences (c.deref.ensures.value ∙ c.in_ok-occurrences.ensures.listed) ∙ of_events k))
+    (c.in_ok-add_atoms.ensures ∙ ap (λ vs. variables_of_trace c.add_messages.new.events.items ++ variables_of_atoms vs) (c.non_originating.ensures ∙ ap (λ a. a.non_originating) c.assumptions-assumptions.ensures))
+    (c.in_ok-add_atoms-2.ensures ∙ ap (λ vs. variables_of_trace c.add_atoms.new.events.items ++ variables_of_atoms vs) (c.penetrator_non_originating.ensures ∙ ap (λ a. a.penetrator_non_originating) c.assumptions-assumptions.ensures))
+    (c.in_ok-add_uniques.ensures ∙ ap (λ vs. variables_of_trace c.add_atoms-2.new.events.items ++ variables_of_uniques vs) (c.uniquely_originating.ensures ∙ ap (λ a. a.uniquely_originating) c.assumptions-assumptions.ensures))
+    (c.in_ok-add_terms.ensures ∙ ap (λ vs. variables_of_trace c.add_uniques.new.events.items ++ variables_of_terms vs) (c.values.ensures ∙ ap (λ p. p.values) c.from_problem.ensures))

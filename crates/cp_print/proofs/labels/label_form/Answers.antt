@@ -1,10 +1,9 @@
 use Rattle.std.proofs.Common.{◌≡◌, [], ◌∷◌, ◌++◌, map, length, refl, ap, ap₂, ◌∙◌, Bool, List}
 use Rattle.std.proofs.lemmas.Result.{IfOk-weaker}
-use Rattle.cp_model.specs.Strand.{Declaration}
+use Rattle.cp_model.specs.declared.variable.Declaration.{Declaration}
 use Rattle.cp_language.specs.Report.{occurring, vars_from}
 use Rattle.cp_language.specs.Names.{label_names}
 use Rattle.cp_sexpr.specs.View.{view}
-use Rattle.cp_strand.specs.View.{declaration_view}
 use Rattle.cp_skel.specs.Trees.{label_view}
 use Rattle.cp_print.specs.MarkedForms.{vars_by}
 use Rattle.cp_print.proofs.ByFlags.{vars-by}
@@ -22,8 +21,8 @@ returns c =
     let names = label_names of_problem xs ds in
     let fs = map view c.in_ok-vars.vars.items in
     let vars : fs ≡ vars_from names xs 0 ds =
-    c.in_ok-vars.ensures ∙ ap (λ ns. vars_by ns c.deref-2.result.now 0 (map declaration_view c.deref-3.result.now)) (c.deref.ensures.value ∙ known.names)
-    ∙ ap₂ (λ (ms : List Bool) (es : List Declaration). vars_by names ms 0 es) c.deref-2.ensures.value (ap (map declaration_view) c.deref-3.ensures.value ∙ known.declared)
+    c.in_ok-vars.ensures ∙ ap (λ ns. vars_by ns c.deref-2.result.now 0 c.deref-3.result.now) (c.deref.ensures.value ∙ known.names)
+    ∙ ap₂ (λ (ms : List Bool) (es : List Declaration). vars_by names ms 0 es) c.deref-2.ensures.value (c.deref-3.ensures.value ∙ known.declared)
     ∙ vars-by xs (length ds) flags known.flags names ds refl in
     let first : map view c.push.new.self.items ≡ _ ∷ [] =
     ap (map view) (c.in_ok-push.ensures.items ∙ ap (λ gs. gs ++ c.in_ok-numeral.field-0 ∷ []) c.in_ok-items.ensures.items) ∙ ap (λ f. f ∷ []) c.in_ok-numeral.ensures in

@@ -10,4 +10,4 @@ use Rattle.cp_print.proofs.report.put_report.Given as goal
 abbrev pub invariant-loop-number : goal.invariant-loop-number
 invariant-loop-number l =
     Leaves l.fn.out.items l.fn.ends.items l.out.items l.ends.items (chosen_report_forms (chosen_by l.chosen) (input_entries l.input) (map tree_view l.trees))
-    (chosen_report_forms (chosen_by l.chosen) (entries_view (map view (drop l.number l.input.forms.now)) (drop l.number l.input.problems.items)) (map tree_view l.rest))
+    (chosen_report_forms (chosen_by l.chosen) (entries_view (map view (drop l.number l.input.forms.now)) (drop l.number l.input.entries.items)) (map tree_view l.rest))

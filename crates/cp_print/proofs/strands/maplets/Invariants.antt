@@ -1,12 +1,11 @@
 use Rattle.std.proofs.Common.{◌≡◌, ◌++◌, map, drop}
 use Rattle.cp_model.specs.Homomorphism.{substitution_by}
 use Rattle.cp_sexpr.specs.View.{view}
-use Rattle.cp_strand.specs.View.{declaration_view}
 use Rattle.cp_print.specs.MarkedForms.{maplets_by}
 use Rattle.cp_print.specs.Named.{named_in}
 use Rattle.cp_print.proofs.strands.maplets.Given as goal
 
 abbrev pub invariant-loop-number : goal.invariant-loop-number
 invariant-loop-number l =
-    map view l.forms.items ++ maplets_by (named_in l.naming) l.flags (substitution_by l.values) l.number (map declaration_view (drop l.number l.variables))
-    ≡ maplets_by (named_in l.naming) l.flags (substitution_by l.values) 0 (map declaration_view l.variables)
+    map view l.forms.items ++ maplets_by (named_in l.naming) l.flags (substitution_by l.values) l.number (drop l.number l.variables)
+    ≡ maplets_by (named_in l.naming) l.flags (substitution_by l.values) 0 l.variables

@@ -1,9 +1,8 @@
 use Rattle.std.proofs.Common.{◌≡◌, ◌++◌, map, drop}
 use Rattle.cp_sexpr.specs.View.{view}
-use Rattle.cp_strand.specs.View.{declaration_view}
 use Rattle.cp_print.specs.MarkedForms.{vars_by}
 use Rattle.cp_print.proofs.strands.vars.Given as goal
 
 abbrev pub invariant-loop-number : goal.invariant-loop-number
 invariant-loop-number l =
-    map view l.forms.items ++ vars_by l.names l.flags l.number (map declaration_view (drop l.number l.variables)) ≡ vars_by l.names l.flags 0 (map declaration_view l.variables)
+    map view l.forms.items ++ vars_by l.names l.flags l.number (drop l.number l.variables) ≡ vars_by l.names l.flags 0 l.variables

@@ -1,12 +1,11 @@
-use Rattle.std.proofs.Common.{◌≡◌, Some, map, sym, ap, ◌∙◌}
+use Rattle.std.proofs.Common.{◌≡◌, Some, [], map, ap, ◌∙◌}
 use Rattle.std.proofs.lemmas.List.{length-map}
 use Rattle.cp_sexpr.specs.View.{view}
-use Rattle.cp_language.specs.StatedInput.{protocols_in}
 use Rattle.cp_skel.specs.Trees.{tree_view}
 use Rattle.cp_report.specs.ReadBack.{sections_of}
 use Rattle.cp_readback.specs.Sections.{section_view}
 use Rattle.cp_readback.specs.Reports.{forms_in, all_unchecked_view}
-use Rattle.cp_readback.proofs.Reported.{read-refused, trees-fit, unchecked_problems-fit, report-read, trees-are, entries-are, as-many}
+use Rattle.cp_readback.proofs.Reported.{read-refused, problems-listed, trees-fit, unchecked_problems-fit, report-read, trees-are, entries-are, protocols-are, as-many}
 use Rattle.cp_readback.proofs.report.read_back.Goals as goal
 
 pub returns-in-Some-clause-refused : goal.returns-in-Some-clause-refused
@@ -15,33 +14,38 @@ returns-in-Some-clause-refused c = λ p e.
     read-refused c.args.forms.now c.in_ok-sections.field-0.misfit p c.in_ok-sections.ensures.misfit (c.in-Some.is ∙ ap Some same)
 
 pub trees_of-requires : goal.trees_of-requires
-trees_of-requires c = record {
-  trees = trees-fit c.args.forms.now c.in_ok-sections.field-0.misfit c.in_ok-sections.ensures.misfit c.in_default.is (all_unchecked_view c.deref-2.result.now) (map section_view c.deref.result.now)
-      (ap all_unchecked_view c.deref-2.ensures.value ∙ c.in_ok-sections.ensures.problems) (ap (map section_view) c.deref.ensures.value ∙ c.in_ok-sections.ensures.sections);
-}
+trees_of-requires c =
+    let ss = (sections_of (map view c.args.forms.now)).sections in
+    let listed = problems-listed [] c.in_ok-sections.field-0.unchecked_entries.items (forms_in ss) c.in_ok-sections.ensures.entries in
+    record {
+      trees = trees-fit c.args.forms.now c.in_ok-sections.field-0.misfit c.in_ok-sections.ensures.misfit c.in_default.is (all_unchecked_view c.deref-2.result.now) (map section_view c.deref.result.now)
+          (ap all_unchecked_view c.deref-2.ensures.value ∙ listed) (ap (map section_view) c.deref.ensures.value ∙ c.in_ok-sections.ensures.sections);
+    }
 
 pub all_finished-requires : goal.all_finished-requires
 all_finished-requires c =
-    unchecked_problems-fit c.args.forms.now c.in_ok-sections.field-0.misfit c.in_ok-sections.ensures.misfit c.in_default.is c.in_ok-sections.field-0.sections.items c.in_ok-sections.field-0.unchecked_problems.items
-    c.in_ok-sections.ensures.sections c.in_ok-sections.ensures.problems
+    unchecked_problems-fit c.args.forms.now c.in_ok-sections.field-0.misfit c.in_ok-sections.ensures.misfit c.in_default.is c.in_ok-sections.field-0.sections.items c.in_ok-sections.field-0.unchecked_entries.items
+    c.in_ok-sections.ensures.sections c.in_ok-sections.ensures.entries
 
 pub returns-clause-read : goal.returns-clause-read
 returns-clause-read c =
     let ss = (sections_of (map view c.args.forms.now)).sections in
+    let us = c.in_ok-sections.field-0.unchecked_entries.items in
     report-read c.args.forms.now c.in_ok-sections.field-0.misfit c.in_ok-sections.ensures.misfit c.in_default.is _ (map tree_view c.in_ok-trees.trees.items)
-    (entries-are (forms_in ss) (map (λ f. view f.now) c.in_ok-forms.forms.items) c.in_ok-sections.field-0.unchecked_problems.items c.in_ok-problems.problems.items
-    (c.in_ok-forms.ensures ∙ ap (λ ts. forms_in (map section_view ts)) c.deref-3.ensures.value ∙ ap forms_in c.in_ok-sections.ensures.sections) c.in_ok-sections.ensures.problems c.in_ok-problems.ensures)
+    (entries-are (forms_in ss) (map (λ f. view f.now) c.in_ok-forms.forms.items) us c.in_ok-entries.entries.items
+    (c.in_ok-forms.ensures ∙ ap (λ ts. forms_in (map section_view ts)) c.deref-3.ensures.value ∙ ap forms_in c.in_ok-sections.ensures.sections) c.in_ok-sections.ensures.entries c.in_ok-entries.ensures)
     (trees-are ss (all_unchecked_view c.deref-2.result.now) (map section_view c.deref.result.now) (map tree_view c.in_ok-trees.trees.items)
-    (ap all_unchecked_view c.deref-2.ensures.value ∙ c.in_ok-sections.ensures.problems) (ap (map section_view) c.deref.ensures.value ∙ c.in_ok-sections.ensures.sections) c.in_ok-trees.ensures)
+    (ap all_unchecked_view c.deref-2.ensures.value ∙ problems-listed [] us (forms_in ss) c.in_ok-sections.ensures.entries) (ap (map section_view) c.deref.ensures.value ∙ c.in_ok-sections.ensures.sections) c.in_ok-trees.ensures)
 
-pub returns-clause-problems : goal.returns-clause-problems
-returns-clause-problems c =
+pub returns-clause-entries : goal.returns-clause-entries
+returns-clause-entries c =
     let ss = (sections_of (map view c.args.forms.now)).sections in
-    as-many (forms_in ss) (map (λ f. view f.now) c.in_ok-forms.forms.items) c.in_ok-sections.field-0.unchecked_problems.items c.in_ok-problems.problems.items
-    (c.in_ok-forms.ensures ∙ ap (λ ts. forms_in (map section_view ts)) c.deref-3.ensures.value ∙ ap forms_in c.in_ok-sections.ensures.sections) c.in_ok-sections.ensures.problems c.in_ok-problems.ensures
+    as-many (forms_in ss) (map (λ f. view f.now) c.in_ok-forms.forms.items) c.in_ok-sections.field-0.unchecked_entries.items c.in_ok-entries.entries.items
+    (c.in_ok-forms.ensures ∙ ap (λ ts. forms_in (map section_view ts)) c.deref-3.ensures.value ∙ ap forms_in c.in_ok-sections.ensures.sections) c.in_ok-sections.ensures.entries c.in_ok-entries.ensures
     ∙ length-map c.in_ok-forms.forms.items (λ f. view f.now)
 
 pub returns-clause-protocols : goal.returns-clause-protocols
 returns-clause-protocols c =
-    c.in_ok-sections.ensures.protocols
-    ∙ ap protocols_in (sym (c.in_ok-forms.ensures ∙ ap (λ ts. forms_in (map section_view ts)) c.deref-3.ensures.value ∙ ap forms_in c.in_ok-sections.ensures.sections))
+    let ss = (sections_of (map view c.args.forms.now)).sections in
+    protocols-are (forms_in ss) (map (λ f. view f.now) c.in_ok-forms.forms.items) c.in_ok-sections.field-0.unchecked_entries.items c.in_ok-entries.entries.items
+    (c.in_ok-forms.ensures ∙ ap (λ ts. forms_in (map section_view ts)) c.deref-3.ensures.value ∙ ap forms_in c.in_ok-sections.ensures.sections) c.in_ok-sections.ensures.entries c.in_ok-entries.ensures

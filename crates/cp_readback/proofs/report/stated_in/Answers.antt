@@ -1,15 +1,16 @@
-use Rattle.std.proofs.Common.{Bor, List, [], map, ap, ◌∙◌}
+use Rattle.std.proofs.Common.{Bor, List, [], map, sym, ap, ◌∙◌}
 use Rattle.std.specs.Prelude.{option_map}
-use Rattle.std.proofs.lemmas.List.{map-append}
+use Rattle.cp_sexpr.specs.View.{view}
+use Rattle.cp_language.specs.Input.{stated}
 use Rattle.cp_roles.specs.Above.{protocols_view, turned}
 use Rattle.cp_load.specs.UncheckedProblems.{unchecked_view}
 use Rattle.cp_load.specs.declared.unchecked_problems.UncheckedProblem.{UncheckedProblem}
 use Rattle.cp_report.specs.ReadBack.{next_place}
 use Rattle.cp_readback.specs.Sections.{section_view}
 use Rattle.cp_readback.specs.declared.sections.Section.{Section}
-use Rattle.cp_readback.specs.Reports.{all_unchecked_view}
+use Rattle.cp_load.proofs.Entries.{unchecked_viewed}
 use Rattle.cp_readback.proofs.InTree.{through}
-use Rattle.cp_readback.proofs.InSections.{faults-taken, misfits-taken, problems-taken, protocols-taken, faults-done, misfits-done, problems-done, protocols-done}
+use Rattle.cp_readback.proofs.InSections.{faults-taken, misfits-taken, entries-taken, faults-done, misfits-done, entries-done}
 use Rattle.cp_readback.proofs.report.stated_in.Goals as goal
 
 pub loop-place-preserved : goal.loop-place-preserved
@@ -19,16 +20,15 @@ loop-place-preserved c =
     let s = c.index-sections-place.result in
     let ps = protocols_view c.loop-place.protocols.items in
     let qs = protocols_view c.top_form.new.above.items in
-    let problem = c.in_ok-unchecked.ensures.problem in
-    let asked = through (λ (d : Bor UncheckedProblem). d.now) unchecked_view c.as_ref.result ∙ ap (option_map unchecked_view) c.as_ref.ensures.value ∙ problem in
+    let u = c.in_ok-unchecked.unchecked in
+    let entry = c.in_ok-unchecked.ensures.entry in
+    let asked = through (λ (d : Bor UncheckedProblem). d.now) unchecked_view c.problem.result ∙ ap (option_map unchecked_view) c.problem.ensures ∙ sym (unchecked_viewed u (view s.form.now)) ∙ ap stated entry in
     let follows = c.next_place-next.ensures ∙ ap (λ (ts : List Section). next_place c.args.start (map section_view ts)) c.split_at.ensures.back in (
       faults-taken ss k s c.loop-place-test.true c.index-sections-place.is ps qs c.in_ok-unchecked.ensures.protocols c.loop-place.faults c.top_form.new.first _ c.in_ok-unchecked.ensures.faults c.loop-place.invariant.0,
-      misfits-taken ss k s c.loop-place-test.true c.index-sections-place.is ps qs c.in_ok-unchecked.ensures.protocols c.args.start (option_map (λ (d : Bor UncheckedProblem). unchecked_view d.now) c.as_ref.result) c.next_place-next.result
+      misfits-taken ss k s c.loop-place-test.true c.index-sections-place.is ps qs c.in_ok-unchecked.ensures.protocols c.args.start (option_map (λ (d : Bor UncheckedProblem). unchecked_view d.now) c.problem.result) c.next_place-next.result
           c.loop-place.first c.behind_misfits.new.first _ asked follows c.in_ok-behind_misfits.ensures c.loop-place.invariant.1,
-      problems-taken ss k s c.loop-place-test.true c.index-sections-place.is ps qs c.in_ok-unchecked.ensures.protocols (all_unchecked_view c.loop-place.unchecked_problems.items) (all_unchecked_view c.push.new.self.items) _
-          (option_map unchecked_view c.in_ok-unchecked.unchecked) problem (ap all_unchecked_view c.in_ok-push.ensures.items ∙ map-append (option_map unchecked_view) c.loop-place.unchecked_problems.items _) c.loop-place.invariant.2,
+      entries-taken ss k s c.loop-place-test.true c.index-sections-place.is ps qs c.in_ok-unchecked.ensures.protocols c.loop-place.unchecked_entries.items c.push.new.self.items u _ entry c.in_ok-push.ensures.items c.loop-place.invariant.2,
       c.in_ok-unchecked.ensures.names,
-      protocols-taken ss k s c.loop-place-test.true c.index-sections-place.is ps qs c.in_ok-unchecked.ensures.protocols _ c.loop-place.invariant.4,
     )
 
 pub returns-clause-faults : goal.returns-clause-faults
@@ -37,11 +37,8 @@ returns-clause-faults c = faults-done c.args.sections.now c.loop-place.place c.l
 pub returns-clause-misfits : goal.returns-clause-misfits
 returns-clause-misfits c = misfits-done c.args.sections.now c.loop-place.place c.loop-place-test.false c.args.start (turned (protocols_view c.loop-place.protocols.items) []) c.loop-place.first _ c.loop-place.invariant.1
 
-pub returns-clause-problems : goal.returns-clause-problems
-returns-clause-problems c = problems-done c.args.sections.now c.loop-place.place c.loop-place-test.false (turned (protocols_view c.loop-place.protocols.items) []) (all_unchecked_view c.loop-place.unchecked_problems.items) c.loop-place.invariant.2
-
-pub returns-clause-protocols : goal.returns-clause-protocols
-returns-clause-protocols c = protocols-done c.args.sections.now c.loop-place.place c.loop-place-test.false (protocols_view c.loop-place.protocols.items) _ c.loop-place.invariant.4
+pub returns-clause-entries : goal.returns-clause-entries
+returns-clause-entries c = entries-done c.args.sections.now c.loop-place.place c.loop-place-test.false (turned (protocols_view c.loop-place.protocols.items) []) c.loop-place.unchecked_entries.items _ c.loop-place.invariant.2
 
 pub top_form-requires : goal.top_form-requires
 top_form-requires c = c.loop-place.invariant.3

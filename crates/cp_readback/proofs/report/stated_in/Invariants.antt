@@ -1,19 +1,17 @@
 use Rattle.std.proofs.Common.{◌≡◌, ◌++◌, [], map, drop}
 use Rattle.cp_language.specs.Input.{faults_from}
-use Rattle.cp_language.specs.StatedInput.{protocols_in}
 use Rattle.cp_roles.specs.Above.{protocols_view, names_of_protocols, turned}
 use Rattle.cp_scope.specs.FirstFault as faults
+use Rattle.cp_load.specs.UncheckedProblems.{unchecked_entry_view, stated_from}
 use Rattle.cp_report.specs.ReadBack.{trees_misfits}
 use Rattle.cp_spelled.specs.FirstMisfit.{first_onto}
 use Rattle.cp_readback.specs.Sections.{section_view}
-use Rattle.cp_readback.specs.Reports.{forms_in, all_unchecked_view}
-use Rattle.cp_readback.proofs.InSections.{problems_from}
+use Rattle.cp_readback.specs.Reports.{forms_in}
 use Rattle.cp_readback.proofs.report.stated_in.Given as goal
 
 abbrev pub invariant-loop-place : goal.invariant-loop-place
 invariant-loop-place l =
     (faults.first_onto l.faults (faults_from (turned (protocols_view l.protocols.items) []) (forms_in (map section_view (drop l.place l.sections)))) ≡ faults.first_onto l.initial.faults (faults_from [] (forms_in (map section_view l.sections))))
     × (first_onto l.first (trees_misfits l.start (turned (protocols_view l.protocols.items) []) (map section_view (drop l.place l.sections))) ≡ first_onto l.initial.first (trees_misfits l.start [] (map section_view l.sections)))
-    × (all_unchecked_view l.unchecked_problems.items ++ problems_from (turned (protocols_view l.protocols.items) []) (map section_view (drop l.place l.sections)) ≡ problems_from [] (map section_view l.sections))
+    × (map unchecked_entry_view l.unchecked_entries.items ++ stated_from (turned (protocols_view l.protocols.items) []) (forms_in (map section_view (drop l.place l.sections))) ≡ stated_from [] (forms_in (map section_view l.sections)))
     × (l.names ≡ names_of_protocols (protocols_view l.protocols.items))
-    × (protocols_view l.protocols.items ++ protocols_in (forms_in (map section_view (drop l.place l.sections))) ≡ protocols_in (forms_in (map section_view l.sections)))

@@ -18,14 +18,14 @@ tree_of-requires c = record {
 
 pub loop-place-preserved-in_default : goal.loop-place-preserved-in_default
 loop-place-preserved-in_default c =
-    tree-passed c.args.sections.now c.loop-place.place c.index-sections-place.result c.loop-place-test.true c.index-sections-place.is (all_unchecked_view c.args.unchecked_problems.now) (map tree_view c.loop-place.trees.items) _
+    tree-passed c.args.sections.now c.loop-place.place c.index-sections-place.result c.loop-place-test.true c.index-sections-place.is (all_unchecked_view c.args.unchecked_entries.now) (map tree_view c.loop-place.trees.items) _
     (sym (ap (option_map (λ (d : Bor UncheckedProblem). unchecked_view d.now)) c.in_default.is) ∙ c.unchecked_at.ensures) c.loop-place.invariant
 
 pub loop-place-preserved : goal.loop-place-preserved
 loop-place-preserved c =
-    tree-taken c.args.sections.now c.loop-place.place c.index-sections-place.result c.loop-place-test.true c.index-sections-place.is (all_unchecked_view c.args.unchecked_problems.now) (map tree_view c.loop-place.trees.items)
+    tree-taken c.args.sections.now c.loop-place.place c.index-sections-place.result c.loop-place-test.true c.index-sections-place.is (all_unchecked_view c.args.unchecked_entries.now) (map tree_view c.loop-place.trees.items)
     (map tree_view c.push.new.self.items) _ (unchecked_view c.in-Some.problem.now) (tree_view c.in_ok-tree.tree) c.in-Some.ensures c.in_ok-tree.ensures
     (ap (map tree_view) c.in_ok-push.ensures.items ∙ map-append tree_view c.loop-place.trees.items _) c.loop-place.invariant
 
 pub returns : goal.returns
-returns c = trees-done c.args.sections.now c.loop-place.place c.loop-place-test.false (all_unchecked_view c.args.unchecked_problems.now) (map tree_view c.loop-place.trees.items) _ c.loop-place.invariant
+returns c = trees-done c.args.sections.now c.loop-place.place c.loop-place-test.false (all_unchecked_view c.args.unchecked_entries.now) (map tree_view c.loop-place.trees.items) _ c.loop-place.invariant

@@ -6,4 +6,4 @@ use Rattle.cp_readback.proofs.report.trees_of.Given as goal
 
 abbrev pub invariant-loop-place : goal.invariant-loop-place
 invariant-loop-place l =
-    map tree_view l.trees.items ++ trees_by (drop l.place (all_unchecked_view l.unchecked_problems)) (map section_view (drop l.place l.sections)) ≡ trees_by (all_unchecked_view l.unchecked_problems) (map section_view l.sections)
+    map tree_view l.trees.items ++ trees_by (drop l.place (all_unchecked_view l.unchecked_entries)) (map section_view (drop l.place l.sections)) ≡ trees_by (all_unchecked_view l.unchecked_entries) (map section_view l.sections)

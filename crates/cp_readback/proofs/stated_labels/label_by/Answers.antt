@@ -1,8 +1,7 @@
 use Rattle.std.proofs.Common.{[], ◌∷◌, map, ap, ◌∙◌}
-use Rattle.std.specs.Prelude.{codes, option_map}
+use Rattle.std.specs.Prelude.{codes}
 use Rattle.cp_sexpr.specs.View.{view}
 use Rattle.cp_model.specs.Data.{SkeletonData}
-use Rattle.cp_skel.specs.Trees.{variables_view, operation_view, test_view}
 use Rattle.cp_skel.specs.View.{skeleton_view}
 use Rattle.cp_load.specs.UncheckedProblems.{unchecked_view}
 use Rattle.cp_report.specs.Heads.{item_with, entries_under}
@@ -18,11 +17,11 @@ returns c =
     let how = c.in_ok-expansion.ensures in
     label-is (unchecked_view c.args.problem.now) its its _ (λ i. its)
     with.parent
-    (ap operation_view with.operation ∙ c.in_ok-operation.ensures)
-    (ap (λ (k : SkeletonData). variables_view k.variables) with.skeleton ∙ c.in_ok-skeleton.ensures.variables)
+    (with.operation ∙ c.in_ok-operation.ensures)
+    (ap (λ (k : SkeletonData). k.variables) with.skeleton ∙ c.in_ok-skeleton.ensures.variables)
     (ap skeleton_view with.skeleton ∙ c.in_ok-skeleton.ensures.skeleton)
-    (ap (λ v. v.items) with.unrealised ∙ how.unrealised)
-    (ap (option_map test_view) with.test ∙ how.test ∙ ap (λ (s : Scope). test_of s (item_with (codes "test" ∷ []) its)) c.requires.scope)
-    (ap (λ v. v.items) with.patterns ∙ how.patterns ∙ ap (λ (s : Scope). map (pattern_of s.variables) (entries_under (codes "escape") its)) c.requires.scope)
-    (ap (λ v. v.items) with.children ∙ how.children)
+    (with.unrealised ∙ how.unrealised)
+    (with.test ∙ how.test ∙ ap (λ (s : Scope). test_of s (item_with (codes "test" ∷ []) its)) c.requires.scope)
+    (with.patterns ∙ how.patterns ∙ ap (λ (s : Scope). map (pattern_of s.variables) (entries_under (codes "escape") its)) c.requires.scope)
+    (with.children ∙ how.children)
     with.mark

@@ -1,6 +1,5 @@
 use Rattle.std.proofs.Common.{map, sym, ap, ◌∙◌, subst}
 use Rattle.std.proofs.lemmas.Result.{IfOk-weaker}
-use Rattle.cp_strand.specs.View.{declaration_view}
 use Rattle.cp_sexpr.specs.View.{view}
 use Rattle.cp_load.specs.UncheckedProblems.{unchecked_view}
 use Rattle.cp_report.specs.Labels.{label_by}
@@ -10,7 +9,7 @@ use Rattle.cp_readback.proofs.stated_labels.label_of.Goals as goal
 
 pub label_by-requires-clause-scope : goal.label_by-requires-clause-scope
 label_by-requires-clause-scope c =
-    scope-is (map view c.items_of_label-items.result.now) (map declaration_view c.in_ok-variables.variables) c.new-locals.result c.in_ok-variables.ensures c.new-locals.ensures
+    scope-is (map view c.items_of_label-items.result.now) c.in_ok-variables.variables c.new-locals.result c.in_ok-variables.ensures c.new-locals.ensures
 
 pub label_by-requires-clause-fits : goal.label_by-requires-clause-fits
 label_by-requires-clause-fits c = subst (HasFitting (unchecked_view c.args.problem.now)) (sym c.items_of_label-items.ensures) c.requires.fits

@@ -2,7 +2,8 @@ use Rattle.std.proofs.Common.{List, map, drop, ap, ◌∙◌}
 use Rattle.std.proofs.lemmas.Result.{IfOk-weaker}
 use Rattle.cp_sexpr.specs.Syntax.{Form}
 use Rattle.cp_sexpr.specs.View.{view}
-use Rattle.cp_report.specs.Labels.{OperationWord, word_of_label, operation_by}
+use Rattle.cp_report.specs.declared.operations.OperationWord.{OperationWord}
+use Rattle.cp_report.specs.Labels.{word_of_label, operation_by}
 use Rattle.cp_readback.proofs.stated_labels.operation_stated.Goals as goal
 
 pub returns : goal.returns

@@ -1,9 +1,8 @@
 use Rattle.std.proofs.Common.{Bool, List, [], ◌∷◌, map, ap, ◌∙◌}
 use Rattle.std.specs.Prelude.{codes}
-use Rattle.cp_model.specs.Strand.{Declaration}
+use Rattle.cp_model.specs.declared.variable.Declaration.{Declaration}
 use Rattle.cp_sexpr.specs.View.{view}
 use Rattle.cp_language.specs.Problems.{is_known}
-use Rattle.cp_strand.specs.View.{declaration_view}
 use Rattle.cp_report.specs.Heads.{item_with}
 use Rattle.cp_report.specs.Labels.{escape_misfits}
 use Rattle.cp_spelled.specs.FirstMisfit.{first_onto}
@@ -22,5 +21,5 @@ returns c =
     let fs = map view c.items_behind.result.now in
     when_ok c.escape_misfits.result
     (λ h. item-asked (escape_misfits its) (view c.in-Some.item.now) (item_with (codes "escape" ∷ []) its) at fs c.args.first.now c.escape_misfits.new.first c.in-Some.ensures c.place_of.ensures c.items_behind.ensures
-    (h ∙ ap (λ (b : Bool). first_onto c.args.first.now (escape_item_misfits b (map declaration_view c.args.variables.now) at fs)) c.has_item-has_test.ensures
+    (h ∙ ap (λ (b : Bool). first_onto c.args.first.now (escape_item_misfits b c.args.variables.now at fs)) c.has_item-has_test.ensures
     ∙ ap (λ (ds : List Declaration). first_onto c.args.first.now (escape_item_misfits (is_known (item_with (codes "test" ∷ []) its)) ds at fs)) c.requires)) c.escape_misfits.ensures

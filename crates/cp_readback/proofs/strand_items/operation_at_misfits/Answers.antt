@@ -2,7 +2,8 @@ use Rattle.std.proofs.Common.{List, map, drop, ap, ◌∙◌}
 use Rattle.cp_sexpr.specs.Syntax.{Form}
 use Rattle.cp_strand.specs.View.{strand_view}
 use Rattle.cp_sexpr.specs.View.{view}
-use Rattle.cp_report.specs.Labels.{OperationWord, word_of_label, operation_place_misfits}
+use Rattle.cp_report.specs.declared.operations.OperationWord.{OperationWord}
+use Rattle.cp_report.specs.Labels.{word_of_label, operation_place_misfits}
 use Rattle.cp_spelled.specs.FirstMisfit.{first_onto}
 use Rattle.cp_readback.proofs.strand_items.operation_at_misfits.Goals as goal
 

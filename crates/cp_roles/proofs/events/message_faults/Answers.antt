@@ -1,9 +1,8 @@
-use Rattle.std.proofs.Common.{map, ap, ◌∙◌}
+use Rattle.std.proofs.Common.{ap, ◌∙◌}
 use Rattle.cp_base.specs.declared.place.Code.TheVariants.{BadShape}
 use Rattle.cp_sexpr.specs.View.{view}
 use Rattle.cp_language.specs.Faults.{fault, place_of}
 use Rattle.cp_language.specs.Terms.{term_faults}
-use Rattle.cp_strand.specs.View.{declaration_view}
 use Rattle.cp_scope.specs.FirstFault.{first_onto}
 use Rattle.cp_scope.proofs.Firsts.{first_then_three}
 use Rattle.cp_roles.proofs.EventFaults.{three_messages}
@@ -11,7 +10,7 @@ use Rattle.cp_roles.proofs.events.message_faults.Goals as goal
 
 pub returns-in-len3-up : goal.returns-in-len3-up
 returns-in-len3-up c =
-    let ds = map declaration_view c.args.variables.now in
+    let ds = c.args.variables.now in
     let o = c.args.first.now in
     let p = c.term_faults-in-len3-up.new.first in
     let q = c.term_faults-in-len3-up-2.new.first in

@@ -1,10 +1,8 @@
-use Rattle.std.proofs.Common.{map}
 use Rattle.cp_language.specs.Roles.{item_faults, role_item_faults}
-use Rattle.cp_strand.specs.View.{declaration_view, event_view}
 use Rattle.cp_scope.proofs.Items.{each-taken}
 use Rattle.cp_roles.proofs.roles.role_items_faults.Goals as goal
 
 pub loop-item-preserved : goal.loop-item-preserved
 loop-item-preserved c =
-    each-taken (item_faults (role_item_faults (map declaration_view c.args.scope.variables.now) (map event_view c.args.scope.trace.now))) c.args.items.now c.loop-item.item-index c.item-item.result c.loop-item-test.true c.item-item.is
+    each-taken (item_faults (role_item_faults c.args.scope.variables.now c.args.scope.trace.now)) c.args.items.now c.loop-item.item-index c.item-item.result c.loop-item-test.true c.item-item.is
     c.loop-item.first c.role_item_faults.new.first _ c.in_ok-role_item_faults.ensures c.loop-item.invariant

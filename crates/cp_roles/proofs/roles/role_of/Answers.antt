@@ -1,6 +1,5 @@
-use Rattle.std.proofs.Common.{map, ap, ◌∙◌}
+use Rattle.std.proofs.Common.{ap, ◌∙◌}
 use Rattle.std.proofs.lemmas.Result.{IfOk-weaker}
-use Rattle.cp_strand.specs.View.{declaration_view, event_view}
 use Rattle.cp_sexpr.specs.View.{view}
 use Rattle.cp_language.specs.Roles.{events_stated}
 use Rattle.cp_scope.specs.FirstFault.{first_onto}
@@ -16,14 +15,14 @@ returns-in_default-clause-faults c =
 
 pub new-requires : goal.new-requires
 new-requires c =
-    events_read (map declaration_view c.in_ok-variables.variables.items) (map event_view c.in_ok-trace.trace.items) (view c.trace-item.result)
-    (c.in_ok-trace.ensures ∙ ap (λ ds. events_stated (map declaration_view ds) (view c.trace-item.result)) c.deref-2.ensures.value)
+    events_read c.in_ok-variables.variables.items c.in_ok-trace.trace.items (view c.trace-item.result)
+    (c.in_ok-trace.ensures ∙ ap (λ ds. events_stated ds (view c.trace-item.result)) c.deref-2.ensures.value)
 
 pub returns-clause-faults : goal.returns-clause-faults
 returns-clause-faults c =
     role-read (role_names c.args.before.now) c.args.place c.args.items.now c.name-item.result c.variables-item.result c.trace-item.result c.in-len3-up.len_at_least c.name-item.is c.variables-item.is c.trace-item.is
-    (map declaration_view c.deref.result.now) (map declaration_view c.deref-2.result.now) (map declaration_view c.deref-3.result.now) (map event_view c.deref-4.result.now)
+    c.deref.result.now c.deref-2.result.now c.deref-3.result.now c.deref-4.result.now
     c.args.first.now c.role_name_faults.new.first c.variables_of.new.first c.trace_faults.new.first c.role_items_faults.new.first
-    (ap (map declaration_view) c.deref.ensures.value ∙ c.in_ok-variables.ensures.declared) (ap (map declaration_view) c.deref-2.ensures.value ∙ c.in_ok-variables.ensures.declared)
-    (ap (map event_view) c.deref-4.ensures.value ∙ c.in_ok-trace.ensures) (ap (map declaration_view) c.deref-3.ensures.value ∙ c.in_ok-variables.ensures.declared)
+    (c.deref.ensures.value ∙ c.in_ok-variables.ensures.declared) (c.deref-2.ensures.value ∙ c.in_ok-variables.ensures.declared)
+    (c.deref-4.ensures.value ∙ c.in_ok-trace.ensures) (c.deref-3.ensures.value ∙ c.in_ok-variables.ensures.declared)
     c.role_name_faults.ensures c.in_ok-variables.ensures.faults c.trace_faults.ensures c.in_ok-role_items_faults.ensures

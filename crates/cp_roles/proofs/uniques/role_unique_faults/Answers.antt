@@ -1,11 +1,10 @@
-use Rattle.std.proofs.Common.{◌≡◌, map, ap, ◌∙◌}
+use Rattle.std.proofs.Common.{◌≡◌, ap, ◌∙◌}
 use Rattle.cp_base.specs.declared.place.Code.TheVariants.{RoleUniqNoOrigin}
 use Rattle.cp_sexpr.specs.View.{view}
 use Rattle.cp_language.specs.Faults.{fault_unless, place_of}
 use Rattle.cp_model.specs.Same.{origin_in}
 use Rattle.cp_language.specs.Terms.{atom_faults, term_of}
 use Rattle.cp_language.specs.Roles.{is_somewhere}
-use Rattle.cp_strand.specs.View.{declaration_view, event_view}
 use Rattle.cp_scope.specs.FirstFault.{first_onto, onto_none}
 use Rattle.cp_roles.proofs.ExactOrigins.{somewhere}
 use Rattle.cp_scope.proofs.Firsts.{merged-unless}
@@ -13,10 +12,10 @@ use Rattle.cp_roles.proofs.uniques.role_unique_faults.Goals as goal
 
 pub returns : goal.returns
 returns c =
-    let ds = map declaration_view c.args.scope.variables.now in
+    let ds = c.args.scope.variables.now in
     let f = view c.args.form.now in
     let i = c.atom_faults.new.first in
-    let trace = map event_view c.args.scope.trace.now in
+    let trace = c.args.scope.trace.now in
     let holds : c.is_some.result ≡ is_somewhere (origin_in trace (term_of ds f)) = c.is_some.ensures ∙ somewhere c.origin.result ∙ ap is_somewhere (c.origin.ensures ∙ ap (origin_in trace) c.in_ok-value.ensures) in
     merged-unless c.args.first.now i c.note_unless_faulty.new.self c.merge.new.self (atom_faults ds f) (fault_unless (is_somewhere (origin_in trace (term_of ds f))) (place_of f) RoleUniqNoOrigin)
     (c.atom_faults.ensures ∙ ap (λ o. first_onto o (atom_faults ds f)) c.new-inside.ensures)

@@ -3,7 +3,6 @@ use Rattle.cp_sexpr.specs.View.{view}
 use Rattle.cp_language.specs.Words.{term_head}
 use Rattle.cp_language.specs.Roles.{each_faults}
 use Rattle.cp_language.specs.Terms.{term_faults}
-use Rattle.cp_strand.specs.View.{declaration_view}
 use Rattle.cp_scope.specs.FirstFault.{first_onto}
 use Rattle.cp_scope.specs.Forms.{headed_view}
 use Rattle.cp_scope.specs.OwnFaults.{own_faults}
@@ -22,12 +21,12 @@ term_faults-requires t c =
 
 pub loop-item-preserved : goal.loop-item-preserved
 loop-item-preserved t c =
-    each-taken (term_faults (map declaration_view c.args.variables.now)) c.own_faults-item-items.result.now c.loop-item.item-index c.item-item.result c.loop-item-test.true c.item-item.is
+    each-taken (term_faults c.args.variables.now) c.own_faults-item-items.result.now c.loop-item.item-index c.item-item.result c.loop-item-test.true c.item-item.is
     c.loop-item.first c.term_faults.new.first _ c.term_faults.ensures c.loop-item.invariant
 
 pub returns : goal.returns
 returns t c =
-    let ds = map declaration_view c.args.variables.now in
+    let ds = c.args.variables.now in
     let h = headed_view c.in-Some.list in
     each-done (term_faults ds) c.own_faults-item-items.result.now c.loop-item.item-index c.loop-item-test.false c.loop-item.first _ c.loop-item.invariant
     ∙ ap (λ o. first_onto o (each_faults (term_faults ds) (map view c.own_faults-item-items.result.now))) c.own_faults-item-items.ensures.faults

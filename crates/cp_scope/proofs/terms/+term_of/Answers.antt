@@ -2,7 +2,6 @@ use Rattle.std.proofs.Common.{map, refl, sym, ap, ◌∙◌, arith}
 use Rattle.std.proofs.lemmas.Result.{IfOk-weaker}
 use Rattle.cp_sexpr.specs.View.{view}
 use Rattle.cp_language.specs.Terms.{applied}
-use Rattle.cp_strand.specs.View.{declaration_view}
 use Rattle.cp_scope.specs.Forms.{headed_view}
 use Rattle.cp_scope.proofs.Sizes.{inside_smaller}
 use Rattle.cp_scope.proofs.Meanings.{term-applied, terms-done}
@@ -14,7 +13,7 @@ term_of-requires t c =
 
 pub returns : goal.returns
 returns t c =
-    let ds = map declaration_view c.args.variables.now in
+    let ds = c.args.variables.now in
     let items = c.in-Some.list.items.now in
     let terms = terms-done ds items c.loop-item.item-index c.loop-item-test.false c.loop-item.terms.items _ c.loop-item.invariant in
     IfOk-weaker c.applied.result _ _

@@ -11,19 +11,19 @@ pub returns-in-Some : goal.returns-in-Some
 returns-in-Some c = seen_leaf c.if-label.false c.in-Some.is
 
 pub returns-then-is_empty : goal.returns-then-is_empty
-returns-then-is_empty c = open_leaf c.if-label.false (none_found _ c.in_default.not-Some) (none_counted c.args.label.now.unrealised.items _ c.args.label.now.unrealised.ok.0 (sym c.is_empty.ensures ∙ c.if-is_empty.true))
+returns-then-is_empty c = open_leaf c.if-label.false (none_found _ c.in_default.not-Some) (none_counted c.args.label.now.unrealised _ (ap length c.as_slice.ensures) (sym c.is_empty.ensures ∙ c.if-is_empty.true))
 
 pub returns-then-strands-limits : goal.returns-then-strands-limits
 returns-then-strands-limits c =
     let more = c.if-strands-limits.true in
     let same = ap length c.strands.ensures in
-    above_bound c.if-label.false (none_found _ c.in_default.not-Some) (some_counted c.args.label.now.unrealised.items _ c.args.label.now.unrealised.ok.0 (sym c.is_empty.ensures ∙ c.if-is_empty.false)) (omega (arith, more, same))
+    above_bound c.if-label.false (none_found _ c.in_default.not-Some) (some_counted c.args.label.now.unrealised _ (ap length c.as_slice.ensures) (sym c.is_empty.ensures ∙ c.if-is_empty.false)) (omega (arith, more, same))
 
 pub returns-then-expanded-limits : goal.returns-then-expanded-limits
 returns-then-expanded-limits c =
     let no_more = c.if-strands-limits.false in
     let same = ap length c.strands.ensures in
-    at_limit c.if-label.false (none_found _ c.in_default.not-Some) (some_counted c.args.label.now.unrealised.items _ c.args.label.now.unrealised.ok.0 (sym c.is_empty.ensures ∙ c.if-is_empty.false)) (omega (arith, no_more, same)) c.if-expanded-limits.true
+    at_limit c.if-label.false (none_found _ c.in_default.not-Some) (some_counted c.args.label.now.unrealised _ (ap length c.as_slice.ensures) (sym c.is_empty.ensures ∙ c.if-is_empty.false)) (omega (arith, no_more, same)) c.if-expanded-limits.true
 
 pub returns : goal.returns
 returns c =
@@ -33,7 +33,7 @@ returns c =
     no_leaf (record {
       lives = c.if-label.false;
       new = none_found _ c.in_default.not-Some;
-      unrealised = some_counted c.args.label.now.unrealised.items _ c.args.label.now.unrealised.ok.0 (sym c.is_empty.ensures ∙ c.if-is_empty.false);
+      unrealised = some_counted c.args.label.now.unrealised _ (ap length c.as_slice.ensures) (sym c.is_empty.ensures ∙ c.if-is_empty.false);
       strands = omega (arith, no_more, same);
       steps = omega (arith, fewer);
     })

@@ -1,5 +1,4 @@
 use Rattle.std.proofs.Common.{◌<◌, length, ◌∙◌, arith}
-use Rattle.cp_skel.specs.Trees.{limits_view}
 use Rattle.cp_search.proofs.ResolvedLeaves.{expands_now, next_label}
 use Rattle.cp_search.proofs.ResolvedAs.{resolved_pushed}
 use Rattle.cp_search.proofs.WaitingLabels.{OneResolved, one_resolved}
@@ -26,7 +25,7 @@ returns-in_default-clause-next c = λ _.
     record {
       label = c.label.result.now;
       at = next_label c.loop-alloc.search.made c.loop-alloc.search.settled.items c.len-next.result c.label.result.now c.label.ensures (c.len-next.ensures ∙ c.loop-alloc.search.settled.ok.0);
-      expands = expands_now (limits_view c.args.limits) c.label.result.now c.loop-alloc.search.expanded c.leaf_of.result c.leaf_of.ensures c.in_default.not-Some;
+      expands = expands_now c.args.limits c.label.result.now c.loop-alloc.search.expanded c.leaf_of.result c.leaf_of.ensures c.in_default.not-Some;
     }
 
 pub label-requires : goal.label-requires
@@ -40,7 +39,7 @@ loop-alloc-preserved c =
     let so = one (goal.at.loop-alloc-preserved c).In_ok-push in
     record {
       searched = λ protocol made h.
-          resolved_pushed protocol (limits_view c.args.limits) made c.loop-alloc.search.made c.resolve_leaf.new.made c.loop-alloc.search.settled.items c.push.new.self.items c.loop-alloc.search.expanded c.label.result.now c.leaf_of.result c.in-Some.mark
+          resolved_pushed protocol c.args.limits made c.loop-alloc.search.made c.resolve_leaf.new.made c.loop-alloc.search.settled.items c.push.new.self.items c.loop-alloc.search.expanded c.label.result.now c.leaf_of.result c.in-Some.mark
           c.in_ok-settled.settled c.len-next.result (c.loop-alloc.invariant.searched protocol made h) c.label.ensures c.leaf_of.ensures c.in-Some.is (c.len-next.ensures ∙ c.loop-alloc.search.settled.ok.0) c.in_ok-settled.ensures c.in_ok-push.ensures.items;
       found = so.found c.loop-alloc.invariant.found;
       within = λ _. so.within;

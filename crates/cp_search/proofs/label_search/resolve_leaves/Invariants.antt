@@ -1,6 +1,5 @@
 use Rattle.std.proofs.Common.{◌≡◌, ◌≤◌, List, length}
 use Rattle.cp_model.specs.Strand.{Protocol}
-use Rattle.cp_skel.specs.Trees.{limits_view}
 use Rattle.cp_tree.specs.Made as plain
 use Rattle.cp_search.specs.MadeLabels.{AreFound}
 use Rattle.cp_search.specs.ResolvedLabels.{HasSearched}
@@ -9,7 +8,7 @@ use Rattle.cp_search.proofs.label_search.resolve_leaves.Given as goal
 
 abbrev pub invariant-loop-alloc : goal.invariant-loop-alloc
 invariant-loop-alloc l = record {
-  searched : (protocol : Protocol) (made : List plain.Made) → HasSearched protocol (limits_view l.fn.limits) made l.fn.search → HasSearched protocol (limits_view l.fn.limits) made l.search;
+  searched : (protocol : Protocol) (made : List plain.Made) → HasSearched protocol l.fn.limits made l.fn.search → HasSearched protocol l.fn.limits made l.search;
   found : AreFound l.search.made;
   within : length l.fn.search.settled.items ≤ length l.fn.search.made → length l.search.settled.items ≤ length l.search.made;
   expanded : l.search.expanded ≡ l.fn.search.expanded;

@@ -1,13 +1,16 @@
 use Rattle.std.proofs.Common.{◌≡◌, ◌↔◌, ℕ, List, Some, IfOk, map}
 use Rattle.cp_lists.specs.Lists.{item_at}
-use Rattle.cp_model.specs.Strand.{Declaration}
+use Rattle.cp_model.specs.declared.variable.Declaration.{Declaration}
 use Rattle.cp_model.specs.Skeleton.{Skeleton}
 use Rattle.cp_model.specs.PointOfView.{HasDeclaredVariables}
 use Rattle.cp_model.specs.Bundle.{Bundle, IsBundle}
 use Rattle.cp_model.specs.Standing.{Standing, StandsIn, StandsApart}
-use Rattle.cp_model.specs.Tree.{dead, at_step_limit, at_strand_limit, Label, Tree, Limits, ReachedSteps, ReachedStrands, IsTrueOf}
+use Rattle.cp_model.specs.Tree.{Label, Tree, ReachedSteps, ReachedStrands, IsTrueOf}
+use Rattle.cp_model.specs.declared.tree.Mark.TheVariants.{Dead as dead}
+use Rattle.cp_model.specs.declared.tree.Outcome.TheVariants.{LimitSteps as at_step_limit, LimitStrands as at_strand_limit}
+use Rattle.cp_model.specs.declared.tree.Limits.{Limits}
 use Rattle.cp_skel.specs.View.{skeleton_view}
-use Rattle.cp_skel.specs.Trees.{variables_view, limits_view, tree_view}
+use Rattle.cp_skel.specs.Trees.{tree_view}
 use Rattle.cp_theory.specs.Lawful.{IsLawful}
 use Rattle.cp_roots.specs.Roots.{Root}
 use Rattle.cp_roots.specs.RootView.{root_view}
@@ -16,17 +19,17 @@ use Rattle.cp_tree.specs.Declared.{DeclaresItsOwn}
 use Rattle.cp_tree.specs.Searched.{IsTreeFrom, IsTreeOf}
 use Rattle.cp_tree.specs.Edges.{edges}
 use Rattle.cp_tree.proofs.OwnVariables.{own_declared}
-use Rattle.cp_search.proofs.FoundTrees.{sound_roots, same_variables}
+use Rattle.cp_search.proofs.FoundTrees.{sound_roots}
 use Rattle.cp_search.proofs.MadeTrees.{if_made}
 use Rattle.cp_search.proofs.trees.search.Goals as goal
 
 pub search_from-requires : goal.search_from-requires
 search_from-requires c =
     let k = skeleton_view c.args.problem.now in
-    let variables = variables_view c.args.problem.now.variables in
+    let variables = c.args.problem.now.variables in
     let roots = c.in_ok-roots.roots.items in
     record {
-      sound = sound_roots c.args.protocol.now variables k roots (skeleton_over c.args.protocol.now k c.is_sound.ensures c.requires.over) c.requires.own c.in_ok-roots.ensures.sound (same_variables roots c.args.problem.now.variables c.in_ok-roots.ensures.variables)
+      sound = sound_roots c.args.protocol.now variables k roots (skeleton_over c.args.protocol.now k c.is_sound.ensures c.requires.over) c.requires.own c.in_ok-roots.ensures.sound c.in_ok-roots.ensures.variables
           (c.roots_have_declared_variables.ensures variables k (map root_view roots) (own_declared variables k c.requires.own) c.in_ok-roots.ensures.exact);
     }
 
@@ -39,10 +42,10 @@ abbrev problem : Here → Skeleton
 problem c = skeleton_view c.args.problem.now
 
 abbrev variables : Here → List Declaration
-variables c = variables_view c.args.problem.now.variables
+variables c = c.args.problem.now.variables
 
 abbrev limits : Here → Limits
-limits c = limits_view c.args.limits
+limits c = c.args.limits
 
 abbrev found_roots : Here → List Root
 found_roots c = map root_view c.in_ok-roots.roots.items
@@ -54,7 +57,7 @@ declared c = c.roots_have_declared_variables.ensures (variables c) (problem c) (
 each_tree : (c : Here) (is : Tree → Type 0) → ((t : Tree) → IsTreeFrom c.args.protocol.now (variables c) (limits c) (found_roots c) t → is t) → IfOk c.tree_of.result (λ t. is (tree_view t))
 each_tree c is law =
     let roots = c.in_ok-roots.roots.items in
-    if_made c.args.protocol.now (variables c) (limits c) roots c.in_ok-search.search c.in_ok-search.ensures.searched c.in_ok-search.ensures.all (same_variables roots c.args.problem.now.variables c.in_ok-roots.ensures.variables)
+    if_made c.args.protocol.now (variables c) (limits c) roots c.in_ok-search.search c.in_ok-search.ensures.searched c.in_ok-search.ensures.all c.in_ok-roots.ensures.variables
     is law c.tree_of.result c.tree_of.ensures.labels c.tree_of.ensures.outcome
 
 pub returns-clause-true_tree : goal.returns-clause-true_tree

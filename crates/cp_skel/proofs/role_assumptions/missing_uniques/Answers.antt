@@ -1,9 +1,8 @@
-use Rattle.std.proofs.Common.{◌≡◌, ◌++◌, ◌∷◌, [], ◌<◌, ◌≤◌, map, sym, ap, ◌∙◌, subst}
+use Rattle.std.proofs.Common.{◌≡◌, ◌++◌, ◌∷◌, [], ◌<◌, ◌≤◌, sym, ap, ◌∙◌, subst}
 use Rattle.std.proofs.lemmas.List.{drop_all}
 use Rattle.cp_model.specs.Term.{apply_to_atom}
 use Rattle.cp_model.specs.Homomorphism.{substitution_by}
 use Rattle.cp_model.specs.Given.{applying_uniques, uniques_onto}
-use Rattle.cp_strand.specs.View.{event_view}
 use Rattle.cp_strand.proofs.FirstOrigins.{origin-moved}
 use Rattle.cp_skel.proofs.StrandsGive.{none-originates, late-originates, one-originates}
 use Rattle.cp_skel.proofs.role_assumptions.missing_uniques.Goals as goal
@@ -11,7 +10,7 @@ use Rattle.cp_skel.proofs.role_assumptions.missing_uniques.Goals as goal
 pub loop-atom-preserved-in_default : goal.loop-atom-preserved-in_default
 loop-atom-preserved-in_default c =
     let k = c.args.instance.now in
-    let trace : map event_view c.trace.result.now ≡ k.role.trace = c.trace.ensures ∙ ap (λ r. r.trace) (c.deref.ensures ∙ c.role.ensures) in
+    let trace : c.trace.result.now ≡ k.role.trace = c.trace.ensures ∙ ap (λ r. r.trace) (c.deref.ensures ∙ c.role.ensures) in
     none-originates k c.args.strand c.args.stated.now c.loop-atom.atom-index (c.args.old.now ++ c.loop-atom.more.items) _
     c.atom-item.result c.loop-atom-test.true c.atom-item.is c.loop-atom.invariant
     (λ i o. c.in_default.ensures.none i (origin-moved _ _ _ _ i (sym trace) (sym c.as_term.ensures) o))
@@ -19,7 +18,7 @@ loop-atom-preserved-in_default c =
 pub loop-atom-preserved-then-index-height : goal.loop-atom-preserved-then-index-height
 loop-atom-preserved-then-index-height c =
     let k = c.args.instance.now in
-    let trace : map event_view c.trace.result.now ≡ k.role.trace = c.trace.ensures ∙ ap (λ r. r.trace) (c.deref.ensures ∙ c.role.ensures) in
+    let trace : c.trace.result.now ≡ k.role.trace = c.trace.ensures ∙ ap (λ r. r.trace) (c.deref.ensures ∙ c.role.ensures) in
     late-originates k c.args.strand c.args.stated.now c.loop-atom.atom-index (c.args.old.now ++ c.loop-atom.more.items) _
     c.atom-item.result c.loop-atom-test.true c.atom-item.is c.loop-atom.invariant
     c.in-Some.index (origin-moved _ _ _ _ _ trace c.as_term.ensures c.in-Some.ensures.some) (subst (λ h. h ≤ c.in-Some.index) c.height.ensures c.if-index-height.true)
@@ -28,7 +27,7 @@ pub loop-atom-preserved : goal.loop-atom-preserved
 loop-atom-preserved c =
     let k = c.args.instance.now in
     let old = c.args.old.now in
-    let trace : map event_view c.trace.result.now ≡ k.role.trace = c.trace.ensures ∙ ap (λ r. r.trace) (c.deref.ensures ∙ c.role.ensures) in
+    let trace : c.trace.result.now ≡ k.role.trace = c.trace.ensures ∙ ap (λ r. r.trace) (c.deref.ensures ∙ c.role.ensures) in
     let value : c.in_ok-value.value ≡ apply_to_atom (substitution_by k.values) c.atom-item.result = c.in_ok-value.ensures ∙ ap (λ ts. apply_to_atom (substitution_by ts) c.atom-item.result) c.values.ensures in
     one-originates k c.args.strand c.args.stated.now c.loop-atom.atom-index (old ++ c.loop-atom.more.items) _
     c.atom-item.result c.loop-atom-test.true c.atom-item.is c.loop-atom.invariant

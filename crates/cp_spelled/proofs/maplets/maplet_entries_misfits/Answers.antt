@@ -4,7 +4,6 @@ use Rattle.cp_sexpr.specs.View.{view}
 use Rattle.cp_language.specs.Words.{is_one_of}
 use Rattle.cp_language.specs.Terms.{variable_named}
 use Rattle.cp_language.specs.Problems.{is_known, name_in_front}
-use Rattle.cp_strand.specs.View.{declaration_view}
 use Rattle.cp_report.specs.Misfits.{symbol_misfits, entries_misfits}
 use Rattle.cp_report.specs.Spelled.{value_misfits}
 use Rattle.cp_spelled.specs.FirstMisfit.{first_onto}
@@ -15,7 +14,7 @@ use Rattle.cp_spelled.proofs.maplets.maplet_entries_misfits.Goals as goal
 pub returns : goal.returns
 returns c =
     let s = scope_view c.args.scope in
-    let wanted = map declaration_view c.args.wanted.now in
+    let wanted = c.args.wanted.now in
     let rest = map view c.in-Some.rest.now in
     let variable = c.named-variable.ensures ∙ ap (variable_named wanted) (c.symbol_or_empty.ensures ∙ sym (ap (λ fs. name_in_front (map view fs)) c.in-Some.ensures.cases.0)) in
     entry-taken (symbol_misfits (λ t. is_known (variable_named wanted t) && not (is_one_of t c.args.before.now))) (value_misfits s (variable_named wanted (name_in_front (map view c.args.items.now))) ∷ [])

@@ -1,6 +1,6 @@
 use Rattle.std.proofs.Common.{map, ap, ◌∙◌}
 use Rattle.std.specs.Prelude.{[], ◌∷◌}
-use Rattle.cp_model.specs.Term.{name_sort}
+use Rattle.cp_model.specs.declared.sort.Sort.TheVariants.{Name as name_sort}
 use Rattle.cp_sexpr.specs.View.{view}
 use Rattle.cp_report.specs.Spelled.{variables_misfits}
 use Rattle.cp_spelled.specs.FirstMisfit.{first_onto}

@@ -1,5 +1,5 @@
 use Rattle.std.specs.Prelude.{[], ◌∷◌}
-use Rattle.cp_model.specs.Term.{name_sort}
+use Rattle.cp_model.specs.declared.sort.Sort.TheVariants.{Name as name_sort}
 use Rattle.cp_report.specs.Spelled.{variable_misfits}
 use Rattle.cp_spelled.specs.Views.{scope_view}
 use Rattle.cp_spelled.proofs.InOrder.{entry-taken}

@@ -1,7 +1,7 @@
 use Rattle.std.proofs.Common.{List, map, sym, ap, ◌∙◌}
 use Rattle.cp_sexpr.specs.View.{view}
 use Rattle.cp_sexpr.specs.declared.form.Form as program
-use Rattle.cp_strand.specs.View.{declaration_view, strand_view}
+use Rattle.cp_strand.specs.View.{strand_view}
 use Rattle.cp_report.specs.Misfits.{place_before, list_misfits}
 use Rattle.cp_report.specs.Skeletons.{mapping_misfits}
 use Rattle.cp_spelled.specs.FirstMisfit.{first_onto}
@@ -15,7 +15,7 @@ pub returns : goal.returns
 returns c =
     let e = c.args.ends in
     let problem = map strand_view e.problem.now in
-    let names = map declaration_view e.names.now in
+    let names = e.names.now in
     let s = scope_view e.scope in
     let ks = map strand_view e.strands.now in
     let at = c.args.place in

@@ -1,10 +1,9 @@
 use Rattle.std.proofs.Common.{◌≡◌, map, refl, sym, ap, ◌∙◌, subst}
 use Rattle.cp_sexpr.specs.View.{view}
-use Rattle.cp_strand.specs.View.{declaration_view, strand_view}
+use Rattle.cp_strand.specs.View.{strand_view}
 use Rattle.cp_strand.specs.Declares.{HasDeclaringRoles}
 use Rattle.cp_model.specs.Data.{SkeletonData, skeleton_of}
 use Rattle.cp_skel.specs.Sound.{IsSound}
-use Rattle.cp_skel.specs.Trees.{variables_view}
 use Rattle.cp_skel.specs.View.{skeleton_view}
 use Rattle.cp_load.specs.UncheckedProblems.{unchecked_view}
 use Rattle.cp_report.specs.Spelled.{Scope}
@@ -21,7 +20,7 @@ parts : (c : goal.After-of)
 parts c =
     let p = unchecked_view c.args.problem.now in
     let items = map view c.args.items.now in
-    let names = map declaration_view c.args.names.now in
+    let names = c.args.names.now in
     let to_strands = c.in_ok-to_strands.ensures ∙ ap strands_mapped c.entries_under-entries.ensures in
     let values =
     c.in_ok-values.ensures ∙ ap (values_by names (scope_view c.args.scope)) c.entries_under-entries.ensures ∙ values-same p names (scope_view c.args.scope) (scope_of items) _ c.requires.names c.requires.scope in
@@ -39,7 +38,7 @@ returns-clause-skeleton c = ap skeleton_view c.new.ensures ∙ parts c.before
 
 pub returns-clause-variables : goal.returns-clause-variables
 returns-clause-variables c =
-    ap (λ (k : SkeletonData). variables_view k.variables) c.new.ensures ∙ c.in_ok-variables.ensures ∙ ap (map declaration_view) c.as_slice.ensures ∙ ap (λ (s : Scope). s.variables) c.requires.scope
+    ap (λ (k : SkeletonData). k.variables) c.new.ensures ∙ c.in_ok-variables.ensures ∙ c.as_slice.ensures ∙ ap (λ (s : Scope). s.variables) c.requires.scope
 
 pub assumptions_under-requires : goal.assumptions_under-requires
 assumptions_under-requires c = c.requires.scope

@@ -1,9 +1,8 @@
-use Rattle.std.proofs.Common.{◌≡◌, map, drop}
+use Rattle.std.proofs.Common.{◌≡◌, drop}
 use Rattle.cp_model.specs.Strand.{variables_of_trace}
 use Rattle.cp_model.specs.Same.{has_variable}
-use Rattle.cp_strand.specs.View.{sort_view, event_view}
 use Rattle.cp_strand.proofs.prefix_variables.occurs.Given as goal
 
 abbrev pub invariant-loop-event : goal.invariant-loop-event
 invariant-loop-event l =
-    has_variable (variables_of_trace (map event_view (drop l.event-index l.events))) (record { sort = sort_view l.sort; number = l.id }) ≡ has_variable (variables_of_trace (map event_view l.events)) (record { sort = sort_view l.sort; number = l.id })
+    has_variable (variables_of_trace (drop l.event-index l.events)) (record { sort = l.sort; number = l.id }) ≡ has_variable (variables_of_trace l.events) (record { sort = l.sort; number = l.id })

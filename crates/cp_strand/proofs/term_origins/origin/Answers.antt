@@ -1,18 +1,17 @@
-use Rattle.std.proofs.Common.{◌≡◌, true, false, sym, ap, subst}
+use Rattle.std.proofs.Common.{◌≡◌, true, false, sym, subst}
 use Rattle.cp_model.specs.Term.{IsCarriedByTerm}
-use Rattle.cp_strand.specs.View.{event_view}
 use Rattle.cp_strand.proofs.FirstOrigins.{origin-sent, origin-received, origin-not-here, origin-nowhere}
 use Rattle.cp_strand.proofs.term_origins.origin.Goals as goal
 
 pub returns-in-Send-clause-some : goal.returns-in-Send-clause-some
 returns-in-Send-clause-some c =
     origin-sent c.args.events.now c.args.value.now c.loop-index.index c.index-events-index.result c.loop-index-test.true c.index-events-index.is c.loop-index.invariant
-    _ (ap event_view c.in-Send.is) (subst (IsCarriedByTerm c.args.value.now) c.payload.ensures (c.carries.ensures.0 c.if-carries.true))
+    _ c.in-Send.is (subst (IsCarriedByTerm c.args.value.now) c.payload.ensures (c.carries.ensures.0 c.if-carries.true))
 
 pub returns-in-Receive-clause-none : goal.returns-in-Receive-clause-none
 returns-in-Receive-clause-none c =
     origin-received c.args.events.now c.args.value.now c.loop-index.index c.index-events-index.result c.loop-index-test.true c.index-events-index.is c.loop-index.invariant
-    _ (ap event_view c.in-Receive.is) (subst (IsCarriedByTerm c.args.value.now) c.payload.ensures (c.carries.ensures.0 c.if-carries.true))
+    _ c.in-Receive.is (subst (IsCarriedByTerm c.args.value.now) c.payload.ensures (c.carries.ensures.0 c.if-carries.true))
 
 pub loop-index-preserved : goal.loop-index-preserved
 loop-index-preserved c =

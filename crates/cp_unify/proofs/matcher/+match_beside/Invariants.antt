@@ -9,7 +9,7 @@ decreases-match_beside l = term_size l.pattern.now
 
 -- what is found is what is found of the rest beside what was found so far
 abbrev pub invariant-loop-first : goal.invariant-loop-first
-invariant-loop-first l = (term_size l.left ≤ term_size l.pattern) × (matched (is_listed (option_map (λ ns. ns.now) l.locals)) l.pattern l.term l.fn.given ≡ matched (is_listed (option_map (λ ns. ns.now) l.locals)) l.left l.right l.found)
+invariant-loop-first l = (term_size l.left ≤ term_size l.pattern) × (matched (is_listed (option_map (λ xs. xs.now) l.locals)) l.pattern l.term l.fn.given ≡ matched (is_listed (option_map (λ xs. xs.now) l.locals)) l.left l.right l.found)
 
 abbrev pub decreases-loop-first : goal.decreases-loop-first
 decreases-loop-first l = term_size l.left

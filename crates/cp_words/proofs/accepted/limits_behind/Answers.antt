@@ -1,5 +1,4 @@
 use Rattle.std.proofs.Common.{◌<◌, length, string_bytes, sym, arith}
-use Rattle.cp_words.specs.Settings.{setting_view}
 use Rattle.cp_words.proofs.Refused.{too_many}
 use Rattle.cp_words.proofs.accepted.limits_behind.Goals as goal
 
@@ -9,4 +8,4 @@ returns-else-is_empty-2 c =
     let rest = c.in_ok-second.rest.now in
     let some : 0 < length options = grind arith in
     let more : 0 < length rest = grind arith in
-    too_many string_bytes (setting_view c.args.first) (setting_view c.in_ok-second.second) options rest some (sym c.in_ok-second.ensures) more
+    too_many string_bytes c.args.first c.in_ok-second.second options rest some (sym c.in_ok-second.ensures) more

@@ -8,9 +8,9 @@ pub search-requires : goal.search-requires
 search-requires c =
     let input = c.in_ok-input.input in
     let loaded = c.in_ok-input.ensures in
-    let problem = c.in-Some.problem in
-    let is = problem_at input c.args.forms.now c.deref-problem-items.result.now c.loop-problem.problem-index c.problem-item.result problem loaded.input loaded.forms loaded.problems c.deref-problem-items.ensures.value
-    c.loop-problem-test.true c.problem-item.is c.in-Some.is in
+    let problem = c.in-Some.problem.now in
+    let is = problem_at input c.args.forms.now c.deref-entry-items.result.now c.loop-entry.entry-index c.entry-item.result problem loaded.input loaded.forms loaded.entries c.deref-entry-items.ensures.value
+    c.loop-entry-test.true c.entry-item.is c.in-Some.ensures in
     record {
       over = subst (λ q. IsOver q (skeleton_view problem.skeleton)) (sym c.deref.ensures) is.over;
       own = is.own;

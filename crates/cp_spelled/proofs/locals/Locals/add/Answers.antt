@@ -1,8 +1,6 @@
-use Rattle.std.proofs.Common.{ℕ, [], ◌∷◌, ◌++◌, map, sym, ap, ◌∙◌}
-use Rattle.std.proofs.lemmas.List.{map-append, length-map}
+use Rattle.std.proofs.Common.{ℕ, [], ◌∷◌, ◌++◌, sym, ap, ◌∙◌}
 use Rattle.cp_scope.proofs.NamesInUse.{on_ok}
 use Rattle.cp_spelled.specs.Tables.{local_from}
-use Rattle.cp_spelled.specs.LocalViews.{local_view}
 use Rattle.cp_spelled.proofs.Tabled.{locals-pushed, locals-asked, locals-known, locals-new}
 use Rattle.cp_spelled.proofs.locals.Locals.add.Goals as goal
 
@@ -13,12 +11,11 @@ returns-then-contains_key c =
 pub invariant_of-self-else-is_err : goal.invariant_of-self-else-is_err
 invariant_of-self-else-is_err c n =
     let put = on_ok c.insert.result _ (sym c.is_err.ensures.value ∙ c.if-is_err.false) c.insert.ensures.updates in
-    let more = ap (map local_view) c.in_ok-push.ensures.items ∙ map-append local_view c.self.inside.locals.items (c.args.local ∷ []) in
     let asked = locals-asked c.self.inside.locals.items c.args.local c.self.inside.table c.self.invariant (sym c.contains_key.ensures ∙ c.if-contains_key.false) in
-    let l = local_view c.args.local in
-    locals-pushed (map local_view c.self.inside.locals.items) l c.self.inside.table c.insert.new.self (record { sort = c.args.local.sort; number = c.len-place.result })
-    (ap (λ (n : ℕ). record { sort = l.sort; number = n }) (c.len-place.ensures ∙ c.self.inside.locals.ok.0 ∙ sym (length-map c.self.inside.locals.items local_view))) c.self.invariant asked put.0 n
-    ∙ ap (λ ls. local_from 0 ls n) (sym more)
+    let l = c.args.local in
+    locals-pushed c.self.inside.locals.items l c.self.inside.table c.insert.new.self (record { sort = c.args.local.sort; number = c.len-place.result })
+    (ap (λ (n : ℕ). record { sort = l.sort; number = n }) (c.len-place.ensures ∙ c.self.inside.locals.ok.0)) c.self.invariant asked put.0 n
+    ∙ ap (λ ls. local_from 0 ls n) (sym c.in_ok-push.ensures.items)
 
 pub returns : goal.returns
 returns c =

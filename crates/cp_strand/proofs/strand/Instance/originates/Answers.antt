@@ -1,6 +1,5 @@
-use Rattle.std.proofs.Common.{◌≡◌, ◌<◌, ◌≤◌, map, ap, sym, subst, ◌∙◌, arith}
+use Rattle.std.proofs.Common.{◌≡◌, ◌<◌, ◌≤◌, ap, sym, subst, ◌∙◌, arith}
 use Rattle.cp_model.specs.Homomorphism.{substitution_by}
-use Rattle.cp_strand.specs.View.{event_view}
 use Rattle.cp_strand.specs.Origins.{OriginatesUnder}
 use Rattle.cp_strand.proofs.Origins.{instance_originates, instance_ends}
 use Rattle.cp_strand.proofs.strand.Instance.originates.Goals as goal
@@ -10,12 +9,12 @@ returns-then-index-height c =
     let i = c.args.self.now in
     let t = c.args.t.now in
     let index = c.args.index in
-    let events : map event_view c.trace.result.now ≡ i.role.trace = c.trace.ensures ∙ ap (λ r. r.trace) (c.deref.ensures ∙ c.role.ensures) in
+    let events : c.trace.result.now ≡ i.role.trace = c.trace.ensures ∙ ap (λ r. r.trace) (c.deref.ensures ∙ c.role.ensures) in
     instance_originates (substitution_by i.values) i.role.trace t index i.height c.originates_under.result (subst (λ h. index < h) c.height.ensures c.if-index-height.true)
     (λ r. subst (λ es. OriginatesUnder (substitution_by i.values) es t index) events
-    (subst (λ ts. OriginatesUnder (substitution_by ts) (map event_view c.trace.result.now) t index) c.values.ensures (c.originates_under.ensures.0 r)))
+    (subst (λ ts. OriginatesUnder (substitution_by ts) c.trace.result.now t index) c.values.ensures (c.originates_under.ensures.0 r)))
     (λ o. c.originates_under.ensures.1
-    (subst (λ ts. OriginatesUnder (substitution_by ts) (map event_view c.trace.result.now) t index) (sym c.values.ensures)
+    (subst (λ ts. OriginatesUnder (substitution_by ts) c.trace.result.now t index) (sym c.values.ensures)
     (subst (λ es. OriginatesUnder (substitution_by i.values) es t index) (sym events) o)))
 
 pub returns-else-index-height : goal.returns-else-index-height
