@@ -19,7 +19,7 @@ use Rattle.cp_printable.proofs.StringTexts.{string_text_or_not}
 use Rattle.cp_printable.proofs.SpelledInput.{form_is_proper, problem_is_spelled}
 use Rattle.cp_printable.proofs.ProperTrees.{tree_is_proper}
 use Rattle.cp_printable.proofs.ProperReports.{report_is_proper}
-use Rattle.cp_strand.specs.Declares.{DeclaresItsVariables}
+use Rattle.cp_model.specs.Declares.{DeclaresItsVariables}
 use Rattle.cp_printable.proofs.Labels.{labels_spelled}
 use Rattle.cp_app.specs.Headline.{HaveTrees}
 use Rattle.cp_app.specs.Analysis.{IsAnalysisOf}

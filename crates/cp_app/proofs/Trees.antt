@@ -1,14 +1,11 @@
 -- The trees of the problems of an input.
-use Rattle.std.proofs.Common.{◌≡◌, ℕ, zero, suc, ◌+◌, ◌<◌, ◌≤◌, List, [], ◌∷◌, ◌++◌, length, get_or, take, map, Option, Some, None, ◌⊎◌, inl, inr, refl, sym, ap, ap₂, ◌∙◌, subst, arith, ⊎_elim, Ok, add-one, Bool, true, false}
-use Rattle.std.specs.Prelude.{◌^◌, option_map}
+use Rattle.std.proofs.Common.{◌≡◌, ℕ, zero, suc, ◌+◌, ◌<◌, ◌≤◌, List, [], ◌∷◌, ◌++◌, length, get_or, take, map, Option, Some, None, ◌⊎◌, inl, inr, refl, sym, ap, ◌∙◌, subst, arith, ⊎_elim, Ok, add-one, Bool, true, false}
+use Rattle.std.specs.Prelude.{◌^◌}
 use Rattle.std.specs.List.{AllZip, cons_option, filter_map}
-use Rattle.std.proofs.lemmas.List.{append-nil, length-map, map-append, take_all}
+use Rattle.std.proofs.lemmas.List.{append-nil, map-append, take_all}
 use Rattle.std.proofs.lemmas.List.Elements.{filter_map-append}
 use Rattle.std.proofs.Math.Seq.{take-suc}
 use Rattle.std.proofs.lemmas.Slice.Zip.{all_zipped_more}
-use Rattle.cp_skel.specs.Trees.{label_view, tree_view}
-use Rattle.cp_skel.specs.declared.tree.TreeNode.{TreeNode}
-use Rattle.cp_skel.specs.declared.tree.Tree.{Tree as ProgramTree}
 use Rattle.cp_app.specs.Steps.{is_complete}
 use Rattle.cp_lists.specs.Lists.{item_at, IsIn, here, there}
 use Rattle.cp_lists.proofs.Members.{in_append}
@@ -21,27 +18,20 @@ use Rattle.cp_model.specs.Tree.{Pattern, Test, Label, Tree, IsTrueOf}
 use Rattle.cp_model.specs.declared.tree.Outcome.{Outcome}
 use Rattle.cp_model.specs.declared.tree.Outcome.TheVariants.{Complete as complete, LimitSteps as at_step_limit, LimitStrands as at_strand_limit}
 use Rattle.cp_model.specs.declared.tree.Limits.{Limits}
-use Rattle.cp_sexpr.specs.Syntax as syntax
 use Rattle.cp_sexpr.specs.Syntax.{Forms}
-use Rattle.cp_sexpr.specs.View.{view, views}
 use Rattle.cp_language.specs.Problems.{Problem}
 use Rattle.cp_language.specs.Report.{variables_of_terms, variables_of_test, variables_but, variables_of_patterns, occurring, HasItsVariables}
-use Rattle.cp_language.specs.Input.{Entry, stated, faults_of, input_of}
+use Rattle.cp_language.specs.Input.{Entry, stated, input_of}
 use Rattle.cp_language.specs.StatedInput.{IsInput}
 use Rattle.cp_language.proofs.NoLocals.{from_but}
-use Rattle.cp_load.specs.Inputs.{problem_view, problem_in, entries_view, input_entries}
-use Rattle.cp_load.specs.declared.input.Problem.{Problem as ProgramProblem}
+use Rattle.cp_load.specs.Inputs.{entry_view}
 use Rattle.cp_load.specs.declared.input.Entry.{Entry as ProgramEntry}
-use Rattle.cp_load.proofs.Entries.{problem_viewed}
-use Rattle.cp_load.specs.declared.input.Input.{Input}
-use Rattle.cp_sexpr.specs.declared.form.Form as form
 use Rattle.cp_model.proofs.OccurringVariables.{term_with}
 use Rattle.cp_theory.specs.Matches.{IsFreeIn}
 use Rattle.cp_tree.specs.Searched.{IsTreeOf}
 use Rattle.cp_tree.specs.Declared.{DeclaresItsOwn}
 use Rattle.cp_report.specs.FittingTrees.{TreeFits}
 use Rattle.cp_language.proofs.Problems as wellformed
-use Rattle.cp_app.specs.Headline.{HaveTrees}
 use Rattle.cp_app.specs.Analysis.{HaveFewVariables, IsAnalysable, IsAnalysisOf}
 
 -- ---- variables
@@ -58,7 +48,7 @@ in_patterns (p ∷ ps) x m =
     ⊎_elim (λ q. let r = from_but p.locals (variables_of p.term) x q in (p, here, record { occurs = r.0; no_local = r.1 })) (λ q. let r = in_patterns ps x q in (r.0, there r.1, r.2))
     (in_append (variables_but p.locals (variables_of p.term)) (variables_of_patterns ps) m)
 
-all_declared : (variables : List Declaration) (l : Label) → DeclaresItsOwn variables l → (x : Variable) → IsIn x (occurring l) → IsDeclared l.variables x
+all_declared : (variables : List Declaration) (l : Label) → DeclaresItsOwn variables l → (x : Variable) → IsIn x (occurring l) → IsDeclared l.skeleton.variables x
 all_declared variables l d x m =
     let own : List Variable = variables_of_skeleton l.skeleton in
     let mapped : List Variable = variables_of_terms l.skeleton.from_problem.values in
@@ -94,23 +84,23 @@ pub few_counted : (ds : List Declaration) (n : ℕ) → n ≡ length ds → n < 
 few_counted ds n counted few = omega (arith, counted, few)
 
 -- the labels before number i have few
-abbrev pub HaveFewBefore : List TreeNode → ℕ → Type 0
-HaveFewBefore ls i = HaveFewVariables (map label_view (take i ls))
+abbrev pub HaveFewBefore : List Label → ℕ → Type 0
+HaveFewBefore ls i = HaveFewVariables (take i ls)
 
-pub few_before_first : (ls : List TreeNode) → HaveFewBefore ls 0
+pub few_before_first : (ls : List Label) → HaveFewBefore ls 0
 few_before_first ls l listed = elim listed [ ]
 
-pub few_next : (ls : List TreeNode) (i : ℕ) (l : TreeNode) → i < length ls → l ≡ get_or ls i l → length (label_view l).variables < 2 ^ 64 → HaveFewBefore ls i → HaveFewBefore ls (i + 1)
+pub few_next : (ls : List Label) (i : ℕ) (l : Label) → i < length ls → l ≡ get_or ls i l → length l.skeleton.variables < 2 ^ 64 → HaveFewBefore ls i → HaveFewBefore ls (i + 1)
 few_next ls i l lt is few before m listed =
     let one : take (i + 1) ls ≡ take i ls ++ l ∷ [] = rw add-one (take-suc ls i l lt ∙ ap (λ q. take i ls ++ q ∷ []) (sym is)) in
     ⊎_elim (before m) (λ last. of_one m last)
-    (in_append (map label_view (take i ls)) (label_view l ∷ []) (rw (ap (map label_view) one ∙ map-append label_view (take i ls) (l ∷ [])) at listed))
+    (in_append (take i ls) (l ∷ []) (rw (one) at listed))
   where
-    of_one : (m : Label) → IsIn m (label_view l ∷ []) → length m.variables < 2 ^ 64
+    of_one : (m : Label) → IsIn m (l ∷ []) → length m.skeleton.variables < 2 ^ 64
     of_one _ here = few
     of_one m (there listed) = elim listed [ ]
 
-pub few_in_all : (ls : List TreeNode) (i : ℕ) → length ls ≤ i → HaveFewBefore ls i → HaveFewVariables (map label_view ls)
+pub few_in_all : (ls : List Label) (i : ℕ) → length ls ≤ i → HaveFewBefore ls i → HaveFewVariables ls
 few_in_all ls i h few = rw (take_all i ls h) at few
 
 -- ---- each problem with its tree
@@ -125,62 +115,52 @@ zip_onto P Q f (x ∷ xs) (y ∷ ys) all = (f x y all.0, zip_onto P Q f xs ys al
 
 -- The problem of an entry of the program, if it has one.
 abbrev pub problem_of : ProgramEntry → Option Problem
-problem_of e = option_map problem_view (problem_in e)
+problem_of e = stated (entry_view e)
 
 -- The problems of entries of the program.
 abbrev pub problems_of : List ProgramEntry → List Problem
-problems_of = filter_map problem_of
+problems_of es = filter_map stated (map entry_view es)
 
 -- The trees of the problems of the first entries, as many as i.
-abbrev pub AreTreesUpTo : Limits → List ProgramEntry → ℕ → List ProgramTree → Type 0
-AreTreesUpTo limits es i ts = AllZip (IsAnalysisOf limits) (problems_of (take i es)) (map tree_view ts)
+abbrev pub AreTreesUpTo : Limits → List ProgramEntry → ℕ → List Tree → Type 0
+AreTreesUpTo limits es i ts = AllZip (IsAnalysisOf limits) (problems_of (take i es)) ts
 
 next_problems : (es : List ProgramEntry) (i : ℕ) (e : ProgramEntry) → i < length es → e ≡ get_or es i e → problems_of (take (i + 1) es) ≡ problems_of (take i es) ++ cons_option (problem_of e) []
 next_problems es i e lt is =
     let one : take (i + 1) es ≡ take i es ++ e ∷ [] = rw add-one (take-suc es i e lt ∙ ap (λ q. take i es ++ q ∷ []) (sym is)) in
-    ap problems_of one ∙ filter_map-append problem_of (take i es) (e ∷ [])
+    ap problems_of one ∙ ap (filter_map stated) (map-append entry_view (take i es) (e ∷ [])) ∙ filter_map-append stated (map entry_view (take i es)) (entry_view e ∷ [])
 
-pub none_next : (limits : Limits) (es : List ProgramEntry) (i : ℕ) (e : ProgramEntry) (ts : List ProgramTree) → i < length es → e ≡ get_or es i e → None ≡ problem_in e → AreTreesUpTo limits es i ts → AreTreesUpTo limits es (i + 1) ts
+pub none_next : (limits : Limits) (es : List ProgramEntry) (i : ℕ) (e : ProgramEntry) (ts : List Tree) → i < length es → e ≡ get_or es i e → None ≡ problem_of e → AreTreesUpTo limits es i ts → AreTreesUpTo limits es (i + 1) ts
 none_next limits es i e ts lt is none before =
     let same : problems_of (take (i + 1) es) ≡ problems_of (take i es) =
-    next_problems es i e lt is ∙ sym (ap (λ (o : Option ProgramProblem). problems_of (take i es) ++ cons_option (option_map problem_view o) []) none) ∙ append-nil (problems_of (take i es)) in
-    subst (λ qs. AllZip (IsAnalysisOf limits) qs (map tree_view ts)) (sym same) before
+    next_problems es i e lt is ∙ sym (ap (λ o. problems_of (take i es) ++ cons_option o []) none) ∙ append-nil (problems_of (take i es)) in
+    subst (λ qs. AllZip (IsAnalysisOf limits) qs ts) (sym same) before
 
 -- Behind the old trees stands that of the problem.
-abbrev pub IsBehind : Limits → ProgramProblem → List ProgramTree → List ProgramTree → Type 0
-IsBehind limits p old new = (t : Tree) × IsAnalysisOf limits (problem_view p) t × (map tree_view new ≡ map tree_view old ++ t ∷ [])
+abbrev pub IsBehind : Limits → Problem → List Tree → List Tree → Type 0
+IsBehind limits p old new = (t : Tree) × IsAnalysisOf limits p t × (new ≡ old ++ t ∷ [])
 
-pub tree_next : (limits : Limits) (es : List ProgramEntry) (i : ℕ) (e : ProgramEntry) (p : ProgramProblem) (old new : List ProgramTree) → i < length es → e ≡ get_or es i e → Some p ≡ problem_in e
+pub tree_next : (limits : Limits) (es : List ProgramEntry) (i : ℕ) (e : ProgramEntry) (p : Problem) (old new : List Tree) → i < length es → e ≡ get_or es i e → Some p ≡ problem_of e
     → IsBehind limits p old new → AreTreesUpTo limits es i old → AreTreesUpTo limits es (i + 1) new
 tree_next limits es i e p old new lt is some (t, one, grew) before =
-    let problems : problems_of (take (i + 1) es) ≡ problems_of (take i es) ++ problem_view p ∷ [] =
-    next_problems es i e lt is ∙ sym (ap (λ (o : Option ProgramProblem). problems_of (take i es) ++ cons_option (option_map problem_view o) []) some) in
-    subst (λ qs. AllZip (IsAnalysisOf limits) qs (map tree_view new)) (sym problems)
-    (subst (λ us. AllZip (IsAnalysisOf limits) (problems_of (take i es) ++ problem_view p ∷ []) us) (sym grew) (all_zipped_more (IsAnalysisOf limits) (problems_of (take i es)) (map tree_view old) (problem_view p) t before one))
+    let problems : problems_of (take (i + 1) es) ≡ problems_of (take i es) ++ p ∷ [] =
+    next_problems es i e lt is ∙ sym (ap (λ o. problems_of (take i es) ++ cons_option o []) some) in
+    subst (λ qs. AllZip (IsAnalysisOf limits) qs new) (sym problems)
+    (subst (λ us. AllZip (IsAnalysisOf limits) (problems_of (take i es) ++ p ∷ []) us) (sym grew) (all_zipped_more (IsAnalysisOf limits) (problems_of (take i es)) old p t before one))
 
-pub trees_done : (limits : Limits) (es : List ProgramEntry) (i : ℕ) (ts : List ProgramTree) → length es ≤ i → AreTreesUpTo limits es i ts → AllZip (IsAnalysisOf limits) (problems_of es) (map tree_view ts)
+pub trees_done : (limits : Limits) (es : List ProgramEntry) (i : ℕ) (ts : List Tree) → length es ≤ i → AreTreesUpTo limits es i ts → AllZip (IsAnalysisOf limits) (problems_of es) ts
 trees_done limits es i ts h all = rw (take_all i es h) at all
 
 in_behind : (o : Option Problem) (ps : List Problem) (p : Problem) → IsIn p ps → IsIn p (cons_option o ps)
 in_behind None ps p m = m
 in_behind (Some q) ps p m = there m
 
-pub is_listed : (es : List ProgramEntry) (i : ℕ) (e : ProgramEntry) (p : ProgramProblem) → i < length es → e ≡ get_or es i e → Some p ≡ problem_in e → IsIn (problem_view p) (problems_of es)
+pub is_listed : (es : List ProgramEntry) (i : ℕ) (e : ProgramEntry) (p : Problem) → i < length es → e ≡ get_or es i e → Some p ≡ problem_of e → IsIn p (problems_of es)
 is_listed [] i e p lt is some = absurd (omega arith)
-is_listed (d ∷ es) zero e p lt is some = subst (λ (o : Option ProgramProblem). IsIn (problem_view p) (cons_option (option_map problem_view o) (problems_of es))) (some ∙ ap problem_in is) here
-is_listed (d ∷ es) (suc i) e p lt is some = in_behind (problem_of d) (problems_of es) (problem_view p) (is_listed es i e p (omega arith) is some)
+is_listed (d ∷ es) zero e p lt is some = subst (λ o. IsIn p (cons_option o (problems_of es))) (some ∙ ap problem_of is) here
+is_listed (d ∷ es) (suc i) e p lt is some = in_behind (problem_of d) (problems_of es) p (is_listed es i e p (omega arith) is some)
 
 -- ---- input of which nothing is refused
-
--- the problems of the program are those of the entries
-same_problems : (fs : List syntax.Form) (es : List ProgramEntry) → length es ≡ length fs → filter_map stated (entries_view fs es) ≡ problems_of es
-same_problems [] [] same = refl
-same_problems [] (e ∷ es) same = absurd (omega (arith, same))
-same_problems (f ∷ fs) [] same = absurd (omega (arith, same))
-same_problems (f ∷ fs) (e ∷ es) same = ap₂ cons_option (problem_viewed e f) (same_problems fs es (omega (arith, same)))
-
-problems_in : (input : Input) (fs : List form.Form) → input.forms.now ≡ fs → length input.entries.items ≡ length fs → filter_map stated (input_entries input) ≡ problems_of input.entries.items
-problems_in input fs same counted = same_problems (map view input.forms.now) input.entries.items (counted ∙ ap length (sym same) ∙ sym (length-map input.forms.now view))
 
 in_next : (o : Option Problem) (ps : List Problem) (p : Problem) → IsIn p (cons_option o ps) → (o ≡ Some p) ⊎ IsIn p ps
 in_next None ps p m = inr m
@@ -192,26 +172,19 @@ entry_of [] p m = elim m [ ]
 entry_of (e ∷ es) p m = ⊎_elim (λ is. (e, here, is)) (λ q. let r = entry_of es p q in (r.0, there r.1, r.2)) (in_next (stated e) (filter_map stated es) p m)
 
 -- The problems of an input of which nothing is refused are analysable.
-analysable_input : (fs : Forms) (es : List Entry) → faults_of fs ≡ [] → es ≡ input_of fs → (p : Problem) → IsIn p (filter_map stated es) → IsAnalysable p
-analysable_input fs es none same p listed =
-    let found = entry_of (input_of fs) p (rw same at listed) in
+pub analysable_problems : (fs : Forms) (es : List Entry) → IsInput fs (Ok es) → (p : Problem) → IsIn p (filter_map stated es) → IsAnalysable p
+analysable_problems fs es loaded p listed =
+    let found = entry_of (input_of fs) p (rw loaded.1 at listed) in
     record {
-      is_over = record { of_role = (wellformed.are_skeletons fs found.0 p none found.1 found.2).of_role };
-      own = wellformed.map_to_themselves fs found.0 p none found.1 found.2;
+      is_over = record { of_role = (wellformed.are_skeletons fs found.0 p loaded.0 found.1 found.2).of_role };
+      own = wellformed.map_to_themselves fs found.0 p loaded.0 found.1 found.2;
     }
-
-pub analysable_problems : (input : Input) (fs : List form.Form) → IsInput (views fs) (Ok (input_entries input)) → input.forms.now ≡ fs → length input.entries.items ≡ length fs → (p : Problem) → IsIn p (problems_of input.entries.items) → IsAnalysable p
-analysable_problems input fs loaded same counted p listed = analysable_input (views fs) (input_entries input) loaded.0 loaded.1 p (rw (sym (problems_in input fs same counted)) at listed)
-
-pub all_analysed : (limits : Limits) (input : Input) (fs : List form.Form) (ts : List Tree) → input.forms.now ≡ fs → length input.entries.items ≡ length fs → AllZip (IsAnalysisOf limits) (problems_of input.entries.items) ts
-    → HaveTrees (IsAnalysisOf limits) (input_entries input) ts
-all_analysed limits input fs ts same counted all = rw (sym (problems_in input fs same counted)) at all
 
 -- ---- outcomes
 
-pub listed_at : (ts : List ProgramTree) (i : ℕ) (t : ProgramTree) → i < length ts → t ≡ get_or ts i t → IsIn (tree_view t) (map tree_view ts)
+pub listed_at : (ts : List Tree) (i : ℕ) (t : Tree) → i < length ts → t ≡ get_or ts i t → IsIn t ts
 listed_at [] i t lt is = absurd (omega arith)
-listed_at (u ∷ ts) zero t lt is = subst (λ v. IsIn (tree_view t) (tree_view v ∷ map tree_view ts)) is here
+listed_at (u ∷ ts) zero t lt is = subst (λ v. IsIn t (v ∷ ts)) is here
 listed_at (u ∷ ts) (suc i) t lt is = there (listed_at ts i t (omega arith) is)
 
 complete_is : (o : Outcome) → is_complete o ≡ true → o ≡ complete
@@ -219,26 +192,26 @@ complete_is complete is = refl
 complete_is at_step_limit is = absurd (cc)
 complete_is at_strand_limit is = absurd (cc)
 
-pub incomplete : (ts : List ProgramTree) (i : ℕ) (t : ProgramTree) (b : Bool) → i < length ts → t ≡ get_or ts i t → b ≡ is_complete t.outcome → b ≡ false
-    → (u : Tree) × IsIn u (map tree_view ts) × (u.outcome ≡ complete → ⊥)
-incomplete ts i t b lt is test not = (tree_view t, listed_at ts i t lt is, λ done. let e : false ≡ true = sym not ∙ test ∙ ap is_complete done in cc)
+pub incomplete : (ts : List Tree) (i : ℕ) (t : Tree) (b : Bool) → i < length ts → t ≡ get_or ts i t → b ≡ is_complete t.outcome → b ≡ false
+    → (u : Tree) × IsIn u ts × (u.outcome ≡ complete → ⊥)
+incomplete ts i t b lt is test not = (t, listed_at ts i t lt is, λ done. let e : false ≡ true = sym not ∙ test ∙ ap is_complete done in cc)
 
 -- the trees before the one at i are complete
-abbrev pub AreCompleteBefore : List ProgramTree → ℕ → Type 0
-AreCompleteBefore ts i = (t : Tree) → IsIn t (map tree_view (take i ts)) → t.outcome ≡ complete
+abbrev pub AreCompleteBefore : List Tree → ℕ → Type 0
+AreCompleteBefore ts i = (t : Tree) → IsIn t (take i ts) → t.outcome ≡ complete
 
-pub none_before : (ts : List ProgramTree) → AreCompleteBefore ts 0
+pub none_before : (ts : List Tree) → AreCompleteBefore ts 0
 none_before ts t listed = elim listed [ ]
 
-next : (ts : List ProgramTree) (i : ℕ) (t : ProgramTree) → i < length ts → t ≡ get_or ts i t → t.outcome ≡ complete → AreCompleteBefore ts i → AreCompleteBefore ts (suc i)
+next : (ts : List Tree) (i : ℕ) (t : Tree) → i < length ts → t ≡ get_or ts i t → t.outcome ≡ complete → AreCompleteBefore ts i → AreCompleteBefore ts (suc i)
 next [] i t lt is done before v listed = absurd (omega arith)
 next (u ∷ ts) zero t lt is done before _ here = ap (λ v. v.outcome) (sym is) ∙ done
 next (u ∷ ts) zero t lt is done before v (there listed) = elim listed [ ]
-next (u ∷ ts) (suc i) t lt is done before _ here = before (tree_view u) here
+next (u ∷ ts) (suc i) t lt is done before _ here = before u here
 next (u ∷ ts) (suc i) t lt is done before v (there listed) = next ts i t (omega arith) is done (λ w m. before w (there m)) v listed
 
-pub complete_next : (ts : List ProgramTree) (i : ℕ) (t : ProgramTree) (b : Bool) → i < length ts → t ≡ get_or ts i t → b ≡ is_complete t.outcome → b ≡ true → AreCompleteBefore ts i → AreCompleteBefore ts (i + 1)
+pub complete_next : (ts : List Tree) (i : ℕ) (t : Tree) (b : Bool) → i < length ts → t ≡ get_or ts i t → b ≡ is_complete t.outcome → b ≡ true → AreCompleteBefore ts i → AreCompleteBefore ts (i + 1)
 complete_next ts i t b lt is test done before = rw add-one (next ts i t lt is (complete_is t.outcome (sym test ∙ done)) before)
 
-pub all_complete : (ts : List ProgramTree) (i : ℕ) → length ts ≤ i → AreCompleteBefore ts i → (t : Tree) → IsIn t (map tree_view ts) → t.outcome ≡ complete
+pub all_complete : (ts : List Tree) (i : ℕ) → length ts ≤ i → AreCompleteBefore ts i → (t : Tree) → IsIn t ts → t.outcome ≡ complete
 all_complete ts i h before t listed = before t (rw (sym (take_all i ts h)) at listed)

@@ -12,7 +12,7 @@ use Rattle.cp_tree.specs.Searched.{IsTreeOf}
 
 -- Each of the labels has fewer than 2^64 variables.
 abbrev pub HaveFewVariables : List Label → Type 0
-HaveFewVariables labels = (l : Label) → IsIn l labels → length l.variables < 2 ^ 64
+HaveFewVariables labels = (l : Label) → IsIn l labels → length l.skeleton.variables < 2 ^ 64
 
 -- A problem is a point-of-view skeleton over its protocol.
 pub record IsAnalysable (p : Problem) : Type 0 where

@@ -13,7 +13,6 @@ ghost use Rattle.cp_base.specs.declared.place.Refusal.{Refusal as RefusalData};
 ghost use Rattle.cp_base.specs.declared.status.Status.TheVariants.{Usage, Refused, ReadFault, WriteFault, Memory, TooLong};
 ghost use Rattle.cp_sexpr.specs.Syntax.{Forms};
 ghost use Rattle.cp_load.specs.Inputs.{input_entries};
-ghost use Rattle.cp_skel.specs.Trees.{tree_view};
 ghost use Rattle.cp_words.specs.declared.command.Command.{Command as CommandData};
 ghost use Rattle.cp_words.specs.CommandWords.{command_of};
 
@@ -58,7 +57,7 @@ fn print_by(
     text: &mut Vec<u8>,
     ends: &mut Vec<usize>,
 ) -> Result<(), AllocError>
-    ensures { OnOk result (text.new.items ≡ text.old.items ++ text_by name (input_entries input.now) (map tree_view trees.now)) }
+    ensures { OnOk result (text.new.items ≡ text.old.items ++ text_by name (input_entries input.now) trees.now) }
 {
     match name {
         CommandName::Analyse => print_pieces(alloc, input, trees, text, ends),

@@ -1,5 +1,5 @@
 -- An added listener, whose transmission is put before a node.
-use Rattle.std.proofs.Common.{◌≡◌, ℕ, ◌<◌, List, [], ◌∷◌, ◌++◌, length, map, Option, refl, sym, ap, ◌∙◌, subst, arith}
+use Rattle.std.proofs.Common.{◌≡◌, ℕ, ◌<◌, List, [], ◌∷◌, ◌++◌, length, Option, refl, sym, ap, ◌∙◌, subst, arith}
 use Rattle.cp_lists.specs.Lists.{item_at, one_step, more_steps}
 use Rattle.cp_lists.proofs.Items.{item_still, item_last}
 use Rattle.cp_model.specs.Term.{Term}
@@ -11,13 +11,12 @@ use Rattle.cp_model.specs.Skeleton.{SkeletonStrand, listener, skeleton_trace_or_
 use Rattle.cp_model.specs.declared.tree.Operation.TheVariants.{AddedListener as by_added_listener}
 use Rattle.cp_theory.specs.Critical.{IsTest}
 use Rattle.cp_model.specs.Extensions.{AddsListener}
-use Rattle.cp_model.specs.Data.{SkeletonData}
 use Rattle.cp_skel.specs.Sound.{IsSound}
-use Rattle.cp_skel.specs.View.{skeleton_view}
+use Rattle.cp_skel.specs.Tables.{HaveTable}
 use Rattle.cp_model.specs.declared.step.Step.{Step}
 use Rattle.cp_theory.specs.Covering.{put_before}
 use Rattle.cp_normal.specs.Exact.{HasForms}
-use Rattle.cp_cohort.specs.CoveringChildren.{Child, child}
+use Rattle.cp_cohort.specs.CoveringChildren.{Child}
 use Rattle.cp_cohort.specs.Cohort.{GuardedTest, Listens}
 use Rattle.cp_cohort.specs.Children.{AreChildrenOfForms}
 use Rattle.cp_cohort.proofs.GrownReleases.{event_stays, strand_there}
@@ -57,14 +56,15 @@ module _ (q : GuardedTest) (t : Term) (test : IsTest q.skeleton q.node q.critica
     pub none_before : Before heard q.node (node_at place 1) → ⊥
     none_before b = let same : q.node.strand ≡ place = stays b refl in absurd (omega (arith, below, same))
 
-  pub listened : (added put : Skeleton) (vs : List Declaration) → AddsListener t q.skeleton added → put ≡ put_before (node_at place 1) q.node added → vs ≡ q.variables → (cs : List Child) →
-      AreChildrenOfForms vs (by_added_listener place) [] put cs → Listens q t cs
-  listened added put vs adds same variables cs f = record {
+  pub listened : (added put : Skeleton) → AddsListener t q.skeleton added → put ≡ put_before (node_at place 1) q.node added → (cs : List Child) →
+      AreChildrenOfForms (by_added_listener place) [] put cs → Listens q t cs
+  listened added put adds same cs f = record {
     added = added;
     adds = adds;
     forms = f.forms;
     normal = subst (λ (k : Skeleton). HasForms k f.forms) same f.normal;
-    are_children = f.are_children ∙ ap (λ (ds : List Declaration). map (child ds (by_added_listener place) []) f.forms) variables;
+    table = subst (λ (ds : List Declaration). HaveTable ds f.forms) (ap (λ (k : Skeleton). k.variables) same ∙ ap (λ (k : Skeleton). k.variables) adds) f.table;
+    are_children = f.are_children;
   }
 
   module _ (n : ℕ) (number : n ≡ place) (added : Skeleton) (adds : AddsListener t q.skeleton added) where
@@ -80,13 +80,13 @@ module _ (q : GuardedTest) (t : Term) (test : IsTest q.skeleton q.node q.critica
     never_refused sound b =
         none_before sound (subst (λ (k : Skeleton). Before k q.node (node_at place 1)) adds (subst (λ (m : ℕ). Before added q.node (record { strand = m; index = 1 })) number b))
 
-    pub listened_at : (path : List Step) → path ≡ [] → (put : Skeleton) (vs : List Declaration) → put ≡ put_before sent q.node added → vs ≡ q.variables → (cs : List Child) → AreChildrenOfForms vs (by_added_listener n) path put cs → Listens q t cs
-    listened_at path none put vs same variables cs f =
-        let at_number : AreChildrenOfForms vs (by_added_listener place) path put cs = subst (λ (m : ℕ). AreChildrenOfForms vs (by_added_listener m) path put cs) number f in
-        let at_start : AreChildrenOfForms vs (by_added_listener place) [] put cs = subst (λ (p : List Step). AreChildrenOfForms vs (by_added_listener place) p put cs) none at_number in
-        listened added put vs adds (same ∙ ap (λ (m : ℕ). put_before (record { strand = m; index = 1 }) q.node added) number) variables cs at_start
+    pub listened_at : (path : List Step) → path ≡ [] → (put : Skeleton) → put ≡ put_before sent q.node added → (cs : List Child) → AreChildrenOfForms (by_added_listener n) path put cs → Listens q t cs
+    listened_at path none put same cs f =
+        let at_number : AreChildrenOfForms (by_added_listener place) path put cs = subst (λ (m : ℕ). AreChildrenOfForms (by_added_listener m) path put cs) number f in
+        let at_start : AreChildrenOfForms (by_added_listener place) [] put cs = subst (λ (p : List Step). AreChildrenOfForms (by_added_listener place) p put cs) none at_number in
+        listened added put adds (same ∙ ap (λ (m : ℕ). put_before (record { strand = m; index = 1 }) q.node added) number) cs at_start
 
 -- The listener that is added in a copy.
-pub listener_added : (k copied new : SkeletonData) (t message : Term) → copied ≡ k → message ≡ t → AddsListener message (skeleton_view copied) (skeleton_view new) → AddsListener t (skeleton_view k) (skeleton_view new)
+pub listener_added : (k copied new : Skeleton) (t message : Term) → copied ≡ k → message ≡ t → AddsListener message copied new → AddsListener t k new
 listener_added k copied new t message same is adds =
-    adds ∙ ap (λ (z : SkeletonData). record (skeleton_view z) { strands = (skeleton_view z).strands ++ listener message ∷ [] }) same ∙ ap (λ (u : Term). record (skeleton_view k) { strands = (skeleton_view k).strands ++ listener u ∷ [] }) is
+    adds ∙ ap (λ (z : Skeleton). record z { strands = z.strands ++ listener message ∷ [] }) same ∙ ap (λ (u : Term). record k { strands = k.strands ++ listener u ∷ [] }) is

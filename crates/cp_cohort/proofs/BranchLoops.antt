@@ -2,15 +2,10 @@
 use Rattle.std.proofs.Common.{append_assoc, ◌≡◌, ℕ, ◌+◌, ◌<◌, ◌≤◌, List, [], ◌∷◌, ◌++◌, length, get_or, take, map, sym, ap, ◌∙◌, subst}
 use Rattle.std.proofs.lemmas.List.{take_more, take_all, map-append, append-nil}
 use Rattle.cp_model.specs.Term.{Term, Substitution}
-use Rattle.cp_model.specs.Skeleton.{Skeleton}
 use Rattle.cp_model.specs.Tree.{Pattern}
-use Rattle.cp_theory.specs.Normal.{skeleton_under}
-use Rattle.cp_collapse.specs.SameSkeletons.{SaysTheSame}
 use Rattle.cp_pattern.specs.Unifiers.{UnifiesMostGenerally, NeverEqual}
 use Rattle.cp_cohort.specs.Releases.{PartialSolution}
-use Rattle.cp_cohort.specs.Stages.{Choice, choices, pattern_in, branch_of}
-use Rattle.cp_cohort.specs.ReleaseViews.{partial_solution_view}
-use Rattle.cp_cohort.specs.declared.release.PartialSolution as program
+use Rattle.cp_cohort.specs.Stages.{Choice, choices, pattern_in, IsNextUnder}
 use Rattle.cp_cohort.specs.declared.candidates.Candidate.{Candidate}
 use Rattle.cp_cohort.specs.declared.candidates.Candidate.TheVariants.{OnTheWay}
 use Rattle.cp_cohort.specs.Candidates.{choice_of, AreBranchesByChoices, none_tried, no_branch, branch_by, PutsBranches}
@@ -19,7 +14,7 @@ module _ (x : PartialSolution) where
   more_branches : {cs : List Choice} {made : List Candidate} → AreBranchesByChoices x cs made → (ds : List Choice) (bs : List Candidate) → AreBranchesByChoices x ds bs → AreBranchesByChoices x (cs ++ ds) (made ++ bs)
   more_branches none_tried ds bs more = more
   more_branches (no_branch never rest) ds bs more = no_branch never (more_branches rest ds bs more)
-  more_branches (branch_by m same is rest) ds bs more = branch_by m same is (more_branches rest ds bs more)
+  more_branches (branch_by m next rest) ds bs more = branch_by m next (more_branches rest ds bs more)
 
   -- What is put by some choices, and then by others, is put by both.
   pub puts_then : (cs ds : List Choice) (old mid new : List Candidate) → PutsBranches x cs old mid → PutsBranches x ds mid new → PutsBranches x (cs ++ ds) old new
@@ -35,9 +30,8 @@ module _ (x : PartialSolution) where
   pub never_put : (e : Term) (p : Pattern) (old : List Candidate) → NeverEqual e (pattern_in x p) → PutsBranches x (choice_of e p ∷ []) old old
   never_put e p old never = record { added = []; behind = sym (append-nil old); are = no_branch never none_tried }
 
-  pub branch_put : (e : Term) (p : Pattern) (u : Substitution) (l : Skeleton) (y : program.PartialSolution) (old new : List Candidate) → UnifiesMostGenerally e (pattern_in x p) u → SaysTheSame (skeleton_under u x.skeleton) l →
-      partial_solution_view y ≡ branch_of x p u l → new ≡ old ++ OnTheWay y ∷ [] → PutsBranches x (choice_of e p ∷ []) old new
-  branch_put e p u l y old new m same is behind = record { added = OnTheWay y ∷ []; behind = behind; are = branch_by m same is none_tried }
+  pub branch_put : (e : Term) (p : Pattern) (u : Substitution) (y : PartialSolution) (old new : List Candidate) → UnifiesMostGenerally e (pattern_in x p) u → IsNextUnder x p u y → new ≡ old ++ OnTheWay y ∷ [] → PutsBranches x (choice_of e p ∷ []) old new
+  branch_put e p u y old new m next behind = record { added = OnTheWay y ∷ []; behind = behind; are = branch_by m next none_tried }
 
   -- ---- pattern by pattern
 

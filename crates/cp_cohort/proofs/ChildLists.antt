@@ -8,8 +8,7 @@ use Rattle.cp_lists.specs.Lists.{item_at}
 use Rattle.cp_lists.proofs.Items.{take_to_item}
 use Rattle.cp_cohort.specs.GatheredLists.{EachGives, nothing_given, then_given}
 use Rattle.cp_cohort.specs.CoveringChildren.{Child}
-use Rattle.cp_cohort.specs.declared.child.Child as program
-use Rattle.cp_cohort.specs.Views.{child_view, PutsChildren}
+use Rattle.cp_cohort.specs.Views.{PutsChildren}
 
 -- ---- what items give
 
@@ -29,24 +28,24 @@ module _ {A B : Type 0} (gives : A → List B → Type 0) where
 
 -- ---- what is put
 
-pub puts_other : {P Q : List Child → Type 0} (old new : List program.Child) → ((cs : List Child) → P cs → Q cs) → PutsChildren P old new → PutsChildren Q old new
+pub puts_other : {P Q : List Child → Type 0} (old new : List Child) → ((cs : List Child) → P cs → Q cs) → PutsChildren P old new → PutsChildren Q old new
 puts_other old new f p = record { added = p.added; behind = p.behind; given = f p.added p.given }
 
-pub puts_nothing : {P : List Child → Type 0} (old : List program.Child) → P [] → PutsChildren P old old
-puts_nothing old p = record { added = []; behind = sym (append-nil (map child_view old)); given = p }
+pub puts_nothing : {P : List Child → Type 0} (old : List Child) → P [] → PutsChildren P old old
+puts_nothing old p = record { added = []; behind = sym (append-nil old); given = p }
 
 module _ {A : Type 0} (gives : A → List Child → Type 0) (xs : List A) where
-  pub puts_first : (old : List program.Child) → PutsChildren (EachGives gives (take 0 xs)) old old
+  pub puts_first : (old : List Child) → PutsChildren (EachGives gives (take 0 xs)) old old
   puts_first old = puts_nothing old nothing_given
 
-  pub puts_next : (i : ℕ) (x : A) → item_at xs i ≡ Some x → (old mid new : List program.Child) → PutsChildren (EachGives gives (take i xs)) old mid → PutsChildren (gives x) mid new → PutsChildren (EachGives gives (take (i + 1) xs)) old new
+  pub puts_next : (i : ℕ) (x : A) → item_at xs i ≡ Some x → (old mid new : List Child) → PutsChildren (EachGives gives (take i xs)) old mid → PutsChildren (gives x) mid new → PutsChildren (EachGives gives (take (i + 1) xs)) old new
   puts_next i x e old mid new p q = record {
     added = p.added ++ q.added;
-    behind = q.behind ∙ ap (λ zs. zs ++ q.added) p.behind ∙ append_assoc (map child_view old) p.added q.added;
+    behind = q.behind ∙ ap (λ zs. zs ++ q.added) p.behind ∙ append_assoc old p.added q.added;
     given = subst (λ zs. EachGives gives zs (p.added ++ q.added)) (sym (ap (λ n. take n xs) (add-one i) ∙ take_to_item xs i x e)) (one_more gives x q.added p.given q.given);
   }
 
-  pub puts_last : (n : ℕ) → length xs ≤ n → (old new : List program.Child) → PutsChildren (EachGives gives (take n xs)) old new → PutsChildren (EachGives gives xs) old new
+  pub puts_last : (n : ℕ) → length xs ≤ n → (old new : List Child) → PutsChildren (EachGives gives (take n xs)) old new → PutsChildren (EachGives gives xs) old new
   puts_last n h old new p = puts_other old new (λ cs e. subst (λ zs. EachGives gives zs cs) (take_all n xs h) e) p
 
 -- ---- numbers

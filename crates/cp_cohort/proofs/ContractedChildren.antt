@@ -15,19 +15,16 @@ use Rattle.cp_pattern.specs.Candidates.{may_equal}
 use Rattle.cp_pattern.specs.Unifiers.{UnifiesMostGenerally}
 use Rattle.cp_pattern.proofs.DifferentTerms as differing
 use Rattle.cp_skel.proofs.EventLists.{listed_event}
-use Rattle.cp_model.specs.Data.{SkeletonData}
 use Rattle.cp_skel.specs.Events.{events_of}
+use Rattle.cp_skel.specs.Tables.{HaveTable}
 use Rattle.cp_skel.specs.declared.events.LocatedEvent.{LocatedEvent}
-use Rattle.cp_skel.specs.View.{skeleton_view}
 use Rattle.cp_model.specs.declared.step.Step.{Step}
 use Rattle.cp_model.specs.Positions.{term_at, positions_where}
-use Rattle.cp_lists.proofs.Mapped.{map_then, map_alike}
 use Rattle.cp_cohort.specs.GatheredLists.{EachGives, nothing_given, then_given, AreThoseWith, none_left, taken, left_out}
 use Rattle.cp_cohort.specs.CoveringChildren.{Child, child, IsTransmissionBefore}
 use Rattle.cp_cohort.specs.Cohort.{GuardedTest, positions, Contracts, never_equal, unified, AreContracted}
 use Rattle.cp_cohort.specs.Children.{AreChildrenOfForms, ContractsEvent, not_before, is_before}
-use Rattle.cp_cohort.specs.Views.{child_view, child_of, PutsChildren}
-use Rattle.cp_cohort.specs.declared.child.Child as program_child
+use Rattle.cp_cohort.specs.Views.{PutsChildren}
 use Rattle.cp_cohort.proofs.Positions.{wider}
 use Rattle.cp_model.specs.Tree.{Pattern}
 use Rattle.cp_model.specs.declared.tree.Operation.{Operation}
@@ -38,20 +35,16 @@ pub listed_node : (k : Skeleton) (o : LocatedEvent) → IsIn o (events_of k) →
 listed_node k o i = (o.event, listed_event k o i)
 
 -- Normal forms with the variables of a skeleton are children of it.
-pub forms_put : (k : SkeletonData) (ks : List SkeletonData) (operation : Operation) (path : List Step) (old new : List program_child.Child) → ((r : SkeletonData) → IsIn r ks → r.variables ≡ k.variables) →
-    HasForms (skeleton_view k) (map skeleton_view ks) → map child_view new ≡ map child_view old ++ map (child_of operation path) ks → PutsChildren (AreChildrenOfForms k.variables operation path (skeleton_view k)) old new
-forms_put k ks operation path old new same forms p =
-    let each : map (child_of operation path) ks ≡ map (λ r. child k.variables operation path (skeleton_view r)) ks =
-    map_alike (child_of operation path) (λ r. child k.variables operation path (skeleton_view r)) ks (λ r i. ap (λ vs. child vs operation path (skeleton_view r)) (same r i)) in
-    let parts : map (λ r. child k.variables operation path (skeleton_view r)) ks ≡ map (child k.variables operation path) (map skeleton_view ks) =
-    map_then skeleton_view (child k.variables operation path) (λ r. child k.variables operation path (skeleton_view r)) (λ r. refl) ks in
-    record { added = map (child_of operation path) ks; behind = p; given = record { forms = map skeleton_view ks; normal = forms; are_children = each ∙ parts } }
+pub forms_put : (k : Skeleton) (ks : List Skeleton) (operation : Operation) (path : List Step) (old new : List Child) → HaveTable k.variables ks →
+    HasForms k ks → new ≡ old ++ map (child operation path) ks → PutsChildren (AreChildrenOfForms operation path k) old new
+forms_put k ks operation path old new table forms p =
+    record { added = map (child operation path) ks; behind = p; given = record { forms = ks; normal = forms; table = table; are_children = refl } }
 
 module _ (q : GuardedTest) (o : LocatedEvent) where
-  pub contracted_by : (path : List Step) (t : Term) (s : Substitution) (l : Skeleton) (vs : List Declaration) → (IsInside q.patterns unchanged (payload o.event) path → ⊥) → term_at (payload o.event) path ≡ Some t → t ≢ q.critical →
-      UnifiesMostGenerally t q.critical s → SaysTheSame (skeleton_under s q.skeleton) l → vs ≡ q.variables → (cs : List Child) → AreChildrenOfForms vs (by_contraction o.node) path l cs → Contracts q o path cs
-  contracted_by path t s l vs outside at other u same variables cs f =
-      subst (Contracts q o path) (sym (f.are_children ∙ ap (λ ds. map (child ds (by_contraction o.node) path) f.forms) variables)) (unified outside at other u same f.normal)
+  pub contracted_by : (path : List Step) (t : Term) (s : Substitution) (l : Skeleton) → (IsInside q.patterns unchanged (payload o.event) path → ⊥) → term_at (payload o.event) path ≡ Some t → t ≢ q.critical →
+      UnifiesMostGenerally t q.critical s → SaysTheSame (skeleton_under s q.skeleton) l → l.variables ≡ q.skeleton.variables → (cs : List Child) → AreChildrenOfForms (by_contraction o.node) path l cs → Contracts q o path cs
+  contracted_by path t s l outside at other u same variables cs f =
+      subst (Contracts q o path) (sym f.are_children) (unified outside at other u same f.normal (subst (λ (ds : List Declaration). HaveTable ds f.forms) variables f.table))
 
   others_never : (path : List Step) (u : Term) → term_at (payload o.event) path ≡ Some u → may_equal q.critical u ≡ false → Contracts q o path []
   others_never path u at fails = never_equal at (differing.never_equal q.critical u fails)

@@ -3,9 +3,9 @@ use Rattle.std.proofs.Common.{◌≡◌, ◌≢◌, ℕ, List, [], ◌++◌, len
 use Rattle.cp_lists.specs.Lists.{item_at, IsIn}
 use Rattle.cp_lists.proofs.Members.{not_in_none, only_item, in_append, from_map}
 use Rattle.cp_model.specs.Term.{Term, Substitution}
+use Rattle.cp_model.specs.Bindings.{Binding}
 use Rattle.cp_model.specs.Strand.{payload, Role, Protocol}
 use Rattle.cp_model.specs.declared.strand.Event.TheVariants.{Send as send}
-use Rattle.cp_model.specs.declared.variable.Declaration.{Declaration}
 use Rattle.cp_model.specs.Bundle.{node_at}
 use Rattle.cp_model.specs.declared.node.Node.{Node}
 use Rattle.cp_model.specs.Skeleton.{instance, term_event_at, Skeleton, Before}
@@ -19,11 +19,12 @@ use Rattle.cp_collapse.specs.SameSkeletons.{SaysTheSame}
 use Rattle.cp_normal.specs.Exact.{HasForms}
 use Rattle.cp_model.specs.Extensions.{AddsListener}
 use Rattle.cp_skel.specs.Events.{events_of}
+use Rattle.cp_skel.specs.Tables.{HaveTable}
 use Rattle.cp_skel.specs.declared.events.LocatedEvent.{LocatedEvent}
 use Rattle.cp_theory.specs.Covering.{put_before}
 use Rattle.cp_pattern.specs.Unifiers.{UnifiesMostGenerally}
 use Rattle.cp_cohort.specs.Releases.{Release, PartialSolution}
-use Rattle.cp_cohort.specs.Stages.{SolvesRelease, on_the_way}
+use Rattle.cp_cohort.specs.Stages.{IsFirstUnder, SolvesRelease, on_the_way}
 use Rattle.cp_cohort.specs.GatheredLists.{terms_onto}
 use Rattle.cp_cohort.specs.CoveringChildren.{Child, child, IsTransmissionBefore, HasGrown}
 use Rattle.cp_cohort.specs.Cohort.{GuardedTest, Contracts, AreContracted, release_at, DisplacesEvent, DisplacesStrand, AddsAt, AddsEvent, FreesCritical, by_key, by_body, by_nothing, OpensPattern, Listens, AreListeners, IsCohort, is_before, is_displaced, is_added, of_listener, of_node, of_role, is_inside, is_critical, cyclic}
@@ -59,29 +60,29 @@ pub record ComesOfContracting (q : GuardedTest) (o : LocatedEvent) (path : List 
   pub unifies : UnifiesMostGenerally term q.critical unifier
   pub same : SaysTheSame (skeleton_under unifier q.skeleton) under
   pub has : HasForms under forms
+  pub table : HaveTable q.skeleton.variables forms
   pub listed : IsIn r forms
 
 -- The partial solution comes from the grown skeleton, put before the node, under a most general unifier of what stands there.
-pub record ComesOfReleasing (q : GuardedTest) (variables : List Declaration) (release : Release) (grown : Skeleton) (x : PartialSolution) : Type 0 where
+pub record ComesOfReleasing (q : GuardedTest) (release : Release) (grown : Skeleton) (x : PartialSolution) : Type 0 where
   pub message : Term
   pub term : Term
   pub unifier : Substitution
-  pub under : Skeleton
+  pub first : PartialSolution
   pub settled : List PartialSolution
   pub acyclic : (y : Node) → Before (put_before (node_at release.strand release.index) q.node grown) y y → ⊥
   pub sent : term_event_at grown.strands (node_at release.strand release.index) ≡ Some (send message)
   pub at : term_at message release.path ≡ Some term
   pub unifies : UnifiesMostGenerally term q.critical unifier
-  pub same : SaysTheSame (skeleton_under unifier (put_before (node_at release.strand release.index) q.node grown)) under
-  pub settles : SolvesRelease release on_the_way (record { variables = variables; substitution = unifier; skeleton = under }) settled
+  pub is_first : IsFirstUnder (put_before (node_at release.strand release.index) q.node grown) unifier first
+  pub settles : SolvesRelease release on_the_way first settled
   pub listed : IsIn x settled
 
 -- What a position of event j gives, where strand s is made high enough to have the event.
 pub record DisplacesAt (q : GuardedTest) (s : ℕ) (role : Role) (height j : ℕ) (path : List Step) (children : List Child) : Type 0 where
-  pub variables : List Declaration
   pub grown : Skeleton
-  pub grows : HasGrown s role height j q.variables q.skeleton variables grown
-  pub releases : cohort.Releases q variables (by_displacement (node_at s j)) (release_at q s j path) grown children
+  pub grows : HasGrown s role height j q.skeleton grown
+  pub releases : cohort.Releases q (by_displacement (node_at s j)) (release_at q s j path) grown children
 
 -- The skeleton is a normal form of the test's with a listener, put before the node.
 pub record ComesOfListening (q : GuardedTest) (t : Term) (r : Skeleton) : Type 0 where
@@ -89,41 +90,42 @@ pub record ComesOfListening (q : GuardedTest) (t : Term) (r : Skeleton) : Type 0
   pub adds : AddsListener t q.skeleton added
   pub forms : List Skeleton
   pub normal : HasForms (put_before (node_at (length q.skeleton.strands) 1) q.node added) forms
+  pub table : HaveTable q.skeleton.variables forms
   pub listed : IsIn r forms
 
 module _ (q : GuardedTest) (P : Child → Type 0) where
   -- A property of children that holds of each normal form holds of what a position gives.
-  pub of_contracted : (o : LocatedEvent) (path : List Step) → ((r : Skeleton) → ComesOfContracting q o path r → P (child q.variables (by_contraction o.node) path r)) →
+  pub of_contracted : (o : LocatedEvent) (path : List Step) → ((r : Skeleton) → ComesOfContracting q o path r → P (child (by_contraction o.node) path r)) →
       (children : List Child) → Contracts q o path children → (d : Child) → IsIn d children → P d
   of_contracted o path holds children (is_inside inside) d i = absurd (not_in_none i)
   of_contracted o path holds children (is_critical at) d i = absurd (not_in_none i)
   of_contracted o path holds children (cohort.never_equal at never) d i = absurd (not_in_none i)
-  of_contracted o path holds children (cohort.unified {t = t} {s = s} {l = l} {forms = forms} outside at ne unifies same has) d i =
-      let m = from_map (child q.variables (by_contraction o.node) path) forms i in
-      subst P m.2 (holds m.0 (record { term = t; unifier = s; under = l; forms = forms; at = at; unifies = unifies; same = same; has = has; listed = m.1 }))
+  of_contracted o path holds children (cohort.unified {t = t} {s = s} {l = l} {forms = forms} outside at ne unifies same has table) d i =
+      let m = from_map (child (by_contraction o.node) path) forms i in
+      subst P m.2 (holds m.0 (record { term = t; unifier = s; under = l; forms = forms; at = at; unifies = unifies; same = same; has = has; table = table; listed = m.1 }))
 
   -- A property of children that holds of what solves the release holds of what a grown skeleton gives.
-  pub of_released : (variables : List Declaration) (operation : Operation) (release : Release) (grown : Skeleton) →
-      ((x : PartialSolution) → ComesOfReleasing q variables release grown x → P (child x.variables operation release.path x.skeleton)) →
-      (children : List Child) → cohort.Releases q variables operation release grown children → (d : Child) → IsIn d children → P d
-  of_released variables operation release grown holds children (cyclic before) d i = absurd (not_in_none i)
-  of_released variables operation release grown holds children (cohort.never_equal sent at never) d i = absurd (not_in_none i)
-  of_released variables operation release grown holds children (cohort.unified {t = t} {u = u} {s = s} {l = l} {settled = settled} none sent at unifies same settles) d i =
-      let o = from_map (λ (x : PartialSolution). child x.variables operation release.path x.skeleton) settled i in
-      subst P o.2 (holds o.0 (record { message = t; term = u; unifier = s; under = l; settled = settled; acyclic = none; sent = sent; at = at; unifies = unifies; same = same; settles = settles; listed = o.1 }))
+  pub of_released : (operation : Operation) (release : Release) (grown : Skeleton) →
+      ((x : PartialSolution) → ComesOfReleasing q release grown x → P (child operation release.path x.skeleton)) →
+      (children : List Child) → cohort.Releases q operation release grown children → (d : Child) → IsIn d children → P d
+  of_released operation release grown holds children (cyclic before) d i = absurd (not_in_none i)
+  of_released operation release grown holds children (cohort.never_equal sent at never) d i = absurd (not_in_none i)
+  of_released operation release grown holds children (cohort.unified {t = t} {u = u} {s = s} {x = x} {settled = settled} none sent at unifies is_first settles) d i =
+      let o = from_map (λ (x : PartialSolution). child operation release.path x.skeleton) settled i in
+      subst P o.2 (holds o.0 (record { message = t; term = u; unifier = s; first = x; settled = settled; acyclic = none; sent = sent; at = at; unifies = unifies; is_first = is_first; settles = settles; listed = o.1 }))
 
   -- A property of children that holds of each normal form holds of what a listener gives.
-  pub of_listened : (t : Term) → ((r : Skeleton) → ComesOfListening q t r → P (child q.variables (by_added_listener (length q.skeleton.strands)) [] r)) →
+  pub of_listened : (t : Term) → ((r : Skeleton) → ComesOfListening q t r → P (child (by_added_listener (length q.skeleton.strands)) [] r)) →
       (children : List Child) → Listens q t children → (d : Child) → IsIn d children → P d
   of_listened t holds children l d i =
-      let m = from_map (child q.variables (by_added_listener (length q.skeleton.strands)) []) l.forms (subst (IsIn d) l.are_children i) in
-      subst P m.2 (holds m.0 (record { added = l.added; adds = l.adds; forms = l.forms; normal = l.normal; listed = m.1 }))
+      let m = from_map (child (by_added_listener (length q.skeleton.strands)) []) l.forms (subst (IsIn d) l.are_children i) in
+      subst P m.2 (holds m.0 (record { added = l.added; adds = l.adds; forms = l.forms; normal = l.normal; table = l.table; listed = m.1 }))
 
 module _ (protocol : Protocol) (q : GuardedTest) (P : Child → Type 0) where
   -- The property holds of what each position of an event gives, and of what each listener does.
   pub record HoldsOfGiven : Type 0 where
     pub contracted : (o : LocatedEvent) → IsIn o (events_of q.skeleton) → IsTransmissionBefore q.skeleton q.node o → (path : List Step) (children : List Child) → Contracts q o path children → (d : Child) → IsIn d children → P d
-    pub displaced : (s : ℕ) (role : Role) (height : ℕ) (terms : Substitution) → item_at q.skeleton.strands s ≡ Some (instance role height terms) → s ≢ q.node.strand → (j : ℕ) (t : Term) → item_at role.trace j ≡ Some (send t)
+    pub displaced : (s : ℕ) (role : Role) (height : ℕ) (terms : List Binding) → item_at q.skeleton.strands s ≡ Some (instance role height terms) → s ≢ q.node.strand → (j : ℕ) (t : Term) → item_at role.trace j ≡ Some (send t)
         → (Before q.skeleton (node_at s j) q.node → ⊥) → (path : List Step) (children : List Child) → DisplacesAt q s role height j path children → (d : Child) → IsIn d children → P d
     pub added : (role : Role) → IsIn role protocol.roles → (j : ℕ) (t : Term) → item_at role.trace j ≡ Some (send t) → (path : List Step) (children : List Child) → AddsAt q role j path children → (d : Child) → IsIn d children → P d
     pub listened : (t : Term) → SetsFree q t → (children : List Child) → Listens q t children → (d : Child) → IsIn d children → P d
@@ -136,13 +138,13 @@ module _ (protocol : Protocol) (q : GuardedTest) (P : Child → Type 0) where
         let has = those_have are.before event.giver event.listed in
         holds.contracted event.giver has.0 has.1 path.giver path.given path.gives_it d path.among
 
-    displaced_event : (s : ℕ) (role : Role) (height : ℕ) (terms : Substitution) → item_at q.skeleton.strands s ≡ Some (instance role height terms) → s ≢ q.node.strand → (j : ℕ) (children : List Child) → DisplacesEvent q s role height j children
+    displaced_event : (s : ℕ) (role : Role) (height : ℕ) (terms : List Binding) → item_at q.skeleton.strands s ≡ Some (instance role height terms) → s ≢ q.node.strand → (j : ℕ) (children : List Child) → DisplacesEvent q s role height j children
         → (d : Child) → IsIn d children → P d
     displaced_event s role height terms on apart j children (cohort.is_reception there_is) d i = absurd (not_in_none i)
     displaced_event s role height terms on apart j children (is_before before) d i = absurd (not_in_none i)
-    displaced_event s role height terms on apart j children (is_displaced {t = t} {variables = variables} {grown = grown} there_is none grows sends each) d i =
+    displaced_event s role height terms on apart j children (is_displaced {t = t} {grown = grown} there_is none grows sends each) d i =
         let one = given each d i in
-        holds.displaced s role height terms on apart j t there_is none one.giver one.given (record { variables = variables; grown = grown; grows = grows; releases = one.gives_it }) d one.among
+        holds.displaced s role height terms on apart j t there_is none one.giver one.given (record { grown = grown; grows = grows; releases = one.gives_it }) d one.among
 
     displaced_strand : (s : ℕ) (children : List Child) → DisplacesStrand q s children → (d : Child) → IsIn d children → P d
     displaced_strand s children (of_listener there_is) d i = absurd (not_in_none i)

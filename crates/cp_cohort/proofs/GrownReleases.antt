@@ -3,14 +3,13 @@ use Rattle.std.proofs.Common.{◌≡◌, ◌≢◌, ℕ, suc, ◌<◌, List, [],
 use Rattle.std.specs.Borrow.{Bor}
 use Rattle.cp_lists.specs.Lists.{item_at, one_step}
 use Rattle.cp_lists.proofs.Items.{item_still, item_last, item_below, item_of_read}
-use Rattle.cp_lists.proofs.Mapped.{map_then}
 use Rattle.cp_lists.proofs.Members.{in_append_left, in_last}
 use Rattle.cp_lists.proofs.Reached.{steps_append}
 use Rattle.cp_model.specs.Term.{Term, Substitution, apply_to}
+use Rattle.cp_model.specs.Bindings.{Binding, as_substitution}
 use Rattle.cp_model.specs.Strand.{Role}
 use Rattle.cp_model.specs.declared.strand.Event.{Event}
 use Rattle.cp_model.specs.declared.strand.Event.TheVariants.{Send as send, Receive as recv}
-use Rattle.cp_model.specs.declared.variable.Declaration.{Declaration}
 use Rattle.cp_model.specs.Bundle.{node_at}
 use Rattle.cp_model.specs.declared.node.Node.{Node}
 use Rattle.cp_model.specs.Skeleton.{SkeletonStrand, instance, listener, skeleton_trace_or_none, term_event_at, Skeleton, Before, along_pair, IsOrderPair}
@@ -19,16 +18,12 @@ use Rattle.cp_model.specs.declared.tree.Operation.TheVariants.{Displaced as by_d
 use Rattle.cp_model.proofs.LawOrder.{before_wider}
 use Rattle.cp_model.proofs.LawStandings.{event_of_higher}
 use Rattle.cp_theory.specs.Critical.{IsTest}
-use Rattle.cp_theory.specs.Normal.{skeleton_under}
-use Rattle.cp_collapse.specs.SameSkeletons.{SaysTheSame}
 use Rattle.cp_pattern.specs.Candidates.{may_equal}
 use Rattle.cp_pattern.specs.Unifiers.{UnifiesMostGenerally, NeverEqual}
 use Rattle.cp_pattern.proofs.DifferentTerms as differing
 use Rattle.cp_model.specs.Extensions.{AddsStrand, Extends}
-use Rattle.cp_model.specs.Data.{SkeletonData, InstanceData, StrandData}
+use Rattle.cp_strand.specs.View.{InstanceData}
 use Rattle.cp_skel.specs.Ordered.{ChangesOrderOnly}
-use Rattle.cp_skel.specs.View.{skeleton_view}
-use Rattle.cp_strand.specs.View.{strand_view}
 use Rattle.cp_strand.specs.Shapes.{strand_of_shape}
 use Rattle.cp_strand.specs.declared.strand.StrandShape.{StrandShape}
 use Rattle.cp_strand.specs.declared.strand.StrandShape.TheVariants.{Instance, Listener}
@@ -38,15 +33,12 @@ use Rattle.cp_model.specs.Positions.{term_at, positions_where}
 use Rattle.cp_theory.specs.Covering.{put_before}
 use Rattle.cp_theory.specs.Fresh.{fresh_terms}
 use Rattle.cp_cohort.specs.Releases.{PartialSolution}
-use Rattle.cp_cohort.specs.Stages.{SolvesRelease, on_the_way}
-use Rattle.cp_cohort.specs.ReleaseViews.{partial_solution_view}
-use Rattle.cp_cohort.specs.declared.release.PartialSolution as program
+use Rattle.cp_cohort.specs.Stages.{IsFirstUnder, SolvesRelease, on_the_way}
 use Rattle.cp_cohort.specs.GatheredLists.{EachGives, nothing_given, then_given}
 use Rattle.cp_cohort.specs.CoveringChildren.{Child, child, declarations_among, HasGrown}
 use Rattle.cp_cohort.specs.Cohort.{GuardedTest, positions, cyclic, never_equal, unified, release_at, DisplacesEvent, is_displaced, AddsAt, AddsEvent, is_added}
 use Rattle.cp_cohort.proofs.GrownEvents.{Sends, grown_sends}
 use Rattle.cp_cohort.specs.Children.{ReleasesAt, ReleasesEach, ReleasesPut}
-use Rattle.cp_cohort.specs.Views.{settled_child}
 use Rattle.cp_cohort.proofs.ChildLists.{each_nothing}
 use Rattle.cp_cohort.proofs.Positions.{wider, positions_under}
 
@@ -63,41 +55,37 @@ module _ (m n : Node) (k : Skeleton) where
       steps_append (before_wider k (put_before m n k) refl (λ p i. in_append_left (record { earlier = m; later = n } ∷ []) i) b) (one_step (along_pair (in_last k.pairs (record { earlier = m; later = n }))))
 
 -- A skeleton with one more pair.
-pub put_there : (old new : SkeletonData) (m n : Node) → ChangesOrderOnly old new → (skeleton_view new).pairs ≡ (skeleton_view old).pairs ++ record { earlier = m; later = n } ∷ [] → skeleton_view new ≡ put_before m n (skeleton_view old)
-put_there old new m n c p = λ i. record { strands = map strand_view (c.strands i); pairs = p i; assumptions = c.assumptions i; from_problem = c.from_problem i }
+pub put_there : (old new : Skeleton) (m n : Node) → ChangesOrderOnly old new → new.pairs ≡ old.pairs ++ record { earlier = m; later = n } ∷ [] → new ≡ put_before m n old
+put_there old new m n c p = λ i. record { variables = c.variables i; strands = c.strands i; pairs = p i; assumptions = c.assumptions i; from_problem = c.from_problem i }
 
-module _ (q : GuardedTest) (vs : List Declaration) (op : Operation) (m : Node) where
+module _ (q : GuardedTest) (op : Operation) (m : Node) where
   -- One that closes a cycle gives nothing.
-  pub nothing_released : (grown : Skeleton) → Before grown q.node m → ReleasesEach q vs op m grown []
-  nothing_released grown b t at = each_nothing (ReleasesAt q vs op m grown) (positions t) (λ path. cyclic (closes m q.node grown b))
+  pub nothing_released : (grown : Skeleton) → Before grown q.node m → ReleasesEach q op m grown []
+  nothing_released grown b t at = each_nothing (ReleasesAt q op m grown) (positions t) (λ path. cyclic (closes m q.node grown b))
 
   -- Nor does a position at which something else stands.
-  pub never_released : (put : Skeleton) (t u : Term) (path : List Step) → term_at t path ≡ Some u → NeverEqual u q.critical → ReleasesPut q vs op m put t path []
+  pub never_released : (put : Skeleton) (t u : Term) (path : List Step) → term_at t path ≡ Some u → NeverEqual u q.critical → ReleasesPut q op m put t path []
   never_released put t u path at never grown same there = never_equal there at never
 
-  pub released_by : (put : Skeleton) (t u : Term) (path : List Step) (s : Substitution) (l : Skeleton) (ws : List Declaration) (settled : List program.PartialSolution) → ((y : Node) → Before put y y → ⊥) → term_at t path ≡ Some u →
-      UnifiesMostGenerally u q.critical s → SaysTheSame (skeleton_under s put) l → ws ≡ vs →
-      SolvesRelease (release_at q m.strand m.index path) on_the_way (record { variables = ws; substitution = s; skeleton = l }) (map partial_solution_view settled) → ReleasesPut q vs op m put t path (map (settled_child op path) settled)
-  released_by put t u path s l ws settled acyclic at unifies says variables settles grown same there =
+  pub released_by : (put : Skeleton) (t u : Term) (path : List Step) (s : Substitution) (x : PartialSolution) (settled : List PartialSolution) → ((y : Node) → Before put y y → ⊥) → term_at t path ≡ Some u →
+      UnifiesMostGenerally u q.critical s → IsFirstUnder put s x → SolvesRelease (release_at q m.strand m.index path) on_the_way x settled →
+      ReleasesPut q op m put t path (map (λ (y : PartialSolution). child op path y.skeleton) settled)
+  released_by put t u path s x settled acyclic at unifies is_first settles grown same there =
       let free : (y : Node) → Before (put_before m q.node grown) y y → ⊥ = subst (λ (k : Skeleton). (y : Node) → Before k y y → ⊥) same acyclic in
-      let says_so : SaysTheSame (skeleton_under s (put_before m q.node grown)) l = subst (λ (k : Skeleton). SaysTheSame (skeleton_under s k) l) same says in
-      let settles_so : SolvesRelease (release_at q m.strand m.index path) on_the_way (record { variables = vs; substitution = s; skeleton = l }) (map partial_solution_view settled) =
-      subst (λ (ds : List Declaration). SolvesRelease (release_at q m.strand m.index path) on_the_way (record { variables = ds; substitution = s; skeleton = l }) (map partial_solution_view settled)) variables settles in
-      subst (ReleasesAt q vs op m grown path) (sym (map_then partial_solution_view (λ (x : PartialSolution). child x.variables op path x.skeleton) (settled_child op path) (λ x. refl) settled))
-      (unified free there at unifies says_so settles_so)
+      unified free there at unifies (subst (λ (k : Skeleton). IsFirstUnder k s x) same is_first) settles
 
   -- The positions at which what stands may equal the critical term are enough.
   pub each_released : (put grown : Skeleton) (message : Term) (paths : List (List Step)) → put ≡ put_before m q.node grown → paths ≡ positions_where (may_equal q.critical) message → ((t : Term) → term_event_at put.strands m ≡ Some (send t) → message ≡ t) →
-      (cs : List Child) → EachGives (ReleasesPut q vs op m put message) paths cs → ReleasesEach q vs op m grown cs
+      (cs : List Child) → EachGives (ReleasesPut q op m put message) paths cs → ReleasesEach q op m grown cs
   each_released put grown message paths same all is cs e t there =
       let here : term_event_at put.strands m ≡ Some (send t) = ap (λ (k : Skeleton). term_event_at k.strands m) same ∙ there in
       let says : message ≡ t = is t here in
       let there_message : term_event_at grown.strands m ≡ Some (send message) = there ∙ ap (λ (u : Term). Some (send u)) (sym says) in
-      let some : EachGives (ReleasesAt q vs op m grown) paths cs = each_other (ReleasesPut q vs op m put message) (ReleasesAt q vs op m grown) (λ path ys r. r grown same there_message) paths cs e in
-      let wide : EachGives (ReleasesAt q vs op m grown) (positions message) cs =
-      wider (may_equal q.critical) message (ReleasesAt q vs op m grown) (λ path u at fails. never_equal there_message at (differing.never_equal q.critical u fails)) cs
-      (subst (λ ps. EachGives (ReleasesAt q vs op m grown) ps cs) all some) in
-      subst (λ (u : Term). EachGives (ReleasesAt q vs op m grown) (positions u) cs) says wide
+      let some : EachGives (ReleasesAt q op m grown) paths cs = each_other (ReleasesPut q op m put message) (ReleasesAt q op m grown) (λ path ys r. r grown same there_message) paths cs e in
+      let wide : EachGives (ReleasesAt q op m grown) (positions message) cs =
+      wider (may_equal q.critical) message (ReleasesAt q op m grown) (λ path u at fails. never_equal there_message at (differing.never_equal q.critical u fails)) cs
+      (subst (λ ps. EachGives (ReleasesAt q op m grown) ps cs) all some) in
+      subst (λ (u : Term). EachGives (ReleasesAt q op m grown) (positions u) cs) says wide
 
 -- ---- the events of a strand
 
@@ -112,34 +100,34 @@ event_stays old new n e keeps at = by_strand (item_at old n.strand) refl
 
 -- ---- displaced
 
-module _ (q : GuardedTest) (s : ℕ) (role : Role) (height j : ℕ) (terms : Substitution) (t : Term) (on : item_at q.skeleton.strands s ≡ Some (instance role height terms)) (sent : item_at role.trace j ≡ Some (send t)) where
-  module _ (vs : List Declaration) (grown : Skeleton) (grows : HasGrown s role height j q.variables q.skeleton vs grown) where
+module _ (q : GuardedTest) (s : ℕ) (role : Role) (height j : ℕ) (terms : List Binding) (t : Term) (on : item_at q.skeleton.strands s ≡ Some (instance role height terms)) (sent : item_at role.trace j ≡ Some (send t)) where
+  module _ (grown : Skeleton) (grows : HasGrown s role height j q.skeleton grown) where
     abbrev sends_there : Sends grown (node_at s j) t
-    sends_there = grown_sends q.variables q.skeleton s role height j terms t on sent vs grown grows
+    sends_there = grown_sends q.skeleton s role height j terms t on sent grown grows
 
     keeps_others : (n : ℕ) → s ≢ n → (x : SkeletonStrand) → item_at q.skeleton.strands n ≡ Some x → item_at grown.strands n ≡ Some x
     keeps_others n other x at = elim grows.how [
-      | inl h ↦ ap (λ (k : Skeleton). item_at k.strands n) h.2 ∙ at
-      | inr h ↦ let e : Extends s (suc j) (fresh_terms (length q.variables) (added_variables role height (suc j))) q.skeleton grown = h.2 in e.others n (λ same. other (sym same)) ∙ at
+      | inl h ↦ ap (λ (k : Skeleton). item_at k.strands n) h.1 ∙ at
+      | inr h ↦ let e : Extends s (suc j) (fresh_terms (length q.skeleton.variables) (added_variables role height (suc j))) q.skeleton grown = h.2 in e.others n (λ same. other (sym same)) ∙ at
     ]
 
     pub grown_pair : s ≢ q.node.strand → IsTest q.skeleton q.node q.critical → IsOrderPair grown (record { earlier = node_at s j; later = q.node })
     grown_pair other test = record {
-      sent = apply_to sends_there.terms t;
+      sent = apply_to (as_substitution sends_there.terms) t;
       received = test.message;
       transmission = sends_there.there;
       reception = event_stays q.skeleton.strands grown.strands q.node (recv test.message) (keeps_others q.node.strand other) test.reception;
       between_strands = other;
     }
 
-    pub displaced_each : (Before q.skeleton (node_at s j) q.node → ⊥) → (cs : List Child) → ReleasesEach q vs (by_displacement (node_at s j)) (node_at s j) grown cs → DisplacesEvent q s role height j cs
+    pub displaced_each : (Before q.skeleton (node_at s j) q.node → ⊥) → (cs : List Child) → ReleasesEach q (by_displacement (node_at s j)) (node_at s j) grown cs → DisplacesEvent q s role height j cs
     displaced_each not_before cs r =
-        is_displaced sent not_before grows sends_there.there (r (apply_to sends_there.terms t) sends_there.there)
+        is_displaced sent not_before grows sends_there.there (r (apply_to (as_substitution sends_there.terms) t) sends_there.there)
 
 -- ---- added
 
 module _ (q : GuardedTest) (role : Role) (j : ℕ) (t : Term) (sent : item_at role.trace j ≡ Some (send t)) (grown : Skeleton)
-    (adds : AddsStrand role (suc j) (fresh_terms (length q.variables) (prefix_variables role (suc j))) q.skeleton grown) where
+    (adds : AddsStrand role (suc j) (fresh_terms (length q.skeleton.variables) (prefix_variables role (suc j))) q.skeleton grown) where
   abbrev place : Node
   place = node_at (length q.skeleton.strands) j
 
@@ -155,22 +143,23 @@ module _ (q : GuardedTest) (role : Role) (j : ℕ) (t : Term) (sent : item_at ro
 
   pub added_pair : length q.skeleton.strands ≢ q.node.strand → IsTest q.skeleton q.node q.critical → IsOrderPair grown (record { earlier = place; later = q.node })
   added_pair other test = record {
-    sent = apply_to added_sends.terms t;
+    sent = apply_to (as_substitution added_sends.terms) t;
     received = test.message;
     transmission = added_sends.there;
     reception = event_stays q.skeleton.strands grown.strands q.node (recv test.message) (keeps q.node.strand) test.reception;
     between_strands = other;
   }
 
-  pub added_each : (vs : List Declaration) → vs ≡ q.variables ++ declarations_among role (prefix_variables role (suc j)) → (cs : List Child) → ReleasesEach q vs (by_added_strand (length q.skeleton.strands)) place grown cs → AddsEvent q role j cs
-  added_each vs same cs r =
-      let each : EachGives (ReleasesAt q vs (by_added_strand (length q.skeleton.strands)) place grown) (positions t) cs =
-      subst (λ ps. EachGives (ReleasesAt q vs (by_added_strand (length q.skeleton.strands)) place grown) ps cs) (positions_under added_sends.terms t) (r (apply_to added_sends.terms t) added_sends.there) in
-      is_added sent (each_other (ReleasesAt q vs (by_added_strand (length q.skeleton.strands)) place grown) (AddsAt q role j)
+  pub added_each : grown.variables ≡ q.skeleton.variables ++ declarations_among role (prefix_variables role (suc j)) → (cs : List Child) → ReleasesEach q (by_added_strand (length q.skeleton.strands)) place grown cs → AddsEvent q role j cs
+  added_each same cs r =
+      let each : EachGives (ReleasesAt q (by_added_strand (length q.skeleton.strands)) place grown) (positions t) cs =
+      subst (λ ps. EachGives (ReleasesAt q (by_added_strand (length q.skeleton.strands)) place grown) ps cs) (positions_under (as_substitution added_sends.terms) t) (r (apply_to (as_substitution added_sends.terms) t) added_sends.there) in
+      is_added sent (each_other (ReleasesAt q (by_added_strand (length q.skeleton.strands)) place grown) (AddsAt q role j)
       (λ path ys h. record {
         grown = grown;
         adds = adds;
-        releases = subst (λ (ds : List Declaration). ReleasesAt q ds (by_added_strand (length q.skeleton.strands)) place grown path ys) same h;
+        variables = same;
+        releases = h;
       })
       (positions t) cs each)
 
@@ -182,19 +171,17 @@ strand_there strands n e at = by_strand (item_at strands n.strand) refl
     by_strand None none = let fails : item_at (skeleton_trace_or_none None) n.index ≡ Some e = ap (λ (p : Option SkeletonStrand). item_at (skeleton_trace_or_none p) n.index) (sym none) ∙ at in absurd (cc)
     by_strand (Some x) is = item_below strands n.strand x is
 
--- What is released in a grown skeleton that has been put before the node, with its variables.
-pub released_all : (q : GuardedTest) (vs : List Declaration) (op : Operation) (m : Node) (put grown : Skeleton) (message : Term) (ws : List Declaration) → ws ≡ vs → put ≡ put_before m q.node grown → ((t : Term) → term_event_at put.strands m ≡ Some (send t) → message ≡ t) →
-    (cs : List Child) → EachGives (ReleasesPut q ws op m put message) (positions_where (may_equal q.critical) message) cs → ReleasesEach q vs op m grown cs
-released_all q vs op m put grown message ws variables same is cs e =
-    each_released q vs op m put grown message (positions_where (may_equal q.critical) message) same refl is cs
-    (subst (λ (ds : List Declaration). EachGives (ReleasesPut q ds op m put message) (positions_where (may_equal q.critical) message) cs) variables e)
+-- What is released in a grown skeleton that has been put before the node.
+pub released_all : (q : GuardedTest) (op : Operation) (m : Node) (put grown : Skeleton) (message : Term) → put ≡ put_before m q.node grown → ((t : Term) → term_event_at put.strands m ≡ Some (send t) → message ≡ t) →
+    (cs : List Child) → EachGives (ReleasesPut q op m put message) (positions_where (may_equal q.critical) message) cs → ReleasesEach q op m grown cs
+released_all q op m put grown message same is cs e = each_released q op m put grown message (positions_where (may_equal q.critical) message) same refl is cs e
 
 -- ---- events of roles
 
 -- A strand of the program that is no instance is a listener.
-pub listens : (s : StrandShape) (d : StrandData) → strand_of_shape s ≡ d → ((i : Bor InstanceData) → s ≡ Instance i → ⊥) → (t : Term) × (strand_view d ≡ listener t)
+pub listens : (s : StrandShape) (d : SkeletonStrand) → strand_of_shape s ≡ d → ((i : Bor InstanceData) → s ≡ Instance i → ⊥) → (t : Term) × (d ≡ listener t)
 listens (Instance i) d is other = absurd (other i refl)
-listens (Listener t) d is other = (t.now, ap strand_view (sym is))
+listens (Listener t) d is other = (t.now, (sym is))
 
 -- The events of a role of the program are those of its trace.
 module _ (es trace : List (Event Term)) (same : es ≡ trace) (i : ℕ) (reached : i < length trace) where
@@ -205,13 +192,13 @@ module _ (es trace : List (Event Term)) (same : es ≡ trace) (i : ℕ) (reached
   event_there e read is same_event = ap (λ (xs : List (Event Term)). item_at xs i) (sym same) ∙ item_of_read es i read is_within is ∙ ap (λ (x : Event Term). Some x) same_event
 
 module _ (q : GuardedTest) (role : Role) (j : ℕ) (t : Term) (sent : item_at role.trace j ≡ Some (send t)) (grown : Skeleton)
-    (adds : AddsStrand role (suc j) (fresh_terms (length q.variables) (prefix_variables role (suc j))) q.skeleton grown) (n : ℕ) (number : n ≡ length q.skeleton.strands) where
+    (adds : AddsStrand role (suc j) (fresh_terms (length q.skeleton.variables) (prefix_variables role (suc j))) q.skeleton grown) (n : ℕ) (number : n ≡ length q.skeleton.strands) where
   pub added_pair_at : IsTest q.skeleton q.node q.critical → IsOrderPair grown (record { earlier = record { strand = n; index = j }; later = q.node })
   added_pair_at test =
       let below : q.node.strand < length q.skeleton.strands = strand_there q.skeleton.strands q.node (recv test.message) test.reception in
       subst (λ (m : ℕ). IsOrderPair grown (record { earlier = record { strand = m; index = j }; later = q.node })) (sym number)
       (added_pair q role j t sent grown adds (λ e. absurd (omega (arith, below, e))) test)
 
-  pub added_at : (vs : List Declaration) → vs ≡ q.variables ++ declarations_among role (prefix_variables role (suc j)) → (cs : List Child) → ReleasesEach q vs (by_added_strand n) (record { strand = n; index = j }) grown cs → AddsEvent q role j cs
-  added_at vs same cs r =
-      added_each q role j t sent grown adds vs same cs (subst (λ (m : ℕ). ReleasesEach q vs (by_added_strand m) (record { strand = m; index = j }) grown cs) number r)
+  pub added_at : grown.variables ≡ q.skeleton.variables ++ declarations_among role (prefix_variables role (suc j)) → (cs : List Child) → ReleasesEach q (by_added_strand n) (record { strand = n; index = j }) grown cs → AddsEvent q role j cs
+  added_at same cs r =
+      added_each q role j t sent grown adds same cs (subst (λ (m : ℕ). ReleasesEach q (by_added_strand m) (record { strand = m; index = j }) grown cs) number r)

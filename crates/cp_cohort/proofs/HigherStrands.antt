@@ -10,9 +10,10 @@ use Rattle.cp_model.specs.Strand.{Role, prefix_of, variables_of_trace, variables
 use Rattle.cp_model.specs.declared.strand.Event.{Event}
 use Rattle.cp_model.specs.declared.variable.Declaration.{Declaration}
 use Rattle.cp_model.specs.PrefixVariables.{declared_variables, is_added, added_variables}
-use Rattle.cp_model.specs.Data.{SkeletonData}
+use Rattle.cp_model.specs.Skeleton.{Skeleton}
 use Rattle.cp_theory.specs.Fresh.{fresh_terms}
 use Rattle.cp_cohort.specs.CoveringChildren.{declaration_onto, declarations_among}
+use Rattle.cp_skel.specs.Tables.{DiffersInTable}
 use Rattle.cp_cohort.specs.Children.{Declares}
 
 -- Those of the declarations, the first of which is that of variable number n, whose variables are wanted.
@@ -21,13 +22,13 @@ declared_from wanted n [] = []
 declared_from wanted n (d ∷ ds) = cond (wanted (record { sort = d.sort; number = n })) (d ∷ declared_from wanted (suc n) ds) (declared_from wanted (suc n) ds)
 
 -- Of these declarations, the first of which is that of variable number n, new variables are still to be declared.
-pub record IsDeclaredSoFar (wanted : Variable → Bool) (n : ℕ) (ds : List Declaration) (terms : List Term) (all : List Declaration) (old new : SkeletonData) (values : List Term) : Type 0 where
+pub record IsDeclaredSoFar (wanted : Variable → Bool) (n : ℕ) (ds : List Declaration) (terms : List Term) (all : List Declaration) (old new : Skeleton) (values : List Term) : Type 0 where
   pub values_all : values ++ fresh_terms (length new.variables) (filter wanted (declared_variables n ds)) ≡ terms
   pub declared_all : new.variables ++ declared_from wanted n ds ≡ all
-  pub rest : new ≡ record old { variables = new.variables }
+  pub rest : DiffersInTable old new
 
-module _ (wanted : Variable → Bool) (terms : List Term) (all : List Declaration) (old : SkeletonData) where
-  skipped : (n : ℕ) (d : Declaration) (ds : List Declaration) (new : SkeletonData) (values : List Term) → wanted (record { sort = d.sort; number = n }) ≡ false → IsDeclaredSoFar wanted n (d ∷ ds) terms all old new values →
+module _ (wanted : Variable → Bool) (terms : List Term) (all : List Declaration) (old : Skeleton) where
+  skipped : (n : ℕ) (d : Declaration) (ds : List Declaration) (new : Skeleton) (values : List Term) → wanted (record { sort = d.sort; number = n }) ≡ false → IsDeclaredSoFar wanted n (d ∷ ds) terms all old new values →
       IsDeclaredSoFar wanted (suc n) ds terms all old new values
   skipped n d ds new values fails h =
       let x : Variable = record { sort = d.sort; number = n } in
@@ -38,7 +39,7 @@ module _ (wanted : Variable → Bool) (terms : List Term) (all : List Declaratio
         rest = h.rest;
       }
 
-  declared : (n : ℕ) (d : Declaration) (ds : List Declaration) (new new' : SkeletonData) (values values' : List Term) → wanted (record { sort = d.sort; number = n }) ≡ true → Declares d new new' values values' →
+  declared : (n : ℕ) (d : Declaration) (ds : List Declaration) (new new' : Skeleton) (values values' : List Term) → wanted (record { sort = d.sort; number = n }) ≡ true → Declares d new new' values values' →
       IsDeclaredSoFar wanted n (d ∷ ds) terms all old new values → IsDeclaredSoFar wanted (suc n) ds terms all old new' values'
   declared n d ds new new' values values' holds e h =
       let x : Variable = record { sort = d.sort; number = n } in
@@ -50,33 +51,33 @@ module _ (wanted : Variable → Bool) (terms : List Term) (all : List Declaratio
             ∙ ap (λ (b : Bool). values ++ fresh_terms (length new.variables) (cond b (x ∷ xs) xs)) (sym holds) ∙ h.values_all;
         declared_all = ap (λ (vs : List Declaration). vs ++ more) e.declared ∙ append_assoc new.variables (d ∷ []) more
             ∙ ap (λ (b : Bool). new.variables ++ cond b (d ∷ more) more) (sym holds) ∙ h.declared_all;
-        rest = e.rest ∙ ap (λ (k : SkeletonData). record k { variables = new'.variables }) h.rest;
+        rest = e.rest ∙ ap (λ (k : Skeleton). record k { variables = new'.variables }) h.rest;
       }
 
   module _ (ds : List Declaration) (n : ℕ) (d : Declaration) (lt : n < length ds) (is : d ≡ get_or ds n d) (id : ℕ) (same : id ≡ n) where
     opened : drop n ds ≡ d ∷ drop (n + 1) ds
     opened = drop_read ds n d lt is
 
-    moved : (new : SkeletonData) (values : List Term) → IsDeclaredSoFar wanted n (drop n ds) terms all old new values →
+    moved : (new : Skeleton) (values : List Term) → IsDeclaredSoFar wanted n (drop n ds) terms all old new values →
         IsDeclaredSoFar wanted n (d ∷ drop (n + 1) ds) terms all old new values
     moved new values h = subst (λ es. IsDeclaredSoFar wanted n es terms all old new values) opened h
 
-    back : (new : SkeletonData) (values : List Term) → IsDeclaredSoFar wanted (suc n) (drop (n + 1) ds) terms all old new values →
+    back : (new : Skeleton) (values : List Term) → IsDeclaredSoFar wanted (suc n) (drop (n + 1) ds) terms all old new values →
         IsDeclaredSoFar wanted (n + 1) (drop (n + 1) ds) terms all old new values
     back new values h = subst (λ m. IsDeclaredSoFar wanted m (drop (n + 1) ds) terms all old new values) (sym (add-one n)) h
 
     asked : (b : Bool) → b ≡ wanted (record { sort = d.sort; number = id }) → wanted (record { sort = d.sort; number = n }) ≡ b
     asked b e = ap (λ m. wanted (record { sort = d.sort; number = m })) (sym same) ∙ sym e
 
-    pub one_skipped : (b : Bool) → b ≡ wanted (record { sort = d.sort; number = id }) → b ≡ false → (new : SkeletonData) (values : List Term) → IsDeclaredSoFar wanted n (drop n ds) terms all old new values →
+    pub one_skipped : (b : Bool) → b ≡ wanted (record { sort = d.sort; number = id }) → b ≡ false → (new : Skeleton) (values : List Term) → IsDeclaredSoFar wanted n (drop n ds) terms all old new values →
         IsDeclaredSoFar wanted (n + 1) (drop (n + 1) ds) terms all old new values
     one_skipped b e fails new values h = back new values (skipped n d (drop (n + 1) ds) new values (asked b e ∙ fails) (moved new values h))
 
-    pub one_declared : (b : Bool) → b ≡ wanted (record { sort = d.sort; number = id }) → b ≡ true → (new new' : SkeletonData) (values values' : List Term) → Declares d new new' values values' →
+    pub one_declared : (b : Bool) → b ≡ wanted (record { sort = d.sort; number = id }) → b ≡ true → (new new' : Skeleton) (values values' : List Term) → Declares d new new' values values' →
         IsDeclaredSoFar wanted n (drop n ds) terms all old new values → IsDeclaredSoFar wanted (n + 1) (drop (n + 1) ds) terms all old new' values'
     one_declared b e holds new new' values values' f h = back new' values' (declared n d (drop (n + 1) ds) new new' values values' (asked b e ∙ holds) f (moved new values h))
 
-  pub declared_last : (ds : List Declaration) (n : ℕ) → length ds ≤ n → (new : SkeletonData) (values : List Term) → IsDeclaredSoFar wanted n (drop n ds) terms all old new values →
+  pub declared_last : (ds : List Declaration) (n : ℕ) → length ds ≤ n → (new : Skeleton) (values : List Term) → IsDeclaredSoFar wanted n (drop n ds) terms all old new values →
       IsDeclaredSoFar wanted n [] terms all old new values
   declared_last ds n past new values h = subst (λ es. IsDeclaredSoFar wanted n es terms all old new values) (drop_all n ds past) h
 
@@ -101,7 +102,7 @@ module _ (role : Role) (wanted : Variable → Bool) where
 
 -- ---- at the first declaration, and behind the last
 
-pub declared_at_first : (wanted : Variable → Bool) (ds : List Declaration) (k : SkeletonData) (values : List Term) → values ≡ [] →
+pub declared_at_first : (wanted : Variable → Bool) (ds : List Declaration) (k : Skeleton) (values : List Term) → values ≡ [] →
     IsDeclaredSoFar wanted 0 ds (fresh_terms (length k.variables) (filter wanted (declared_variables 0 ds))) (k.variables ++ declared_from wanted 0 ds) k k values
 declared_at_first wanted ds k values none = record { values_all = ap (λ (us : List Term). us ++ fresh_terms (length k.variables) (filter wanted (declared_variables 0 ds))) none; declared_all = refl; rest = refl }
 
@@ -109,12 +110,12 @@ abbrev pub tests_for : List (Event Term) → List (Event Term) → Variable → 
 tests_for earlier prefix = is_added (variables_of_trace earlier) (variables_of_trace prefix)
 
 pub all_declared : (role : Role) (before height : ℕ) (earlier prefix : List (Event Term)) → earlier ≡ prefix_of role before → prefix ≡ prefix_of role height → (ds : List Declaration) → ds ≡ role.variables → (n : ℕ) → length ds ≤ n →
-    (old new : SkeletonData) (values : List Term) →
+    (old new : Skeleton) (values : List Term) →
     IsDeclaredSoFar (tests_for earlier prefix) n (drop n ds) (fresh_terms (length old.variables) (filter (tests_for earlier prefix) (declared_variables 0 ds)))
     (old.variables ++ declared_from (tests_for earlier prefix) 0 ds) old new values →
     (values ≡ fresh_terms (length old.variables) (added_variables role before height))
     × (new.variables ≡ old.variables ++ declarations_among role (added_variables role before height))
-    × (new ≡ record old { variables = new.variables })
+    × DiffersInTable old new
 all_declared role before height earlier prefix first second ds all n past old new values h =
     let wanted = tests_for earlier prefix in
     let e = declared_last wanted _ _ old ds n past new values h in

@@ -5,6 +5,7 @@ pub mod ContractedChildren
 pub mod HigherStrands
 pub mod GrownReleases
 pub mod AddedListener
+pub mod OtherTables
 pub mod FitValues
 pub mod FourLists
 pub mod AsMessages
@@ -14,6 +15,7 @@ pub mod Ranked
 pub mod Rounds
 pub mod OccurrenceBranches
 pub mod Forms
+pub mod PairedForms
 pub mod BranchLoops
 pub mod Made
 pub mod Occurrences

@@ -6,15 +6,13 @@ use Rattle.cp_model.specs.Tree.{Pattern}
 use Rattle.cp_model.proofs.LawTerms.{term_composed}
 use Rattle.cp_theory.specs.Normal.{skeleton_under}
 use Rattle.cp_unify.specs.Bindings.{Binding, as_substitution}
-use Rattle.cp_model.specs.Data.{SkeletonData}
-use Rattle.cp_skel.specs.View.{skeleton_view}
 use Rattle.cp_collapse.specs.SameSkeletons.{SaysTheSame}
 use Rattle.cp_normal.proofs.FormedBeside.{same_substitution}
+use Rattle.cp_skel.specs.Tables.{DiffersInTable}
 use Rattle.cp_pattern.specs.Opened.{opened_pattern, declared_as}
 use Rattle.cp_pattern.specs.Unifiers.{UnifiesMostGenerally, NeverEqual}
-use Rattle.cp_cohort.specs.Stages.{pattern_in, branch_of}
-use Rattle.cp_cohort.specs.ReleaseViews.{partial_solution_view}
-use Rattle.cp_cohort.specs.declared.release.PartialSolution as program
+use Rattle.cp_cohort.specs.Stages.{pattern_in, IsNextUnder}
+use Rattle.cp_cohort.specs.Releases.{PartialSolution, came_by}
 use Rattle.cp_cohort.specs.declared.branches.Widened.{Widened}
 use Rattle.cp_cohort.specs.declared.candidates.Candidate.{Candidate}
 use Rattle.cp_cohort.specs.declared.candidates.Candidate.TheVariants.{OnTheWay}
@@ -24,42 +22,43 @@ use Rattle.cp_cohort.proofs.BranchLoops.{never_put, branch_put}
 
 -- ---- partial solutions with new variables
 
-module _ (x : program.PartialSolution) (p : Pattern) (k wider : SkeletonData) (o : Term) (copied : k ≡ x.skeleton) (is_opened : o ≡ opened_pattern p (as_substitution x.substitution) (length k.variables)) where
-  in_x : o ≡ pattern_in (partial_solution_view x) p
+module _ (x : PartialSolution) (p : Pattern) (k wider : Skeleton) (o : Term) (copied : k ≡ x.skeleton) (is_opened : o ≡ opened_pattern p (came_by x) (length k.variables)) where
+  in_x : o ≡ pattern_in x p
   in_x =
       is_opened
-      ∙ ap (λ (z : SkeletonData). opened_pattern p (as_substitution x.substitution) (length z.variables)) copied
+      ∙ ap (λ (z : Skeleton). opened_pattern p (came_by x) (length z.variables)) copied
 
   abbrev made_wider : Widened
   made_wider = record { skeleton = wider; term = o }
 
-  pub is_widened : wider.variables ≡ k.variables ++ declared_as k.variables p.locals → skeleton_view wider ≡ skeleton_view k → IsWidened (partial_solution_view x) p made_wider
+  pub is_widened : wider.variables ≡ k.variables ++ declared_as k.variables p.locals → DiffersInTable k wider → IsWidened x p made_wider
   is_widened declared rest = record {
     term = in_x;
-    variables = declared ∙ ap (λ (z : SkeletonData). z.variables ++ declared_as z.variables p.locals) copied;
-    rest = rest ∙ ap skeleton_view copied;
+    variables = declared ∙ ap (λ (z : Skeleton). z.variables ++ declared_as z.variables p.locals) copied;
+    rest = subst (λ (z : Skeleton). DiffersInTable z wider) copied rest;
   }
 
 -- ---- under a unifier
 
-module _ (x : program.PartialSolution) (u s : List Binding) (follows : (t : Term) → apply_to (as_substitution s) t ≡ apply_to (as_substitution u) (apply_to (as_substitution x.substitution) t)) where
-  pub composed_so : as_substitution s ≡ composed (as_substitution x.substitution) (as_substitution u)
-  composed_so = same_substitution (as_substitution s) (composed (as_substitution x.substitution) (as_substitution u)) (λ t. follows t ∙ sym (term_composed (as_substitution x.substitution) (as_substitution u) t))
+module _ (x : PartialSolution) (u s : List Binding) (follows : (t : Term) → apply_to (as_substitution s) t ≡ apply_to (as_substitution u) (apply_to (came_by x) t)) where
+  pub composed_so : as_substitution s ≡ composed (came_by x) (as_substitution u)
+  composed_so = same_substitution (as_substitution s) (composed (came_by x) (as_substitution u)) (λ t. follows t ∙ sym (term_composed (came_by x) (as_substitution u) t))
 
 -- ---- the branch
 
-module _ (x : program.PartialSolution) (w : Widened) (e : Term) (p : Pattern) (wide : IsWidened (partial_solution_view x) p w) (old : List Candidate) where
-  pub nothing_made : NeverEqual e w.term → PutsBranches (partial_solution_view x) (choice_of e p ∷ []) old old
-  nothing_made never = never_put (partial_solution_view x) e p old (subst (NeverEqual e) wide.term never)
+module _ (x : PartialSolution) (w : Widened) (e : Term) (p : Pattern) (wide : IsWidened x p w) (old : List Candidate) where
+  pub nothing_made : NeverEqual e w.term → PutsBranches x (choice_of e p ∷ []) old old
+  nothing_made never = never_put x e p old (subst (NeverEqual e) wide.term never)
 
-  module _ (u : List Binding) (y : program.PartialSolution) (made : IsPartialSolutionUnder x w (as_substitution u) y) where
-    variables_made : y.skeleton.variables ≡ x.skeleton.variables ++ declared_as x.skeleton.variables p.locals
-    variables_made = made.variables ∙ wide.variables
+  module _ (u : List Binding) (y : PartialSolution) (made : IsPartialSolutionUnder x w (as_substitution u) y) where
+    next_made : IsNextUnder x p (as_substitution u) y
+    next_made =
+        let s = subst (λ (z : Skeleton). SaysTheSame (skeleton_under (as_substitution u) z) y.skeleton) wide.rest made.same in
+        record {
+          same = record { strands = s.strands; pairs = s.pairs; assumptions = s.assumptions; from_problem = s.from_problem };
+          variables = made.variables ∙ wide.variables;
+          by = made.substitution;
+        }
 
-    made_is : partial_solution_view y ≡ branch_of (partial_solution_view x) p (as_substitution u) (skeleton_view y.skeleton)
-    made_is = λ i. record { variables = variables_made i; substitution = made.substitution i; skeleton = skeleton_view y.skeleton }
-
-    pub branch_made : (new : List Candidate) → UnifiesMostGenerally e w.term (as_substitution u) → new ≡ old ++ OnTheWay y ∷ [] → PutsBranches (partial_solution_view x) (choice_of e p ∷ []) old new
-    branch_made new m behind =
-        branch_put (partial_solution_view x) e p (as_substitution u) (skeleton_view y.skeleton) y old new (subst (λ (t : Term). UnifiesMostGenerally e t (as_substitution u)) wide.term m)
-        (subst (λ (z : Skeleton). SaysTheSame (skeleton_under (as_substitution u) z) (skeleton_view y.skeleton)) wide.rest made.same) made_is behind
+    pub branch_made : (new : List Candidate) → UnifiesMostGenerally e w.term (as_substitution u) → new ≡ old ++ OnTheWay y ∷ [] → PutsBranches x (choice_of e p ∷ []) old new
+    branch_made new m behind = branch_put x e p (as_substitution u) y old new (subst (λ (t : Term). UnifiesMostGenerally e t (as_substitution u)) wide.term m) next_made behind

@@ -1,5 +1,5 @@
 -- The one child of the example's test.
-use Rattle.std.proofs.Common.{◌≡◌, ℕ, zero, suc, ◌+◌, ◌-◌, ◌<◌, List, [], ◌∷◌, Some, true, false, refl, sym, ap, subst, inl, inr, ⊎_elim, arith}
+use Rattle.std.proofs.Common.{◌≡◌, ℕ, zero, suc, ◌+◌, ◌-◌, ◌<◌, List, [], ◌∷◌, ◌++◌, Some, true, false, refl, sym, ap, ◌∙◌, subst, inl, inr, ⊎_elim, arith}
 use Rattle.cp_lists.specs.Lists.{IsIn, here, there, one_step, more_steps}
 use Rattle.cp_lists.proofs.Members.{not_in_none, only_item}
 use Rattle.cp_model.specs.Message.{symmetric, text, key, atom}
@@ -7,7 +7,7 @@ use Rattle.cp_model.specs.Term.{skey_variable, symmetric_term, text_variable, At
 use Rattle.cp_model.specs.declared.sort.Sort.TheVariants.{Text as text_sort, Skey as skey_sort}
 use Rattle.cp_model.specs.declared.variable.Variable.{Variable}
 use Rattle.cp_model.specs.Identity.{unchanged}
-use Rattle.cp_model.specs.Strand.{payload, Role}
+use Rattle.cp_model.specs.Strand.{payload, Role, variables_of_prefix}
 use Rattle.cp_model.specs.declared.strand.Event.{Event}
 use Rattle.cp_model.specs.declared.strand.Event.TheVariants.{Send as send, Receive as recv}
 use Rattle.cp_model.specs.Bundle.{node_at}
@@ -17,30 +17,35 @@ use Rattle.cp_model.specs.Skeleton.{term_event_at, OrderStep, along_strand_of, a
 use Rattle.cp_model.specs.Problem.{IsDeclared}
 use Rattle.cp_model.specs.PointOfView.{HasDeclaredVariables}
 use Rattle.cp_model.proofs.LawTerms.{term_unchanged}
+use Rattle.cp_model.proofs.DeclaredTerms.{by_bindings}
+use Rattle.cp_model.specs.PrefixVariables.{prefix_variables}
+use Rattle.cp_model.specs.Extensions.{AddsStrand}
+use Rattle.cp_theory.specs.Fresh.{fresh_terms}
 use Rattle.cp_model.specs.declared.step.Step.{Step}
 use Rattle.cp_model.specs.declared.step.Step.TheVariants.{Left, Right, Plaintext}
 use Rattle.cp_model.specs.Positions.{term_at}
 use Rattle.cp_term.proofs.PositionLaws.{carried_position}
-use Rattle.cp_theory.specs.Normal.{skeleton_under, with_pairs}
-use Rattle.cp_unify.specs.Bindings.{Binding, Meets}
+use Rattle.cp_theory.specs.Normal.{skeleton_under, with_pairs, terms_under}
+use Rattle.cp_unify.specs.Bindings.{Binding, as_substitution, Meets}
 use Rattle.cp_unify.proofs.Substituted.{after_met}
 use Rattle.cp_collapse.specs.SameSkeletons.{same_instance, same_listener, no_strands, same_strands}
 use Rattle.cp_collapse.proofs.SameFacts.{says_itself}
 use Rattle.cp_collapse.proofs.AtomUnifiers.{directed}
-use Rattle.cp_strand.specs.Declares.{DeclaresItsVariables}
+use Rattle.cp_model.specs.Declares.{DeclaresItsVariables}
 use Rattle.cp_normal.specs.Findings.{CarriesNonOriginating, IsAddedPair, ClosesCycle, AreNormalPairs, IsContradictory}
 use Rattle.cp_normal.specs.Exact.{HasForms, refuted, normal}
 use Rattle.cp_normal.specs.BySubstitution.{all_variables, ComesBySubstitution}
-use Rattle.cp_normal.specs.Formed.{Formed, IsFormedFrom, AreFormedNormalForms}
+use Rattle.cp_normal.specs.Formed.{Formed, IsFormedFrom, AreFormedNormalForms, AreFormsBeside}
 use Rattle.cp_theory.specs.Covering.{put_before}
-use Rattle.cp_theory.specs.EncryptionExamples.{shared, locked, locker, protocol, heard, reception, new_terms, with_locker, as_old, sent_before}
+use Rattle.cp_theory.specs.EncryptionExamples.{shared, locked, locker, protocol, heard, reception, new_terms, with_locker, as_old}
 use Rattle.cp_theory.proofs.Built.{composed_stays}
 use Rattle.cp_theory.proofs.HeardEncryption.{unlocked}
 use Rattle.cp_theory.proofs.HeardCovered.{new_locked, adds, with_listener}
 use Rattle.cp_pattern.specs.Unifiers.{UnifiesMostGenerally, NeverEqual}
 use Rattle.cp_cohort.specs.Releases.{Release, PartialSolution, MeetsBoth}
-use Rattle.cp_cohort.specs.Stages.{with_form_of, SolvesRelease, on_the_way, normalising, settled, next_form, no_forms}
+use Rattle.cp_cohort.specs.Stages.{SolvesRelease, on_the_way, normalising, settled, next_form, no_forms}
 use Rattle.cp_cohort.specs.GatheredLists.{nothing_given, then_given, none_left, left_out}
+use Rattle.cp_cohort.specs.CoveringChildren.{declarations_among}
 use Rattle.cp_cohort.specs.Cohort.{AreContracted, of_listener, AddsAt, is_added, release_at, by_key, Listens, AreListeners, IsCohort}
 use Rattle.cp_cohort.specs.Cohort as cohort
 use Rattle.cp_cohort.specs.Example.{asked, one_child}
@@ -71,7 +76,7 @@ mapped_declared t x (there here) here = refl
 mapped_declared t x (there here) (there i) = absurd (not_in_none i)
 mapped_declared t x (there (there i)) j = absurd (not_in_none i)
 
-pub heard_declared : HasDeclaredVariables asked.variables heard
+pub heard_declared : HasDeclaredVariables asked.skeleton.variables heard
 heard_declared = record { occurring = occurring_declared; mapped = mapped_declared }
 
 -- ---- orders whose one pair is that from the added strand to the reception
@@ -95,13 +100,23 @@ module _ (k : Skeleton) (all : (p : OrderPair) → IsIn p k.pairs → p ≡ pair
   acyclic : (y : Node) → Before k y y → ⊥
   acyclic y before = let l : rank y < rank y = rises before in omega (arith, l)
 
+-- With the strand, and with its variables.
+abbrev grown : Skeleton
+grown = record with_locker { variables = locker.variables ++ declarations_among locker (prefix_variables locker 1) }
+
 abbrev put : Skeleton
-put = put_before (node_at 1 0) reception with_locker
+put = put_before (node_at 1 0) reception grown
+
+abbrev sent : Skeleton
+sent = one_child.skeleton
 
 -- ---- the unifier
 
 abbrev bindings : List Binding
-bindings = record { number = 2; term = text_variable 0 } ∷ record { number = 3; term = key_term (symmetric_term (skey_variable 1)) } ∷ []
+bindings =
+    record { variable = record { sort = text_sort; number = 2 }; term = atom_term (text_variable 0) }
+    ∷ record { variable = record { sort = skey_sort; number = 3 }; term = atom_term (key_term (symmetric_term (skey_variable 1))) }
+    ∷ []
 
 met : (g : Assignment) → value_of g new_locked ≡ value_of g locked → Meets g bindings
 met g same =
@@ -122,7 +137,7 @@ text_never g e = cc
 -- ---- the normal form is the skeleton itself
 
 -- Each event has the encryption.
-each_locked : (s i : ℕ) (e : Event Term) → term_event_at sent_before.strands (node_at s i) ≡ Some e → payload e ≡ locked
+each_locked : (s i : ℕ) (e : Event Term) → term_event_at sent.strands (node_at s i) ≡ Some e → payload e ≡ locked
 each_locked zero zero e at = let same : recv locked ≡ e = cc in ap payload (sym same)
 each_locked zero (suc zero) e at = let same : send locked ≡ e = cc in ap payload (sym same)
 each_locked zero (suc (suc i)) e at = absurd (cc)
@@ -148,52 +163,54 @@ key_is_not_carried k non each c =
     let position = (carried_position locked (atom_term (key_term shared))).0 carried in
     not_in_locked position.0 position.1
 
-own_pairs : (p : OrderPair) → IsIn p sent_before.pairs → p ≡ pair
+own_pairs : (p : OrderPair) → IsIn p sent.pairs → p ≡ pair
 own_pairs p i = only_item i
 
 none_added : (k : Skeleton) → k.assumptions.uniquely_originating ≡ [] → (p : OrderPair) → IsAddedPair k p → ⊥
 none_added k none p added = not_in_none (subst (IsIn added.0.entry) none added.0.listed)
 
-closes_no_cycle : ClosesCycle sent_before → ⊥
-closes_no_cycle c = acyclic (with_pairs sent_before c.pairs) (λ p i. ⊎_elim (own_pairs p) (λ added. absurd (none_added sent_before refl p added)) ((c.normal p).0 i)) c.node c.cycle
+closes_no_cycle : ClosesCycle sent → ⊥
+closes_no_cycle c = acyclic (with_pairs sent c.pairs) (λ p i. ⊎_elim (own_pairs p) (λ added. absurd (none_added sent refl p added)) ((c.normal p).0 i)) c.node c.cycle
 
-consistent : IsContradictory sent_before → ⊥
-consistent (inl carries) = key_is_not_carried sent_before refl each_locked carries
+consistent : IsContradictory sent → ⊥
+consistent (inl carries) = key_is_not_carried sent refl each_locked carries
 consistent (inr (inl two)) = not_in_none two.first_listed
 consistent (inr (inr (inl lost))) = not_in_none lost.listed
 consistent (inr (inr (inr cycle))) = closes_no_cycle cycle
 
-normal_pairs : AreNormalPairs sent_before sent_before.pairs
-normal_pairs p = (inl, λ e. ⊎_elim (λ i. i) (λ added. absurd (none_added sent_before refl p added)) e)
+normal_pairs : AreNormalPairs sent sent.pairs
+normal_pairs p = (inl, λ e. ⊎_elim (λ i. i) (λ added. absurd (none_added sent refl p added)) e)
 
-has_form : HasForms sent_before (sent_before ∷ [])
+has_form : HasForms sent (sent ∷ [])
 has_form = normal (λ u x misplaced. not_in_none misplaced.listed) normal_pairs consistent
 
-comes : ComesBySubstitution sent_before sent_before
+comes : ComesBySubstitution sent sent
 comes = record {
   substitution = unchanged;
   stays_within = record {
     idempotent = λ t. term_unchanged (apply_to unchanged t);
-    within = λ x y i j. subst (λ (z : Variable). IsIn z (all_variables sent_before)) (sym (only_itself x y (subst (λ (v : Term). IsIn y (variables_of v)) (term_unchanged (variable_term x)) j))) i;
+    within = λ x y i j. subst (λ (z : Variable). IsIn z (all_variables sent)) (sym (only_itself x y (subst (λ (v : Term). IsIn y (variables_of v)) (term_unchanged (variable_term x)) j))) i;
     leaves = λ x none. term_unchanged (variable_term x);
   };
   same = record {
-    strands = same_strands same_listener (same_strands (same_instance (λ x i. ap (λ (s : Substitution). apply_to s (variable_term x)) (composed_stays (composed new_terms as_old)))) no_strands);
+    strands = same_strands same_listener (same_strands (same_instance
+        (λ x i. by_bindings (composed (as_substitution (terms_under as_old locker 1 new_terms)) unchanged) (variables_of_prefix locker 1) x i
+        ∙ ap (λ (s : Substitution). apply_to s (variable_term x)) (composed_stays (as_substitution (terms_under as_old locker 1 new_terms))))) no_strands);
     pairs = refl;
     assumptions = refl;
     from_problem = refl;
   };
-  pairs = λ p. (inl, λ e. ⊎_elim (λ i. i) (λ added. absurd (none_added (skeleton_under unchanged sent_before) refl p added)) e);
+  pairs = λ p. (inl, λ e. ⊎_elim (λ i. i) (λ added. absurd (none_added (skeleton_under unchanged sent) refl p added)) e);
 }
 
 abbrev form : Formed
-form = record { substitution = unchanged; skeleton = sent_before }
+form = record { substitution = unchanged; skeleton = sent }
 
-forms : AreFormedNormalForms sent_before (form ∷ [])
+forms : AreFormedNormalForms sent (form ∷ [])
 unfolding comes
 forms = record {
   exact = has_form;
-  formed = λ f i. subst (IsFormedFrom sent_before) (sym (only_item i)) (record { comes = comes; by = refl });
+  formed = λ f i. subst (IsFormedFrom sent) (sym (only_item i)) (record { comes = comes; by = refl });
   loses_none = λ protocol b h sk is stands apart. record { form = form; listed = here; stands = stands; apart = apart; same_values = λ t. refl };
 }
 
@@ -206,16 +223,34 @@ both : (x : PartialSolution) → MeetsBoth released x
 both x = record { outside = λ inside. not_in_none inside.inside.listed; inside_before = λ i l event at. absurd (omega (arith, l)) }
 
 abbrev tried : PartialSolution
-tried = record { variables = one_child.variables; substitution = as_old; skeleton = sent_before }
+tried = record { skeleton = sent; substitution = bindings }
 
-settles : SolvesRelease released on_the_way tried (with_form_of tried form ∷ [])
-settles = normalising (both tried) forms (next_form (settled (both (with_form_of tried form))) no_forms)
+beside : AreFormsBeside sent bindings (record { skeleton = sent; substitution = bindings } ∷ [])
+beside = record {
+  forms = form ∷ [];
+  normal = forms;
+  each = (
+    record {
+      skeleton = refl;
+      variables = refl;
+      terms = λ t. sym (term_unchanged (apply_to (as_substitution bindings) t));
+      substitution = sym (composed_stays (as_substitution bindings));
+    },
+    tt,
+  );
+}
+
+settles : SolvesRelease released on_the_way tried (tried ∷ [])
+settles = normalising (both tried) beside (next_form (settled (both tried)) no_forms)
+
+adds_grown : AddsStrand locker 1 (fresh_terms 2 (prefix_variables locker 1)) heard grown
+adds_grown = record { terms = adds.terms; gives = adds.gives; strands = adds.strands; pairs = adds.pairs; assumptions = adds.assumptions; from_problem = adds.from_problem }
 
 at_whole : AddsAt asked locker 0 [] (one_child ∷ [])
-at_whole = record { grown = with_locker; adds = adds; releases = cohort.unified (acyclic put (λ p i. only_item i)) refl refl unifies (says_itself sent_before) settles }
+at_whole = record { grown = grown; adds = adds_grown; variables = refl; releases = cohort.unified (acyclic put (λ p i. only_item i)) refl refl unifies (record { same = says_itself sent; variables = refl; by = refl }) settles }
 
 at_text : AddsAt asked locker 0 (Plaintext ∷ []) []
-at_text = record { grown = with_locker; adds = adds; releases = cohort.never_equal refl refl text_never }
+at_text = record { grown = grown; adds = adds_grown; variables = refl; releases = cohort.never_equal refl refl text_never }
 
 -- ---- the listener on the key
 
@@ -225,6 +260,7 @@ listens = record {
   adds = refl;
   forms = [];
   normal = refuted (inl (record { value = key_term shared; listed = here; node = node_at 1 0; carried = record { event = recv (atom_term (key_term shared)); there = refl; carried = itself_term } }));
+  table = λ r i. absurd (not_in_none i);
   are_children = refl;
 }
 

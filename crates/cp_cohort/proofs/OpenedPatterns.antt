@@ -3,7 +3,7 @@ use Rattle.std.proofs.Common.{◌≡◌, ℕ, suc, ◌+◌, List, [], ◌∷◌,
 use Rattle.cp_lists.specs.Lists.{item_at, IsIn}
 use Rattle.cp_lists.proofs.Items.{map_of_item, item_behind}
 use Rattle.cp_lists.proofs.Members.{not_in_none, only_item, in_cases}
-use Rattle.cp_model.specs.Term.{atom_of_variable, variables_of, Assignment, value_of, after, Substitution, variable_term, apply_to, atom_term}
+use Rattle.cp_model.specs.Term.{variables_of, Assignment, value_of, after, Substitution, variable_term, apply_to}
 use Rattle.cp_model.specs.declared.sort.Sort.{Sort}
 use Rattle.cp_model.specs.declared.sort.Sort.TheVariants.{Text as text_sort, Datum as datum_sort, Name as name_sort, Skey as skey_sort, Akey as akey_sort}
 use Rattle.cp_model.specs.declared.variable.Variable.{Variable}
@@ -13,10 +13,9 @@ use Rattle.cp_model.specs.Tree.{Pattern}
 use Rattle.cp_model.proofs.LawTerms.{value_after}
 use Rattle.cp_model.proofs.LawAgreement.{agree_value}
 use Rattle.cp_model.proofs.DeclaredVariables.{still_declared}
-use Rattle.cp_unify.specs.Bindings.{Binding, variable_of}
+use Rattle.cp_unify.specs.Bindings.{Binding}
 use Rattle.cp_unify.proofs.VariableTests.{is_variable_tells}
-use Rattle.cp_unify.proofs.VariablesUnder.{bound, other, given_term}
-use Rattle.cp_collapse.proofs.Values.{sort_of_variable}
+use Rattle.cp_unify.proofs.VariablesUnder.{variable_has_sort, bound, other, given_term}
 use Rattle.cp_theory.specs.Matches.{IsFreeIn}
 use Rattle.cp_theory.specs.Fresh.{AreBelow}
 use Rattle.cp_theory.proofs.NewValues.{beside, old_values, new_value_at}
@@ -36,25 +35,22 @@ IsOld n xs s x = (IsIn x xs → ⊥) × (apply_to (with_new n xs s) (variable_te
 
 module _ (n : ℕ) (y : Variable) (ys : List Variable) (s : Substitution) (x : Variable) where
   abbrev binding : Binding
-  binding = record { number = y.number; term = atom_of_variable (variable y.sort n) }
-
-  binds : variable_of binding ≡ y
-  binds = ap (λ (z : Sort). variable z y.number) (sort_of_variable y.sort n)
+  binding = record { variable = y; term = variable_term (variable y.sort n) }
 
   first_is_new : x ≡ y → IsNew n (y ∷ ys) s x
   first_is_new e =
       let number : n ≡ n + 0 = omega arith in (
         0,
         ap Some (sym e),
-        ap (λ (z : Variable). apply_to (with_new n (y ∷ ys) s) (variable_term z)) (e ∙ sym binds)
-            ∙ ap atom_term (bound binding (with_new (suc n) ys s))
+        ap (λ (z : Variable). apply_to (with_new n (y ∷ ys) s) (variable_term z)) e
+            ∙ bound binding (with_new (suc n) ys s) (variable_has_sort y.sort n)
             ∙ ap (λ (z : Variable). variable_term (variable z.sort n)) (sym e)
             ∙ ap (λ (m : ℕ). variable_term (variable x.sort m)) number,
       )
 
   module _ (differs : x ≡ y → ⊥) where
     as_behind : apply_to (with_new n (y ∷ ys) s) (variable_term x) ≡ apply_to (with_new (suc n) ys s) (variable_term x)
-    as_behind = ap atom_term (other binding (with_new (suc n) ys s) x (λ q. differs (q ∙ binds)))
+    as_behind = other binding (with_new (suc n) ys s) x differs
 
     still_new : IsNew (suc n) ys s x → IsNew n (y ∷ ys) s x
     still_new r =

@@ -4,10 +4,10 @@ use Rattle.std.specs.Prelude.{◌≢◌}
 use Rattle.cp_lists.specs.Lists.{item_at, IsIn, one_step}
 use Rattle.cp_lists.proofs.Members.{in_append_left, in_last}
 use Rattle.cp_model.specs.Term.{Term, Substitution, apply_to, composed}
+use Rattle.cp_model.specs.Bindings.{Binding}
 use Rattle.cp_model.specs.Strand.{payload, Role, Protocol}
 use Rattle.cp_model.specs.declared.strand.Event.{Event}
 use Rattle.cp_model.specs.declared.strand.Event.TheVariants.{Send as send}
-use Rattle.cp_model.specs.declared.variable.Declaration.{Declaration}
 use Rattle.cp_model.specs.Bundle.{node_at}
 use Rattle.cp_model.specs.declared.node.Node.{Node}
 use Rattle.cp_model.specs.declared.node.OrderPair.{OrderPair}
@@ -33,7 +33,8 @@ use Rattle.cp_theory.specs.Covering.{put_before}
 use Rattle.cp_theory.specs.Fresh.{fresh_terms}
 use Rattle.cp_theory.proofs.Places.{term_at_under}
 use Rattle.cp_pattern.specs.Unifiers.{UnifiesMostGenerally}
-use Rattle.cp_cohort.specs.Releases.{PartialSolution, MeetsBoth}
+use Rattle.cp_cohort.specs.Releases.{PartialSolution, came_by, MeetsBoth}
+use Rattle.cp_cohort.specs.Stages.{IsFirstUnder}
 use Rattle.cp_cohort.specs.CoveringChildren.{Child, child, IsTransmissionBefore, HasGrown}
 use Rattle.cp_cohort.specs.Cohort.{GuardedTest, release_at, AddsAt, IsCohort}
 use Rattle.cp_cohort.specs.Cohort as cohort
@@ -74,7 +75,7 @@ module _ (q : GuardedTest) where
   module _ (o : LocatedEvent) (path : List Step) (there_is : IsIn o (events_of k)) (before : IsTransmissionBefore k q.node o) (t : Term) (s : Substitution) (l : Skeleton) (at : term_at (payload o.event) path ≡ Some t) (unifies : UnifiesMostGenerally t q.critical s)
       (same : SaysTheSame (skeleton_under s k) l) (r : Skeleton) (c : ComesBySubstitution l r) where
     abbrev d : Child
-    d = child q.variables (by_contraction o.node) path r
+    d = child (by_contraction o.node) path r
 
     first : IsStep k l s
     first = step_alike k l s same
@@ -105,26 +106,27 @@ module _ (q : GuardedTest) where
 
   -- ---- what is put before the node
 
-  module _ (s j : ℕ) (path : List Step) (operation : Operation) (grown : Skeleton) (more : SaysMore k grown) (role : Role) (height : ℕ) (terms : Substitution) (on : item_at grown.strands s ≡ Some (instance role height terms)) where
+  module _ (s j : ℕ) (path : List Step) (operation : Operation) (grown : Skeleton) (more : SaysMore k grown) (role : Role) (height : ℕ) (terms : List Binding) (on : item_at grown.strands s ≡ Some (instance role height terms)) where
     abbrev node : Node
     node = node_at s j
 
     abbrev put : Skeleton
     put = put_before node q.node grown
 
-    sends_first : (variables : List Declaration) (t u : Term) (f : Substitution) (l : Skeleton) → term_event_at grown.strands node ≡ Some (send t) → term_at t path ≡ Some u → UnifiesMostGenerally u q.critical f → SaysTheSame (skeleton_under f put) l →
-        IsSending k q.node (release_at q s j path) role height (record { variables = variables; substitution = f; skeleton = l })
-    sends_first variables t u f l ev at m same =
-        let step = step_alike put l f same in
+    sends_first : (t u : Term) (f : Substitution) (x : PartialSolution) → term_event_at grown.strands node ≡ Some (send t) → term_at t path ≡ Some u → UnifiesMostGenerally u q.critical f → IsFirstUnder put f x →
+        IsSending k q.node (release_at q s j path) role height x
+    sends_first t u f x ev at m is_first =
+        let l : Skeleton = x.skeleton in
+        let step = step_alike put l f is_first.same in
         let stays = step_instance put l f step s role height terms on in
         record {
-          leads = more_then k put l f (more_leads k put (put_says_more k grown node q.node more)) (step_leads put l f step);
+          leads = subst (Leads k l) (sym is_first.by) (more_then k put l f (more_leads k put (put_says_more k grown node q.node more)) (step_leads put l f step));
           terms = stays.0;
           on_instance = stays.1;
           message = apply_to f t;
           sent = step_event put l f step node (send t) ev;
           before = step_before put l f step (put_there grown node q.node);
-          stands = term_at_under f t path u at ∙ ap Some m.unifies;
+          stands = term_at_under f t path u at ∙ ap Some m.unifies ∙ ap (λ (v : Substitution). Some (apply_to v q.critical)) (sym is_first.by);
         }
 
     -- A child, of what solves the release, releases the critical term.
@@ -132,12 +134,12 @@ module _ (q : GuardedTest) where
       by : IsChildBySubstitution q d
       releases : ReleasesCritical q d by node
       of_operation : d.operation ≡ operation
-      to_terms : Substitution
+      to_terms : List Binding
       on_instance : item_at d.skeleton.strands s ≡ Some (instance role height to_terms)
 
-    releasing : (x : PartialSolution) → IsSending k q.node (release_at q s j path) role height x → MeetsBoth (release_at q s j path) x → Releasing (child x.variables operation path x.skeleton)
+    releasing : (x : PartialSolution) → IsSending k q.node (release_at q s j path) role height x → MeetsBoth (release_at q s j path) x → Releasing (child operation path x.skeleton)
     releasing x sending both = record {
-      by = comes (child x.variables operation path x.skeleton) x.substitution sending.leads;
+      by = comes (child operation path x.skeleton) (came_by x) sending.leads;
       releases = record {
         carries = record { message = sending.message; sent = sending.sent; before = sending.before; stands = sending.stands };
         outside = λ inside. both.outside (record { event = send sending.message; there = sending.sent; inside = inside });
@@ -148,28 +150,28 @@ module _ (q : GuardedTest) where
       on_instance = sending.on_instance;
     }
 
-    releases_said : (variables : List Declaration) (children : List Child) → cohort.Releases q variables operation (release_at q s j path) grown children → (d : Child) → IsIn d children → Releasing d
-    releases_said variables =
-        of_released q Releasing variables operation (release_at q s j path) grown
+    releases_said : (children : List Child) → cohort.Releases q operation (release_at q s j path) grown children → (d : Child) → IsIn d children → Releasing d
+    releases_said =
+        of_released q Releasing operation (release_at q s j path) grown
         (λ x c.
-        let last = settles_sending k q.node (release_at q s j path) role height c.settles (sends_first variables c.message c.term c.unifier c.under c.sent c.at c.unifies c.same) x c.listed in
+        let last = settles_sending k q.node (release_at q s j path) role height c.settles (sends_first c.message c.term c.unifier c.first c.sent c.at c.unifies c.is_first) x c.listed in
         releasing x last.0 last.1)
 
   -- ---- displaced
 
-  module _ (s : ℕ) (role : Role) (height : ℕ) (terms : Substitution) (on : item_at k.strands s ≡ Some (instance role height terms)) (apart : s ≢ q.node.strand) (j : ℕ) (none : Before k (node_at s j) q.node → ⊥) (path : List Step) where
+  module _ (s : ℕ) (role : Role) (height : ℕ) (terms : List Binding) (on : item_at k.strands s ≡ Some (instance role height terms)) (apart : s ≢ q.node.strand) (j : ℕ) (none : Before k (node_at s j) q.node → ⊥) (path : List Step) where
     -- The grown skeleton says more, and has an instance on the strand.
     record IsHigher (grown : Skeleton) : Type 0 where
       more : SaysMore k grown
       to_role : Role
       to_height : ℕ
-      to_terms : Substitution
+      to_terms : List Binding
       to_instance : item_at grown.strands s ≡ Some (instance to_role to_height to_terms)
 
-    higher : (grown : Skeleton) (variables : List Declaration) → HasGrown s role height j q.variables k variables grown → IsHigher grown
-    higher grown variables h =
+    higher : (grown : Skeleton) → HasGrown s role height j k grown → IsHigher grown
+    higher grown h =
         ⊎_elim
-        (λ r. subst IsHigher (sym r.2) (record { more = says_itself_more k; to_role = role; to_height = height; to_terms = terms; to_instance = on }))
+        (λ r. subst IsHigher (sym r.1) (record { more = says_itself_more k; to_role = role; to_height = height; to_terms = terms; to_instance = on }))
         (λ r.
         let ext = r.2 in
         let le : height ≤ j = r.0 in
@@ -177,7 +179,7 @@ module _ (q : GuardedTest) where
         let same : height ≡ ext.before = cc in
         let least : ext.before ≤ suc j = subst (λ (n : ℕ). n ≤ suc j) same (omega (arith, le)) in
         record {
-          more = extended_says_more s (suc j) (fresh_terms (length q.variables) (added_variables role height (suc j))) k grown ext least;
+          more = extended_says_more s (suc j) (fresh_terms (length q.skeleton.variables) (added_variables role height (suc j))) k grown ext least;
           to_role = ext.role;
           to_height = suc j;
           to_terms = ext.terms;
@@ -186,8 +188,8 @@ module _ (q : GuardedTest) where
 
     displaced_at : (children : List Child) → DisplacesAt q s role height j path children → (d : Child) → IsIn d children → HasItsOperation q d
     displaced_at children a d i =
-        let h = higher a.grown a.variables a.grows in
-        let r = releases_said s j path (by_displacement (node_at s j)) a.grown h.more h.to_role h.to_height h.to_terms h.to_instance a.variables children a.releases d i in
+        let h = higher a.grown a.grows in
+        let r = releases_said s j path (by_displacement (node_at s j)) a.grown h.more h.to_role h.to_height h.to_terms h.to_instance children a.releases d i in
         displaced_said d r.by
         (record {
           on_instance = record { role = h.to_role; height = h.to_height; terms = r.to_terms; on_instance = r.on_instance };
@@ -206,9 +208,9 @@ module _ (q : GuardedTest) where
     added_at : (path : List Step) (children : List Child) → AddsAt q role j path children → (d : Child) → IsIn d children → HasItsOperation q d
     added_at path children a d i =
         let place = length k.strands in
-        let values = fresh_terms (length q.variables) (prefix_variables role (suc j)) in
+        let values = fresh_terms (length q.skeleton.variables) (prefix_variables role (suc j)) in
         let on = appended-last k a.grown (instance role (suc j) a.adds.terms) a.adds.strands a.adds.pairs in
-        let r = releases_said place j path (by_added_strand place) a.grown (strand_says_more role (suc j) values k a.grown a.adds) role (suc j) a.adds.terms on _ children a.releases d i in
+        let r = releases_said place j path (by_added_strand place) a.grown (strand_says_more role (suc j) values k a.grown a.adds) role (suc j) a.adds.terms on children a.releases d i in
         added_said d r.by (record { is_new = refl; role = role; index = j; terms = r.to_terms; on_instance = r.on_instance; releases = r.releases }) r.of_operation
       where
         added_said : (c : Child) (by : IsChildBySubstitution q c) → EndsByReleasing q c by (length k.strands) → c.operation ≡ by_added_strand (length k.strands) → HasItsOperation q c
@@ -223,11 +225,11 @@ module _ (q : GuardedTest) where
     abbrev put_listener : Skeleton
     put_listener = put_before (node_at place 1) q.node added
 
-    listener_child : ComesBySubstitution put_listener r → HasItsOperation q (child q.variables (by_added_listener place) [] r)
+    listener_child : ComesBySubstitution put_listener r → HasItsOperation q (child (by_added_listener place) [] r)
     listener_child c =
         let step = step_form put_listener r c in
         record {
-          by = comes (child q.variables (by_added_listener place) [] r) c.substitution
+          by = comes (child (by_added_listener place) [] r) c.substitution
               (more_then k put_listener r c.substitution (more_leads k put_listener (put_says_more k added (node_at place 1) q.node (listener_says_more t k added adds))) (step_leads put_listener r c.substitution step));
           is_so = record {
             is_new = refl;

@@ -1,5 +1,5 @@
 -- What goes on carrying a homomorphism from a problem, and keeping what the problem states.
-use Rattle.std.proofs.Common.{List, [], ◌∷◌, ◌++◌, map}
+use Rattle.std.proofs.Common.{List, [], ◌∷◌, ◌++◌, map, sym, subst}
 use Rattle.cp_lists.specs.Lists.{IsIn}
 use Rattle.cp_lists.proofs.Members.{in_append_left, into_map}
 use Rattle.cp_model.specs.Term.{Substitution}
@@ -62,6 +62,6 @@ pub settles_keeps : (r : Release) {stage : Stage} {x : PartialSolution} {ys : Li
 settles_keeps r {x = x} settles y i =
     let k = x.skeleton in
     (settles_each r (λ (z : PartialSolution). KeepsProblems k z.skeleton) (record {
-      branch = λ z keeps c choice u m l same. keeps_then k z.skeleton l keeps (keeps_then z.skeleton (skeleton_under u z.skeleton) l (keeps_under u z.skeleton) (keeps_alike (skeleton_under u z.skeleton) l same));
-      form = λ z keeps forms are f listed. keeps_then k z.skeleton f.skeleton keeps (keeps_forms z.skeleton (map (λ (g : Formed). g.skeleton) forms) are.exact f.skeleton (into_map (λ (g : Formed). g.skeleton) listed));
+      branch = λ z keeps c choice u m b next. keeps_then k z.skeleton b.skeleton keeps (keeps_then z.skeleton (skeleton_under u z.skeleton) b.skeleton (keeps_under u z.skeleton) (keeps_alike (skeleton_under u z.skeleton) b.skeleton next.same));
+      form = λ z keeps forms are f listed a beside. subst (KeepsProblems k) (sym beside.skeleton) (keeps_then k z.skeleton f.skeleton keeps (keeps_forms z.skeleton (map (λ (g : Formed). g.skeleton) forms) are.exact f.skeleton (into_map (λ (g : Formed). g.skeleton) listed)));
     }) settles (keeps_itself k) y i).0

@@ -6,8 +6,7 @@ use Rattle.cp_model.specs.Strand.{payload}
 use Rattle.cp_model.specs.declared.strand.Event.{Event}
 use Rattle.cp_collapse.specs.Property.{Has}
 use Rattle.cp_normal.proofs.Greatest.{greatest, greatest_falls}
-use Rattle.cp_cohort.specs.Releases.{Release, PartialSolution}
-use Rattle.cp_cohort.specs.ReleaseViews.{partial_solution_view}
+use Rattle.cp_cohort.specs.Releases.{Release, PartialSolution, came_by}
 use Rattle.cp_cohort.specs.declared.candidates.Candidate.{Candidate}
 use Rattle.cp_cohort.specs.declared.candidates.Candidate.TheVariants.{OnTheWay, Normal, Solved}
 use Rattle.cp_cohort.specs.Candidates.{IsUnsolved, OneMatches, trace_in, ComesFrom, MatchesMore, AdvancesTo, IsSolvingRound}
@@ -16,12 +15,12 @@ use Rattle.cp_cohort.proofs.UnmatchedEncryptions.{unmatched_in, fewer_unmatched,
 
 -- How many encryptions in the earlier events of the release's strand match no pattern.
 abbrev pub left_unmatched : Release → PartialSolution → ℕ
-left_unmatched r x = unmatched_in r.patterns x.substitution (take r.index (trace_in r x))
+left_unmatched r x = unmatched_in r.patterns (came_by x) (take r.index (trace_in r x))
 
 -- Twice that, and one or two more; a solved one counts nothing.
 abbrev pub rank : Release → Candidate → ℕ
-rank r (OnTheWay x) = suc (suc (left_unmatched r (partial_solution_view x) + left_unmatched r (partial_solution_view x)))
-rank r (Normal x) = suc (left_unmatched r (partial_solution_view x) + left_unmatched r (partial_solution_view x))
+rank r (OnTheWay x) = suc (suc (left_unmatched r x + left_unmatched r x))
+rank r (Normal x) = suc (left_unmatched r x + left_unmatched r x)
 rank r (Solved x) = 0
 
 open_rank : (r : Release) (c : Candidate) → IsUnsolved c → 0 < rank r c
@@ -32,26 +31,26 @@ open_rank r (Solved x) h = absurd h
 module _ (r : Release) (x y : PartialSolution) where
   no_more_left : ComesFrom r x y → left_unmatched r y ≤ left_unmatched r x
   no_more_left from =
-      subst (λ (es : List (Event Term)). unmatched_in r.patterns y.substitution (take r.index es) ≤ left_unmatched r x) (sym from.trace)
-      (no_more_in r.patterns x.substitution from.by y.substitution from.stays r.index (trace_in r x))
+      subst (λ (es : List (Event Term)). unmatched_in r.patterns (came_by y) (take r.index es) ≤ left_unmatched r x) (sym from.trace)
+      (no_more_in r.patterns (came_by x) from.by (came_by y) from.stays r.index (trace_in r x))
 
-  false_if_not : (e : Term) (b : Bool) → one_matches r.patterns x.substitution e ≡ b → (OneMatches r.patterns x.substitution e → ⊥) → one_matches r.patterns x.substitution e ≡ false
-  false_if_not e true is never = absurd (never (one_does r.patterns x.substitution e is))
+  false_if_not : (e : Term) (b : Bool) → one_matches r.patterns (came_by x) e ≡ b → (OneMatches r.patterns (came_by x) e → ⊥) → one_matches r.patterns (came_by x) e ≡ false
+  false_if_not e true is never = absurd (never (one_does r.patterns (came_by x) e is))
   false_if_not e false is never = is
 
   fewer_left : MatchesMore r x y → left_unmatched r y < left_unmatched r x
   fewer_left more =
-      let was : one_matches r.patterns x.substitution more.encryption ≡ false = false_if_not more.encryption (one_matches r.patterns x.substitution more.encryption) refl more.was_not in
-      let is : one_matches r.patterns y.substitution (apply_to more.comes.by more.encryption) ≡ true = does_one r.patterns y.substitution (apply_to more.comes.by more.encryption) more.is in
-      subst (λ (es : List (Event Term)). unmatched_in r.patterns y.substitution (take r.index es) < left_unmatched r x) (sym more.comes.trace)
-      (fewer_in r.patterns x.substitution more.comes.by y.substitution more.comes.stays r.index (trace_in r x) more.index more.event more.earlier more.there
-      (fewer_unmatched r.patterns x.substitution more.comes.by y.substitution more.comes.stays more.encryption was is (payload more.event) more.path more.above))
+      let was : one_matches r.patterns (came_by x) more.encryption ≡ false = false_if_not more.encryption (one_matches r.patterns (came_by x) more.encryption) refl more.was_not in
+      let is : one_matches r.patterns (came_by y) (apply_to more.comes.by more.encryption) ≡ true = does_one r.patterns (came_by y) (apply_to more.comes.by more.encryption) more.is in
+      subst (λ (es : List (Event Term)). unmatched_in r.patterns (came_by y) (take r.index es) < left_unmatched r x) (sym more.comes.trace)
+      (fewer_in r.patterns (came_by x) more.comes.by (came_by y) more.comes.stays r.index (trace_in r x) more.index more.event more.earlier more.there
+      (fewer_unmatched r.patterns (came_by x) more.comes.by (came_by y) more.comes.stays more.encryption was is (payload more.event) more.path more.above))
 
 falls_below : (r : Release) (c d : Candidate) → AdvancesTo r c d → (rank r d ≡ 0) ⊎ (rank r d < rank r c)
 falls_below r c (Solved y) h = inl refl
-falls_below r (OnTheWay x) (Normal y) h = let f = no_more_left r (partial_solution_view x) (partial_solution_view y) h in inr (omega (arith, f))
-falls_below r (OnTheWay x) (OnTheWay y) h = let f = fewer_left r (partial_solution_view x) (partial_solution_view y) h in inr (omega (arith, f))
-falls_below r (Normal x) (OnTheWay y) h = let f = fewer_left r (partial_solution_view x) (partial_solution_view y) h in inr (omega (arith, f))
+falls_below r (OnTheWay x) (Normal y) h = let f = no_more_left r x y h in inr (omega (arith, f))
+falls_below r (OnTheWay x) (OnTheWay y) h = let f = fewer_left r x y h in inr (omega (arith, f))
+falls_below r (Normal x) (OnTheWay y) h = let f = fewer_left r x y h in inr (omega (arith, f))
 falls_below r (Normal x) (Normal y) h = absurd h
 falls_below r (Solved x) (OnTheWay y) h = absurd h
 falls_below r (Solved x) (Normal y) h = absurd h

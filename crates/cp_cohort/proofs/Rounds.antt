@@ -7,8 +7,6 @@ use Rattle.cp_collapse.specs.Property.{Has}
 use Rattle.cp_model.proofs.CarriedParts.{not_both}
 use Rattle.cp_cohort.specs.Releases.{Release, PartialSolution}
 use Rattle.cp_cohort.specs.Stages.{SolvesRelease, on_the_way}
-use Rattle.cp_cohort.specs.ReleaseViews.{partial_solution_view}
-use Rattle.cp_cohort.specs.declared.release.PartialSolution as program
 use Rattle.cp_cohort.specs.declared.candidates.Candidate.{Candidate}
 use Rattle.cp_cohort.specs.declared.candidates.Candidate.TheVariants.{OnTheWay, Normal, Solved}
 use Rattle.cp_cohort.specs.CandidateResults.{HasResults, LeadTo}
@@ -43,13 +41,13 @@ placed r c new takes (d ∷ done) rest ys l = (l.0, l.1, l.2, l.3, placed r c ne
 
 -- ---- a solved candidate
 
-settled_leads : (r : Release) (x : program.PartialSolution) (ys : List PartialSolution) → LeadTo r (Solved x ∷ []) ys → HasResults r (Solved x) ys
+settled_leads : (r : Release) (x : PartialSolution) (ys : List PartialSolution) → LeadTo r (Solved x ∷ []) ys → HasResults r (Solved x) ys
 settled_leads r x ys l = l.2 ∙ ap (λ (zs : List PartialSolution). l.0 ++ zs) l.4 ∙ append-nil l.0 ∙ l.3
 
-settled_takes : (r : Release) (x : program.PartialSolution) → ReplacesByAdvance r (Solved x) (Solved x ∷ [])
+settled_takes : (r : Release) (x : PartialSolution) → ReplacesByAdvance r (Solved x) (Solved x ∷ [])
 settled_takes r x = record { each = λ d i. subst (AdvancesTo r (Solved x)) (sym (only_item i)) tt; leads = settled_leads r x }
 
-pub settled_stays : (r : Release) (c : Candidate) (x : program.PartialSolution) (old new : List Candidate) → c ≡ Solved x → new ≡ old ++ Solved x ∷ [] → PutsAdvanced r c old new
+pub settled_stays : (r : Release) (c : Candidate) (x : PartialSolution) (old new : List Candidate) → c ≡ Solved x → new ≡ old ++ Solved x ∷ [] → PutsAdvanced r c old new
 settled_stays r c x old new is e = subst (λ (d : Candidate). PutsAdvanced r d old new) (sym is) (record { added = Solved x ∷ []; behind = e; takes_place = settled_takes r x })
 
 -- ---- a round
@@ -101,31 +99,31 @@ all_done r candidates all left new e done part = record {
 -- ---- all rounds
 
 -- The results of the candidates are those of the first partial solution.
-pub record IsReached (r : Release) (x : program.PartialSolution) (candidates : List Candidate) : Type 0 where
-  pub leads : (ys : List PartialSolution) → LeadTo r candidates ys → SolvesRelease r on_the_way (partial_solution_view x) ys
+pub record IsReached (r : Release) (x : PartialSolution) (candidates : List Candidate) : Type 0 where
+  pub leads : (ys : List PartialSolution) → LeadTo r candidates ys → SolvesRelease r on_the_way x ys
 
-first_leads : (r : Release) (x : program.PartialSolution) (ys : List PartialSolution) → LeadTo r (OnTheWay x ∷ []) ys → SolvesRelease r on_the_way (partial_solution_view x) ys
-first_leads r x ys l = subst (SolvesRelease r on_the_way (partial_solution_view x)) (sym (l.2 ∙ ap (λ (zs : List PartialSolution). l.0 ++ zs) l.4 ∙ append-nil l.0)) l.3
+first_leads : (r : Release) (x : PartialSolution) (ys : List PartialSolution) → LeadTo r (OnTheWay x ∷ []) ys → SolvesRelease r on_the_way x ys
+first_leads r x ys l = subst (SolvesRelease r on_the_way x) (sym (l.2 ∙ ap (λ (zs : List PartialSolution). l.0 ++ zs) l.4 ∙ append-nil l.0)) l.3
 
-pub reached_at_first : (r : Release) (x : program.PartialSolution) (candidates : List Candidate) → candidates ≡ OnTheWay x ∷ [] → IsReached r x candidates
+pub reached_at_first : (r : Release) (x : PartialSolution) (candidates : List Candidate) → candidates ≡ OnTheWay x ∷ [] → IsReached r x candidates
 reached_at_first r x candidates e = subst (IsReached r x) (sym e) (record { leads = first_leads r x })
 
-pub reached_next : (r : Release) (x : program.PartialSolution) (old new : List Candidate) → IsReached r x old → IsSolvingRound r old new → IsReached r x new
+pub reached_next : (r : Release) (x : PartialSolution) (old new : List Candidate) → IsReached r x old → IsSolvingRound r old new → IsReached r x new
 reached_next r x old new reached done = record { leads = λ ys l. reached.leads ys (done.leads ys l) }
 
 -- No candidate is open where the test finds none.
 pub none_open : (candidates read : List Candidate) (b : Bool) → b ≡ false → (Has IsUnsolved read → b ≡ true) → read ≡ candidates → Has IsUnsolved candidates → ⊥
 none_open candidates read b closed finds same h = not_both closed (finds (subst (Has IsUnsolved) (sym same) h))
 
-itself : (r : Release) (c : Candidate) → (IsUnsolved c → ⊥) → HasResults r c (partial_solution_view (tried_of c) ∷ [])
+itself : (r : Release) (c : Candidate) → (IsUnsolved c → ⊥) → HasResults r c (tried_of c ∷ [])
 itself r (OnTheWay x) shut = absurd (shut tt)
 itself r (Normal x) shut = absurd (shut tt)
 itself r (Solved x) shut = refl
 
-themselves : (r : Release) (cs : List Candidate) → (Has IsUnsolved cs → ⊥) → LeadTo r cs (map partial_solution_view (map tried_of cs))
+themselves : (r : Release) (cs : List Candidate) → (Has IsUnsolved cs → ⊥) → LeadTo r cs (map tried_of cs)
 themselves r [] shut = refl
-themselves r (c ∷ cs) shut = (partial_solution_view (tried_of c) ∷ [], map partial_solution_view (map tried_of cs), refl, itself r c (λ o. shut (c, here, o)), themselves r cs (λ h. shut (h.0, there h.1, h.2)))
+themselves r (c ∷ cs) shut = (tried_of c ∷ [], map tried_of cs, refl, itself r c (λ o. shut (c, here, o)), themselves r cs (λ h. shut (h.0, there h.1, h.2)))
 
-pub reached_at_last : (r : Release) (x : program.PartialSolution) (candidates : List Candidate) (all : List program.PartialSolution) → IsReached r x candidates → (Has IsUnsolved candidates → ⊥) → all ≡ map tried_of candidates →
-    SolvesRelease r on_the_way (partial_solution_view x) (map partial_solution_view all)
-reached_at_last r x candidates all reached shut e = reached.leads (map partial_solution_view all) (subst (λ (ts : List program.PartialSolution). LeadTo r candidates (map partial_solution_view ts)) (sym e) (themselves r candidates shut))
+pub reached_at_last : (r : Release) (x : PartialSolution) (candidates : List Candidate) (all : List PartialSolution) → IsReached r x candidates → (Has IsUnsolved candidates → ⊥) → all ≡ map tried_of candidates →
+    SolvesRelease r on_the_way x all
+reached_at_last r x candidates all reached shut e = reached.leads all (subst (λ (ts : List PartialSolution). LeadTo r candidates ts) (sym e) (themselves r candidates shut))

@@ -1,18 +1,20 @@
 -- One skeleton leads to another, whose strands stay where they are, by a substitution.
-use Rattle.std.proofs.Common.{◌≡◌, ℕ, map, Some, sym, ap, ◌∙◌, subst, inl, arith}
+use Rattle.std.proofs.Common.{◌≡◌, ℕ, map, Some, sym, ap, ◌∙◌, subst, inl, arith, List}
 use Rattle.cp_lists.specs.Lists.{item_at, IsIn}
 use Rattle.cp_lists.proofs.Items.{map_of_item}
 use Rattle.cp_lists.proofs.Mapped.{map_same, map_then}
 use Rattle.cp_model.specs.Term.{AtomTerm, Term, Substitution, apply_to, apply_to_atom, composed, variable_term}
+use Rattle.cp_model.specs.Bindings.{Binding, as_substitution}
 use Rattle.cp_model.specs.Identity.{unchanged}
-use Rattle.cp_model.specs.Strand.{event_map, Role}
+use Rattle.cp_model.specs.Strand.{event_map, Role, variables_of_prefix}
 use Rattle.cp_model.specs.declared.strand.Event.{Event}
 use Rattle.cp_model.specs.declared.node.Node.{Node}
 use Rattle.cp_model.specs.Skeleton.{instance, listener, Assumptions, FromProblem, term_event_at, Skeleton, Before}
 use Rattle.cp_model.specs.Homomorphism.{SkeletonMap, IsHomomorphism, GoesToInstance}
 use Rattle.cp_model.proofs.LawTerms.{atom_unchanged, term_unchanged, term_composed}
+use Rattle.cp_model.proofs.DeclaredTerms.{by_bindings}
 use Rattle.cp_model.proofs.LawEmbeddings.{then_homomorphism}
-use Rattle.cp_theory.specs.Normal.{strand_under, skeleton_under, with_pairs}
+use Rattle.cp_theory.specs.Normal.{strand_under, skeleton_under, with_pairs, terms_under}
 use Rattle.cp_theory.proofs.Mapped.{to_under, before_under, before_more}
 use Rattle.cp_theory.proofs.Skeletons.{event_under}
 use Rattle.cp_collapse.specs.SameSkeletons.{AreSameStrands, SaysTheSame}
@@ -55,9 +57,9 @@ module _ (k l : Skeleton) (s : Substitution) (step : IsStep k l s) where
   pub step_event : (n : Node) (e : Event Term) → term_event_at k.strands n ≡ Some e → term_event_at l.strands n ≡ Some (event_map (apply_to s) e)
   step_event n e at = sym (same_event_at step.strands n) ∙ event_under s k n e at
 
-  pub step_instance : (a : ℕ) (role : Role) (height : ℕ) (terms : Substitution) → item_at k.strands a ≡ Some (instance role height terms) → (ts : Substitution) × (item_at l.strands a ≡ Some (instance role height ts))
+  pub step_instance : (a : ℕ) (role : Role) (height : ℕ) (terms : List Binding) → item_at k.strands a ≡ Some (instance role height terms) → (ts : List Binding) × (item_at l.strands a ≡ Some (instance role height ts))
   step_instance a role height terms at =
-      let r = instance_at (all_same_back step.strands) a role height (composed terms s) (map_of_item (strand_under s) k.strands a (instance role height terms) at) in
+      let r = instance_at (all_same_back step.strands) a role height (terms_under s role height terms) (map_of_item (strand_under s) k.strands a (instance role height terms) at) in
       (r.0, r.1)
 
   pub step_listener : (a : ℕ) (t : Term) → item_at k.strands a ≡ Some (listener t) → item_at l.strands a ≡ Some (listener (apply_to s t))
@@ -66,10 +68,10 @@ module _ (k l : Skeleton) (s : Substitution) (step : IsStep k l s) where
   pub step_before : {x y : Node} → Before k x y → Before l x y
   step_before b = step.ordered (before_under s k b)
 
-  goes : (a : ℕ) (role : Role) (height : ℕ) (terms : Substitution) → item_at k.strands a ≡ Some (instance role height terms) → GoesToInstance l (along s) a role height terms
+  goes : (a : ℕ) (role : Role) (height : ℕ) (terms : List Binding) → item_at k.strands a ≡ Some (instance role height terms) → GoesToInstance l (along s) a role height terms
   goes a role height terms at =
-      let r = instance_at (all_same_back step.strands) a role height (composed terms s) (map_of_item (strand_under s) k.strands a (instance role height terms) at) in
-      record { to_height = height; to_terms = r.0; on_instance = r.1; at_least = omega arith; equal_terms = λ x i. sym (r.2 x i) }
+      let r = instance_at (all_same_back step.strands) a role height (terms_under s role height terms) (map_of_item (strand_under s) k.strands a (instance role height terms) at) in
+      record { to_height = height; to_terms = r.0; on_instance = r.1; at_least = omega arith; equal_terms = λ x i. sym (by_bindings (composed (as_substitution terms) s) (variables_of_prefix role height) x i) ∙ sym (r.2 x i) }
 
   step_homomorphism : IsHomomorphism k l (along s)
   step_homomorphism =
@@ -95,7 +97,7 @@ more_homomorphism : (k l : Skeleton) → SaysMore k l → IsHomomorphism k l (al
 more_homomorphism k l more = record {
   instances = λ a role height terms at.
       let r = more.instances a role height terms at in
-      record { to_height = r.0; to_terms = r.1; on_instance = r.2; at_least = r.3; equal_terms = λ x i. term_composed terms unchanged (variable_term x) ∙ term_unchanged (apply_to terms (variable_term x)) ∙ r.4 x i };
+      record { to_height = r.0; to_terms = r.1; on_instance = r.2; at_least = r.3; equal_terms = λ x i. term_composed (as_substitution terms) unchanged (variable_term x) ∙ term_unchanged (apply_to (as_substitution terms) (variable_term x)) ∙ r.4 x i };
   listeners = λ a t at. more.listeners a t at ∙ ap (λ (u : Term). Some (listener u)) (sym (term_unchanged t));
   ordered = λ x y b. more.ordered x y b;
   non = λ v i. subst (λ (w : AtomTerm). IsIn w l.assumptions.non_originating) (sym (atom_unchanged v)) (more.non v i);

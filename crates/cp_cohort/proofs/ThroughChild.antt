@@ -3,7 +3,8 @@ use Rattle.std.proofs.Common.{◌≡◌, ℕ, List, [], ◌++◌, map, Some, ref
 use Rattle.cp_lists.specs.Lists.{item_at}
 use Rattle.cp_lists.proofs.Mapped.{map_same}
 use Rattle.cp_lists.proofs.Members.{not_in_none, in_append, in_append_right, from_map}
-use Rattle.cp_model.specs.Term.{Term, variables_of, Assignment, value_of, after, AgreeOn, Substitution, apply_to, variable_term}
+use Rattle.cp_model.specs.Term.{Term, variables_of, Assignment, value_of, after, AgreeOn, apply_to, variable_term}
+use Rattle.cp_model.specs.Bindings.{Binding, as_substitution}
 use Rattle.cp_model.specs.Strand.{Role, Protocol, prefix_of, variables_of_prefix, variables_of_trace, regular}
 use Rattle.cp_model.specs.declared.strand.Event.TheVariants.{Receive as recv}
 use Rattle.cp_model.specs.Bundle.{Bundle, event_at}
@@ -28,7 +29,7 @@ module _ (q : GuardedTest) (c : Child) (by : IsChildBySubstitution q c) (b : Bun
   abbrev to : Assignment
   to = after g.values by.substitution
 
-  instance_values : (s : ℕ) (role : Role) (height : ℕ) (terms : Substitution) → item_at q.skeleton.strands s ≡ Some (instance role height terms) → AgreeOn (variables_of_prefix role height) (after h.values terms) (after to terms)
+  instance_values : (s : ℕ) (role : Role) (height : ℕ) (terms : List Binding) → item_at q.skeleton.strands s ≡ Some (instance role height terms) → AgreeOn (variables_of_prefix role height) (after h.values (as_substitution terms)) (after to (as_substitution terms))
   instance_values s role height terms at x i =
       let first = stands.instances s role height terms at in
       let goes = by.homomorphism.instances s role height terms at in
@@ -39,7 +40,7 @@ module _ (q : GuardedTest) (c : Child) (by : IsChildBySubstitution q c) (b : Bun
       first.equal_values x i
       ∙ ap (λ (f : Assignment). value_of f (variable_term x)) same
       ∙ sym (second.equal_values x (variables_of_higher role height goes.to_height goes.at_least x i))
-      ∙ sym (after_further by.substitution terms goes.to_terms g.values (variable_term x) (goes.equal_terms x i))
+      ∙ sym (after_further by.substitution (as_substitution terms) (as_substitution goes.to_terms) g.values (variable_term x) (goes.equal_terms x i))
 
   listener_values : (s : ℕ) (t : Term) → item_at q.skeleton.strands s ≡ Some (listener t) → value_of h.values t ≡ value_of to t
   listener_values s t at =
@@ -49,7 +50,7 @@ module _ (q : GuardedTest) (c : Child) (by : IsChildBySubstitution q c) (b : Bun
       same ∙ sym (value_after g.values by.substitution t)
 
   strand_values : (s : ℕ) (st : SkeletonStrand) → item_at q.skeleton.strands s ≡ Some st → AgreeOn (variables_of_trace (skeleton_trace st)) h.values to
-  strand_values s (instance role height terms) at = trace_agreed terms h.values to (prefix_of role height) (instance_values s role height terms at)
+  strand_values s (instance role height terms) at = trace_agreed (as_substitution terms) h.values to (prefix_of role height) (instance_values s role height terms at)
   strand_values s (listener t) at =
       let a = term_agreed h.values to t (listener_values s t at) in
       λ x i. ⊎_elim (λ j. a x j) (λ j. ⊎_elim (λ m. a x m) (λ m. absurd (not_in_none m)) (in_append (variables_of t) [] j)) (in_append (variables_of t) (variables_of t ++ []) i)

@@ -7,4 +7,4 @@ use Rattle.cp_cohort.specs.Cohort.{GuardedTest}
 -- The skeleton is one over the protocol, and its variables are declared.
 pub record IsAskedOver (protocol : Protocol) (q : GuardedTest) : Type 0 where
   pub skeleton : IsSkeleton protocol q.skeleton
-  pub declared : HasDeclaredVariables q.variables q.skeleton
+  pub declared : HasDeclaredVariables q.skeleton.variables q.skeleton

@@ -4,35 +4,28 @@ use Rattle.cp_lists.specs.Lists.{item_at, IsIn}
 use Rattle.cp_model.specs.Term.{Term, Substitution, apply_to}
 use Rattle.cp_model.specs.Strand.{payload, event_map}
 use Rattle.cp_model.specs.declared.strand.Event.{Event}
-use Rattle.cp_model.specs.Skeleton.{skeleton_trace_or_none, Skeleton}
+use Rattle.cp_model.specs.Skeleton.{skeleton_trace_or_none}
 use Rattle.cp_model.specs.Tree.{Pattern}
-use Rattle.cp_theory.specs.Normal.{skeleton_under}
 use Rattle.cp_model.specs.declared.step.Step.{Step}
-use Rattle.cp_collapse.specs.SameSkeletons.{SaysTheSame}
-use Rattle.cp_normal.specs.declared.form.Form as normal_forms
+use Rattle.cp_normal.specs.declared.form.Form.{Form}
 use Rattle.cp_theory.specs.Above.{encryptions_above}
 use Rattle.cp_theory.specs.Matches.{Matches}
 use Rattle.cp_pattern.specs.Unifiers.{UnifiesMostGenerally, NeverEqual}
-use Rattle.cp_cohort.specs.Releases.{Release, PartialSolution, MeetsBoth}
-use Rattle.cp_cohort.specs.Stages.{Choice, pattern_in, branch_of}
-use Rattle.cp_cohort.specs.ReleaseViews.{partial_solution_view}
+use Rattle.cp_cohort.specs.Releases.{Release, PartialSolution, came_by, MeetsBoth}
+use Rattle.cp_cohort.specs.Stages.{Choice, pattern_in, IsNextUnder, of_form}
 use Rattle.cp_cohort.specs.CandidateResults.{HasResults, LeadTo}
-use Rattle.cp_cohort.specs.declared.release.PartialSolution as program
 use Rattle.cp_cohort.specs.declared.candidates.Candidate.{Candidate}
 use Rattle.cp_cohort.specs.declared.candidates.Candidate.TheVariants.{OnTheWay, Normal, Solved}
 
 -- The partial solution of a candidate.
-abbrev pub tried_of : Candidate → program.PartialSolution
+abbrev pub tried_of : Candidate → PartialSolution
 tried_of (OnTheWay x) = x
 tried_of (Normal x) = x
 tried_of (Solved x) = x
 
 -- A normal form as a candidate.
-abbrev pub tried_form : normal_forms.Form → program.PartialSolution
-tried_form f = record { skeleton = f.skeleton; substitution = f.substitution }
-
-abbrev pub normal_form : normal_forms.Form → Candidate
-normal_form f = Normal (tried_form f)
+abbrev pub normal_form : Form → Candidate
+normal_form f = Normal (of_form f)
 
 -- The candidate is not solved.
 abbrev pub IsUnsolved : Candidate → Type 0
@@ -49,8 +42,8 @@ choice_of e p = record { encryption = e; pattern = p }
 pub data AreBranchesByChoices (x : PartialSolution) : List Choice → List Candidate → Type 0 where
   none_tried : AreBranchesByChoices x [] []
   no_branch : {c : Choice} {cs : List Choice} {ds : List Candidate} → NeverEqual c.encryption (pattern_in x c.pattern) → AreBranchesByChoices x cs ds → AreBranchesByChoices x (c ∷ cs) ds
-  branch_by : {c : Choice} {u : Substitution} {l : Skeleton} {y : program.PartialSolution} {cs : List Choice} {ds : List Candidate} → UnifiesMostGenerally c.encryption (pattern_in x c.pattern) u
-      → SaysTheSame (skeleton_under u x.skeleton) l → partial_solution_view y ≡ branch_of x c.pattern u l → AreBranchesByChoices x cs ds → AreBranchesByChoices x (c ∷ cs) (OnTheWay y ∷ ds)
+  branch_by : {c : Choice} {u : Substitution} {y : PartialSolution} {cs : List Choice} {ds : List Candidate} → UnifiesMostGenerally c.encryption (pattern_in x c.pattern) u
+      → IsNextUnder x c.pattern u y → AreBranchesByChoices x cs ds → AreBranchesByChoices x (c ∷ cs) (OnTheWay y ∷ ds)
 
 -- The list, with the branches of x by these choices behind it.
 pub record PutsBranches (x : PartialSolution) (cs : List Choice) (old new : List Candidate) : Type 0 where
@@ -74,7 +67,7 @@ trace_in r x = skeleton_trace_or_none (item_at x.skeleton.strands r.strand)
 pub record ComesFrom (r : Release) (x y : PartialSolution) : Type 0 where
   pub by : Substitution
   pub trace : trace_in r y ≡ map (event_map (apply_to by)) (trace_in r x)
-  pub stays : (e : Term) → OneMatches r.patterns x.substitution e → OneMatches r.patterns y.substitution (apply_to by e)
+  pub stays : (e : Term) → OneMatches r.patterns (came_by x) e → OneMatches r.patterns (came_by y) (apply_to by e)
 
 -- So it does; and an encryption in an earlier event of the release's strand is matched in y and was not in x.
 pub record MatchesMore (r : Release) (x y : PartialSolution) : Type 0 where
@@ -86,15 +79,15 @@ pub record MatchesMore (r : Release) (x y : PartialSolution) : Type 0 where
   pub path : List Step
   pub encryption : Term
   pub above : IsIn encryption (encryptions_above (payload event) path)
-  pub was_not : OneMatches r.patterns x.substitution encryption → ⊥
-  pub is : OneMatches r.patterns y.substitution (apply_to comes.by encryption)
+  pub was_not : OneMatches r.patterns (came_by x) encryption → ⊥
+  pub is : OneMatches r.patterns (came_by y) (apply_to comes.by encryption)
 
 -- d is solved; or it is a branch, in which more is matched; or a normal form of what was on the way.
 abbrev pub AdvancesTo : Release → Candidate → Candidate → Type 0
 AdvancesTo r c (Solved y) = Unit {0}
-AdvancesTo r (OnTheWay x) (Normal y) = ComesFrom r (partial_solution_view x) (partial_solution_view y)
-AdvancesTo r (OnTheWay x) (OnTheWay y) = MatchesMore r (partial_solution_view x) (partial_solution_view y)
-AdvancesTo r (Normal x) (OnTheWay y) = MatchesMore r (partial_solution_view x) (partial_solution_view y)
+AdvancesTo r (OnTheWay x) (Normal y) = ComesFrom r x y
+AdvancesTo r (OnTheWay x) (OnTheWay y) = MatchesMore r x y
+AdvancesTo r (Normal x) (OnTheWay y) = MatchesMore r x y
 AdvancesTo r _ _ = ⊥
 
 -- ---- rounds
@@ -111,12 +104,12 @@ pub record PutsAdvanced (r : Release) (c : Candidate) (old new : List Candidate)
   pub takes_place : ReplacesByAdvance r c added
 
 -- Both conditions hold and nothing was put; or what takes the place of the partial solution, known to be normal or not, is put.
-abbrev pub BranchesUnless : Bool → Release → program.PartialSolution → List Candidate → List Candidate → Type 0
-BranchesUnless true r x old new = MeetsBoth r (partial_solution_view x) × (new ≡ old)
+abbrev pub BranchesUnless : Bool → Release → PartialSolution → List Candidate → List Candidate → Type 0
+BranchesUnless true r x old new = MeetsBoth r x × (new ≡ old)
 BranchesUnless false r x old new = PutsAdvanced r (OnTheWay x) old new × PutsAdvanced r (Normal x) old new
 
 -- The partial solution itself, where both conditions hold and nothing was put; nothing, where what takes its place is put.
-abbrev pub IsKept : Release → program.PartialSolution → List Candidate → List Candidate → Option program.PartialSolution → Type 0
+abbrev pub IsKept : Release → PartialSolution → List Candidate → List Candidate → Option PartialSolution → Type 0
 IsKept r x old new kept = MatchOption kept (BranchesUnless false r x old new) (λ y. (y ≡ x) × BranchesUnless true r x old new)
 
 -- Each of the new candidates falls from one of the old.

@@ -13,10 +13,9 @@ use Rattle.cp_model.specs.Positions.{term_at}
 use Rattle.cp_model.specs.PrefixVariables.{prefix_variables}
 use Rattle.cp_normal.specs.Exact.{HasForms}
 use Rattle.cp_model.specs.Extensions.{AddsStrand}
-use Rattle.cp_model.specs.Data.{SkeletonData, InstanceData}
+use Rattle.cp_strand.specs.View.{InstanceData, instance_view}
+use Rattle.cp_skel.specs.Tables.{HaveTable, DiffersInTable}
 use Rattle.cp_skel.specs.declared.events.LocatedEvent.{LocatedEvent}
-use Rattle.cp_skel.specs.View.{skeleton_view}
-use Rattle.cp_strand.specs.View.{instance_view}
 use Rattle.cp_theory.specs.Covering.{put_before}
 use Rattle.cp_theory.specs.Fresh.{fresh_terms}
 use Rattle.cp_cohort.specs.GatheredLists.{EachGives}
@@ -27,11 +26,12 @@ use Rattle.cp_cohort.specs.Cohort.{GuardedTest, positions, Contracts, Releases, 
 abbrev pub AddsListenerBefore : GuardedTest → Term → ℕ → Skeleton → Type 0
 AddsListenerBefore q t s new = new ≡ put_before (record { strand = s; index = 1 }) q.node (record q.skeleton { strands = q.skeleton.strands ++ listener t ∷ [] })
 
--- These are the normal forms of a skeleton with these variables, as children.
-pub record AreChildrenOfForms (variables : List Declaration) (operation : Operation) (path : List Step) (k : Skeleton) (children : List Child) : Type 0 where
+-- These are the normal forms of a skeleton with its variables, as children.
+pub record AreChildrenOfForms (operation : Operation) (path : List Step) (k : Skeleton) (children : List Child) : Type 0 where
   pub forms : List Skeleton
   pub normal : HasForms k forms
-  pub are_children : children ≡ map (child variables operation path) forms
+  pub table : HaveTable k.variables forms
+  pub are_children : children ≡ map (child operation path) forms
 
 -- What an event gives that is not the transmission of a role strand before the node: nothing; and what one gives that is.
 pub data ContractsEvent (q : GuardedTest) (o : LocatedEvent) : List Child → Type 0 where
@@ -39,10 +39,10 @@ pub data ContractsEvent (q : GuardedTest) (o : LocatedEvent) : List Child → Ty
   is_before : {children : List Child} → IsTransmissionBefore q.skeleton q.node o → EachGives (Contracts q o) (positions (payload o.event)) children → ContractsEvent q o children
 
 -- A new variable is declared as d is, later than all others, and put behind the values as a term; all else stays.
-pub record Declares (d : Declaration) (old new : SkeletonData) (values values' : List Term) : Type 0 where
+pub record Declares (d : Declaration) (old new : Skeleton) (values values' : List Term) : Type 0 where
   pub declared : new.variables ≡ old.variables ++ d ∷ []
   pub count : length new.variables ≡ suc (length old.variables)
-  pub rest : new ≡ record old { variables = new.variables }
+  pub rest : DiffersInTable old new
   pub put : values' ≡ values ++ variable_term (record { sort = d.sort; number = length old.variables }) ∷ []
 
 -- The path is a carried position of the term.
@@ -55,22 +55,22 @@ abbrev pub IsThere : Skeleton → ℕ → InstanceData → Type 0
 IsThere k s i = item_at k.strands s ≡ Some (instance_view i)
 
 -- The strand has grown, and is an instance of its role that has event j.
-pub record IsGrown (q : GuardedTest) (s : ℕ) (role : Role) (height j : ℕ) (k : SkeletonData) : Type 0 where
-  pub grows : HasGrown s role height j q.variables q.skeleton k.variables (skeleton_view k)
+pub record IsGrown (q : GuardedTest) (s : ℕ) (role : Role) (height j : ℕ) (k : Skeleton) : Type 0 where
+  pub grows : HasGrown s role height j q.skeleton k
 
 -- A strand of the role is added, which ends with event j.
-pub record AddsRoleStrand (q : GuardedTest) (role : Role) (j : ℕ) (k : SkeletonData) : Type 0 where
-  pub adds : AddsStrand role (suc j) (fresh_terms (length q.variables) (prefix_variables role (suc j))) q.skeleton (skeleton_view k)
-  pub variables : k.variables ≡ q.variables ++ declarations_among role (prefix_variables role (suc j))
+pub record AddsRoleStrand (q : GuardedTest) (role : Role) (j : ℕ) (k : Skeleton) : Type 0 where
+  pub adds : AddsStrand role (suc j) (fresh_terms (length q.skeleton.variables) (prefix_variables role (suc j))) q.skeleton k
+  pub variables : k.variables ≡ q.skeleton.variables ++ declarations_among role (prefix_variables role (suc j))
 
 -- What a grown skeleton gives at one position of the message that is sent at the node.
-abbrev pub ReleasesAt : GuardedTest → List Declaration → Operation → Node → Skeleton → List Step → List Child → Type 0
-ReleasesAt q variables operation m grown path children = Releases q variables operation (release_at q m.strand m.index path) grown children
+abbrev pub ReleasesAt : GuardedTest → Operation → Node → Skeleton → List Step → List Child → Type 0
+ReleasesAt q operation m grown path children = Releases q operation (release_at q m.strand m.index path) grown children
 
 -- What it gives at each of them.
-abbrev pub ReleasesEach : GuardedTest → List Declaration → Operation → Node → Skeleton → List Child → Type 0
-ReleasesEach q variables operation m grown children = (t : Term) → term_event_at grown.strands m ≡ Some (send t) → EachGives (ReleasesAt q variables operation m grown) (positions t) children
+abbrev pub ReleasesEach : GuardedTest → Operation → Node → Skeleton → List Child → Type 0
+ReleasesEach q operation m grown children = (t : Term) → term_event_at grown.strands m ≡ Some (send t) → EachGives (ReleasesAt q operation m grown) (positions t) children
 
 -- What it gives at one position of the message, where it has been put before the node.
-abbrev pub ReleasesPut : GuardedTest → List Declaration → Operation → Node → Skeleton → Term → List Step → List Child → Type 0
-ReleasesPut q variables operation m put t path children = (grown : Skeleton) → put ≡ put_before m q.node grown → term_event_at grown.strands m ≡ Some (send t) → ReleasesAt q variables operation m grown path children
+abbrev pub ReleasesPut : GuardedTest → Operation → Node → Skeleton → Term → List Step → List Child → Type 0
+ReleasesPut q operation m put t path children = (grown : Skeleton) → put ≡ put_before m q.node grown → term_event_at grown.strands m ≡ Some (send t) → ReleasesAt q operation m grown path children

@@ -14,17 +14,12 @@ use Rattle.cp_model.specs.PrefixVariables.{added_variables}
 use Rattle.cp_model.specs.Extensions.{Extends}
 use Rattle.cp_skel.specs.declared.events.LocatedEvent.{LocatedEvent}
 use Rattle.cp_theory.specs.Fresh.{fresh_terms}
+-- A child of a test: its skeleton, whose table has the variables made for it, the operation that made it, and the position at
+-- which the event that the operation names carries the critical term; none for a listener.
+pub use Rattle.cp_cohort.specs.declared.child.Child.{Child}
 
--- A child of a test: its skeleton with the variables made for it, the operation that made it, and the position at which the
--- event that the operation names carries the critical term; none for a listener.
-pub record Child : Type 0 where
-  pub variables : List Declaration
-  pub skeleton : Skeleton
-  pub operation : Operation
-  pub path : List Step
-
-abbrev pub child : List Declaration → Operation → List Step → Skeleton → Child
-child variables operation path k = record { variables = variables; skeleton = k; operation = operation; path = path }
+abbrev pub child : Operation → List Step → Skeleton → Child
+child operation path k = record { skeleton = k; operation = operation; path = path }
 
 -- The declarations of a role's variables.
 abbrev pub declaration_onto : Option Declaration → List Declaration → List Declaration
@@ -45,6 +40,6 @@ pub record IsTransmissionBefore (k : Skeleton) (n : Node) (o : LocatedEvent) : T
 -- Strand s, an instance of the role of this height in the old skeleton, has event j in the new one: it was high enough, and
 -- nothing changes; or it has grown to it, and its new variables, in the order in which the role declares them, are later than
 -- all others.
-pub record HasGrown (s : ℕ) (role : Role) (height j : ℕ) (variables : List Declaration) (old : Skeleton) (more : List Declaration) (new : Skeleton) : Type 0 where
-  pub how : ((j < height) × (more ≡ variables) × (new ≡ old))
-      ⊎ ((height ≤ j) × (more ≡ variables ++ declarations_among role (added_variables role height (suc j))) × Extends s (suc j) (fresh_terms (length variables) (added_variables role height (suc j))) old new)
+pub record HasGrown (s : ℕ) (role : Role) (height j : ℕ) (old new : Skeleton) : Type 0 where
+  pub how : ((j < height) × (new ≡ old))
+      ⊎ ((height ≤ j) × (new.variables ≡ old.variables ++ declarations_among role (added_variables role height (suc j))) × Extends s (suc j) (fresh_terms (length old.variables) (added_variables role height (suc j))) old new)

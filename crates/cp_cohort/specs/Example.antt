@@ -8,8 +8,8 @@ use Rattle.cp_theory.specs.EncryptionExamples.{locked, locker, heard, reception,
 
 -- The encryption is to be released where it was heard; there are no patterns. Its text and key are the variables.
 abbrev pub asked : GuardedTest
-asked = record { variables = locker.variables; skeleton = heard; node = reception; critical = locked; patterns = [] }
+asked = record { skeleton = heard; node = reception; critical = locked; patterns = [] }
 
--- A strand of the one role that sends such encryptions has sent it before.
+-- A strand of the one role that sends such encryptions has sent it before; its variables were made for it.
 abbrev pub one_child : Child
-one_child = child (locker.variables ++ declarations_among locker (prefix_variables locker 1)) (by_added_strand 1) [] sent_before
+one_child = child (by_added_strand 1) [] (record sent_before { variables = locker.variables ++ declarations_among locker (prefix_variables locker 1) })

@@ -1,10 +1,10 @@
 pub mod Asked
 pub mod Views
 pub mod Children
+pub mod Code
 pub mod HeardTerms
 pub mod Releases
 pub mod Stages
-pub mod ReleaseViews
 pub mod Conditions
 pub mod CandidateResults
 pub mod Widened

@@ -1,7 +1,8 @@
 -- What the operation of a child says of it.
-use Rattle.std.specs.Prelude.{◌≡◌, ◌≢◌, ℕ, suc, ◌<◌, length, map, Some}
+use Rattle.std.specs.Prelude.{◌≡◌, ◌≢◌, ℕ, suc, ◌<◌, length, map, Some, List}
 use Rattle.cp_lists.specs.Lists.{item_at, IsIn}
 use Rattle.cp_model.specs.Term.{KeyTerm, key_term, inverse_term, Term, atom_term, enc_term, Substitution, apply_to}
+use Rattle.cp_model.specs.Bindings.{Binding}
 use Rattle.cp_model.specs.Strand.{payload, Role}
 use Rattle.cp_model.specs.declared.strand.Event.{Event}
 use Rattle.cp_model.specs.declared.strand.Event.TheVariants.{Send as send}
@@ -60,7 +61,7 @@ pub record EndsByReleasing (q : GuardedTest) (c : Child) (by : IsChildBySubstitu
   pub is_new : s ≡ length q.skeleton.strands
   pub role : Role
   pub index : ℕ
-  pub terms : Substitution
+  pub terms : List Binding
   pub on_instance : item_at c.skeleton.strands s ≡ Some (instance role (suc index) terms)
   pub releases : ReleasesCritical q c by (node_at s index)
 

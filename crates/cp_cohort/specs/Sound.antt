@@ -19,6 +19,6 @@ KeepsProblems k l = (variables : List Declaration) (problem : Skeleton) → IsPo
 -- carries homomorphisms, and keeps what problems state, where that skeleton does.
 pub record IsSoundChild (protocol : Protocol) (q : GuardedTest) (c : Child) : Type 0 where
   pub skeleton : IsSkeleton protocol c.skeleton
-  pub declared : HasDeclaredVariables c.variables c.skeleton
-  pub more : DeclaresMore q.variables c.variables
+  pub declared : HasDeclaredVariables c.skeleton.variables c.skeleton
+  pub more : DeclaresMore q.skeleton.variables c.skeleton.variables
   pub keeps : KeepsProblems q.skeleton c.skeleton

@@ -14,7 +14,7 @@ use Rattle.cp_model.specs.Tree.{Pattern}
 use Rattle.cp_theory.specs.Matches.{IsFreeIn}
 use Rattle.cp_theory.specs.Critical.{used_variables}
 use Rattle.cp_theory.specs.Trials.{ReleaseTest}
-use Rattle.cp_cohort.specs.Releases.{Release, PartialSolution}
+use Rattle.cp_cohort.specs.Releases.{Release, PartialSolution, came_by}
 
 -- The test of a release from the first skeleton.
 abbrev pub trial_of : Protocol → Skeleton → Release → ReleaseTest
@@ -33,8 +33,8 @@ GivesDeclared ds first s = (x y : Variable) → IsIn x (used_variables first) �
 pub record IsSoundPartial (protocol : Protocol) (first : Skeleton) (r : Release) (x : PartialSolution) : Type 0 where
   pub skeleton : IsSkeleton protocol x.skeleton
   pub on_instance : IsOnInstance x.skeleton (node_at r.strand r.index)
-  pub declared : HasDeclaredVariables x.variables x.skeleton
-  pub gives_declared : GivesDeclared x.variables first x.substitution
+  pub declared : HasDeclaredVariables x.skeleton.variables x.skeleton
+  pub gives_declared : GivesDeclared x.skeleton.variables first (came_by x)
 
 -- The second declarations begin with the first.
 pub record DeclaresMore (ds es : List Declaration) : Type 0 where

@@ -1,25 +1,22 @@
 -- A partial solution with new variables for a pattern's locals, and what that is under a unifier.
-use Rattle.std.specs.Prelude.{◌≡◌, ◌++◌}
+use Rattle.std.specs.Prelude.{◌≡◌}
 use Rattle.cp_model.specs.Term.{Substitution, composed}
 use Rattle.cp_model.specs.Tree.{Pattern}
 use Rattle.cp_theory.specs.Normal.{skeleton_under}
-use Rattle.cp_unify.specs.Bindings.{as_substitution}
-use Rattle.cp_skel.specs.View.{skeleton_view}
 use Rattle.cp_collapse.specs.SameSkeletons.{SaysTheSame}
-use Rattle.cp_pattern.specs.Opened.{declared_as}
-use Rattle.cp_cohort.specs.Releases.{PartialSolution}
-use Rattle.cp_cohort.specs.Stages.{pattern_in}
-use Rattle.cp_cohort.specs.declared.release.PartialSolution as program
+use Rattle.cp_skel.specs.Tables.{DiffersInTable}
+use Rattle.cp_cohort.specs.Releases.{PartialSolution, came_by}
+use Rattle.cp_cohort.specs.Stages.{pattern_in, variables_with}
 use Rattle.cp_cohort.specs.declared.branches.Widened.{Widened}
 
 -- The term is the pattern's in the partial solution; the skeleton is its own, with the pattern's locals as new variables.
 pub record IsWidened (x : PartialSolution) (p : Pattern) (w : Widened) : Type 0 where
   pub term : w.term ≡ pattern_in x p
-  pub variables : w.skeleton.variables ≡ x.variables ++ declared_as x.variables p.locals
-  pub rest : skeleton_view w.skeleton ≡ x.skeleton
+  pub variables : w.skeleton.variables ≡ variables_with x p
+  pub rest : DiffersInTable x.skeleton w.skeleton
 
 -- y has the skeleton under the unifier, and a substitution that does what that of x does, and then what the unifier does.
-pub record IsPartialSolutionUnder (x : program.PartialSolution) (w : Widened) (u : Substitution) (y : program.PartialSolution) : Type 0 where
-  pub same : SaysTheSame (skeleton_under u (skeleton_view w.skeleton)) (skeleton_view y.skeleton)
+pub record IsPartialSolutionUnder (x : PartialSolution) (w : Widened) (u : Substitution) (y : PartialSolution) : Type 0 where
+  pub same : SaysTheSame (skeleton_under u w.skeleton) y.skeleton
   pub variables : y.skeleton.variables ≡ w.skeleton.variables
-  pub substitution : as_substitution y.substitution ≡ composed (as_substitution x.substitution) u
+  pub substitution : came_by y ≡ composed (came_by x) u

@@ -4,7 +4,7 @@ ghost use Rattle.cp_theory.specs.Critical.{IsTest};
 ghost use Rattle.cp_model.specs.Problem.{numbers_from};
 ghost use Rattle.cp_cohort.specs.Cohort.{AddsEvent};
 ghost use Rattle.cp_cohort.specs.GatheredLists.{EachGives};
-ghost use Rattle.cp_cohort.specs.Views.{guarded_test_view, PutsChildren};
+ghost use Rattle.cp_cohort.specs.Views.{PutsChildren};
 
 use crate::child::{Child, Made};
 use crate::grown_skeletons::with_strand;
@@ -23,9 +23,9 @@ fn add_event(
     index: usize,
     children: &mut Vec<Child>,
 ) -> Result<(), AllocError>
-    requires test { IsTest (guarded_test_view guarded_test.now).skeleton (guarded_test_view guarded_test.now).node (guarded_test_view guarded_test.now).critical }
+    requires test { IsTest guarded_test.now.skeleton guarded_test.now.node guarded_test.now.critical }
     requires reached { index < length role.now.value.trace }
-    ensures { OnOk result (PutsChildren (AddsEvent (guarded_test_view guarded_test.now) role.now.value index) children.old.items children.new.items) }
+    ensures { OnOk result (PutsChildren (AddsEvent guarded_test.now role.now.value index) children.old.items children.new.items) }
 {
     if !is_sent(role, index) {
         return Ok(());
@@ -51,8 +51,8 @@ fn add_role(
     role: &Rc<Role>,
     children: &mut Vec<Child>,
 ) -> Result<(), AllocError>
-    requires test { IsTest (guarded_test_view guarded_test.now).skeleton (guarded_test_view guarded_test.now).node (guarded_test_view guarded_test.now).critical }
-    ensures { OnOk result (PutsChildren (EachGives (AddsEvent (guarded_test_view guarded_test.now) role.now.value) (numbers_from 0 role.now.value.trace)) children.old.items children.new.items) }
+    requires test { IsTest guarded_test.now.skeleton guarded_test.now.node guarded_test.now.critical }
+    ensures { OnOk result (PutsChildren (EachGives (AddsEvent guarded_test.now role.now.value) (numbers_from 0 role.now.value.trace)) children.old.items children.new.items) }
 {
     let events = role.trace();
     for index in 0..events.len() {
@@ -68,8 +68,8 @@ pub(crate) fn add(
     guarded_test: &GuardedTest,
     children: &mut Vec<Child>,
 ) -> Result<(), AllocError>
-    requires test { IsTest (guarded_test_view guarded_test.now).skeleton (guarded_test_view guarded_test.now).node (guarded_test_view guarded_test.now).critical }
-    ensures { OnOk result (PutsChildren (EachGives (λ role. EachGives (AddsEvent (guarded_test_view guarded_test.now) role) (numbers_from 0 role.trace)) protocol.now.roles) children.old.items children.new.items) }
+    requires test { IsTest guarded_test.now.skeleton guarded_test.now.node guarded_test.now.critical }
+    ensures { OnOk result (PutsChildren (EachGives (λ role. EachGives (AddsEvent guarded_test.now role) (numbers_from 0 role.trace)) protocol.now.roles) children.old.items children.new.items) }
 {
     let all = protocol.roles();
     for role in all {

@@ -5,7 +5,6 @@ ghost use Rattle.cp_model.specs.Tree.{Pattern as PlainPattern};
 ghost use Rattle.cp_unify.specs.Bindings.{as_substitution};
 ghost use Rattle.cp_pattern.specs.Unifiers.{UnifiesMostGenerally};
 ghost use Rattle.cp_cohort.specs.Stages.{choices};
-ghost use Rattle.cp_cohort.specs.ReleaseViews.{partial_solution_view};
 ghost use Rattle.cp_cohort.specs.Widened.{IsWidened, IsPartialSolutionUnder};
 ghost use Rattle.cp_cohort.specs.Candidates.{choice_of, PutsBranches};
 
@@ -27,7 +26,7 @@ struct Widened {
 
 /// Adds new variables for a pattern's locals to the skeleton of a partial solution.
 fn widen(alloc: Global, tried: &PartialSolution, pattern: &Pattern) -> Result<Widened, AllocError>
-    ensures { IfOk result (IsWidened (partial_solution_view tried.now) pattern.now) }
+    ensures { IfOk result (IsWidened tried.now pattern.now) }
 {
     let mut skeleton = tried.skeleton.copy(alloc)?;
     let term = open_pattern(alloc, pattern, &tried.substitution, &mut skeleton)?;
@@ -59,9 +58,9 @@ fn put_under(
     u: &Subst,
     next: &mut Vec<Candidate>,
 ) -> Result<(), AllocError>
-    ensures { OnOk result ((e : Plain) (p : PlainPattern) → IsWidened (partial_solution_view tried.now) p widened.now
+    ensures { OnOk result ((e : Plain) (p : PlainPattern) → IsWidened tried.now p widened.now
         → UnifiesMostGenerally e widened.now.term (as_substitution u.now)
-        → PutsBranches (partial_solution_view tried.now) (choice_of e p ∷ []) next.old.items next.new.items) }
+        → PutsBranches tried.now (choice_of e p ∷ []) next.old.items next.new.items) }
 {
     let branch = tried_under(alloc, tried, widened, u)?;
     next.push(Candidate::OnTheWay(branch))?;
@@ -76,8 +75,8 @@ fn put_unified(
     encryption: &Term,
     next: &mut Vec<Candidate>,
 ) -> Result<(), AllocError>
-    ensures { OnOk result ((p : PlainPattern) → IsWidened (partial_solution_view tried.now) p widened.now
-        → PutsBranches (partial_solution_view tried.now) (choice_of encryption.now p ∷ []) next.old.items next.new.items) }
+    ensures { OnOk result ((p : PlainPattern) → IsWidened tried.now p widened.now
+        → PutsBranches tried.now (choice_of encryption.now p ∷ []) next.old.items next.new.items) }
 {
     match unifier(alloc, encryption, &widened.term)? {
         Some(u) => put_under(alloc, tried, widened, &u, next),
@@ -93,7 +92,7 @@ fn put_branch(
     pattern: &Pattern,
     next: &mut Vec<Candidate>,
 ) -> Result<(), AllocError>
-    ensures { OnOk result (PutsBranches (partial_solution_view tried.now) (choice_of encryption.now pattern.now ∷ []) next.old.items next.new.items) }
+    ensures { OnOk result (PutsBranches tried.now (choice_of encryption.now pattern.now ∷ []) next.old.items next.new.items) }
 {
     let widened = widen(alloc, tried, pattern)?;
     put_unified(alloc, tried, &widened, encryption, next)
@@ -107,7 +106,7 @@ fn put_by_patterns(
     patterns: &[Pattern],
     next: &mut Vec<Candidate>,
 ) -> Result<(), AllocError>
-    ensures { OnOk result (PutsBranches (partial_solution_view tried.now) (map (choice_of encryption.now) patterns.now) next.old.items next.new.items) }
+    ensures { OnOk result (PutsBranches tried.now (map (choice_of encryption.now) patterns.now) next.old.items next.new.items) }
 {
     for pattern in patterns {
         put_branch(alloc, tried, encryption, pattern, next)?;
@@ -123,7 +122,7 @@ pub(crate) fn put_branches(
     patterns: &[Pattern],
     next: &mut Vec<Candidate>,
 ) -> Result<(), AllocError>
-    ensures { OnOk result (PutsBranches (partial_solution_view tried.now) (choices encryptions.now patterns.now) next.old.items next.new.items) }
+    ensures { OnOk result (PutsBranches tried.now (choices encryptions.now patterns.now) next.old.items next.new.items) }
 {
     for encryption in encryptions {
         put_by_patterns(alloc, tried, encryption, patterns, next)?;

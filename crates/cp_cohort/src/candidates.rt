@@ -2,7 +2,6 @@
 ghost use Rattle.std.specs.Prelude.{◌≡◌, ◌↔◌, ◌++◌, map, IsTrue, IfOk, OnOk};
 ghost use Rattle.cp_collapse.specs.Property.{Has};
 ghost use Rattle.cp_cohort.specs.Releases.{Release as Plain, IsReleasedInside, IsFirstOutside, MeetsBoth};
-ghost use Rattle.cp_cohort.specs.ReleaseViews.{release_view, partial_solution_view};
 ghost use Rattle.cp_cohort.specs.Candidates.{tried_of, normal_form, IsUnsolved, PutsAdvanced, BranchesUnless, IsKept, IsSolvingRound};
 ghost use Rattle.cp_cohort.specs.declared.candidates.Candidate.TheVariants as variants;
 
@@ -42,10 +41,10 @@ fn put_by_position(
     position: &Position,
     next: &mut Vec<Candidate>,
 ) -> Result<(), AllocError>
-    requires outside { IsReleasedInside (release_view release.now) (partial_solution_view tried.now) → ⊥ }
-    requires first { IsFirstOutside (release_view release.now) (partial_solution_view tried.now) position.now.term position.now.path }
-    ensures on_the_way { OnOk result (PutsAdvanced (release_view release.now) (variants.OnTheWay tried.now) next.old.items next.new.items) }
-    ensures normal { OnOk result (PutsAdvanced (release_view release.now) (variants.Normal tried.now) next.old.items next.new.items) }
+    requires outside { IsReleasedInside release.now tried.now → ⊥ }
+    requires first { IsFirstOutside release.now tried.now position.now.term position.now.path }
+    ensures on_the_way { OnOk result (PutsAdvanced release.now (variants.OnTheWay tried.now) next.old.items next.new.items) }
+    ensures normal { OnOk result (PutsAdvanced release.now (variants.Normal tried.now) next.old.items next.new.items) }
 {
     let encryptions = encryptions_above(alloc, &position.term, &position.path)?;
     put_branches(alloc, tried, &encryptions, release.patterns, next)
@@ -76,7 +75,7 @@ fn normalise_tried(
     tried: PartialSolution,
     next: &mut Vec<Candidate>,
 ) -> Result<(), AllocError>
-    ensures { OnOk result ((r : Plain) → MeetsBoth r (partial_solution_view tried) → PutsAdvanced r (variants.OnTheWay tried) next.old.items next.new.items) }
+    ensures { OnOk result ((r : Plain) → MeetsBoth r tried → PutsAdvanced r (variants.OnTheWay tried) next.old.items next.new.items) }
 {
     let PartialSolution {
         skeleton,
@@ -93,7 +92,7 @@ fn branch_unless_met(
     tried: &PartialSolution,
     next: &mut Vec<Candidate>,
 ) -> Result<bool, AllocError>
-    ensures { IfOk result (λ met. BranchesUnless met (release_view release.now) tried.now next.old.items next.new.items) }
+    ensures { IfOk result (λ met. BranchesUnless met release.now tried.now next.old.items next.new.items) }
 {
     if is_released_inside(alloc, release, tried)? {
         return Ok(false);
@@ -114,7 +113,7 @@ fn kept_if_met(
     tried: PartialSolution,
     next: &mut Vec<Candidate>,
 ) -> Result<Option<PartialSolution>, AllocError>
-    ensures { IfOk result (IsKept (release_view release.now) tried next.old.items next.new.items) }
+    ensures { IfOk result (IsKept release.now tried next.old.items next.new.items) }
 {
     let is_met = branch_unless_met(alloc, release, &tried, next)?;
     Ok(is_met.then_some(tried))
@@ -127,7 +126,7 @@ fn try_first(
     tried: PartialSolution,
     next: &mut Vec<Candidate>,
 ) -> Result<(), AllocError>
-    ensures { OnOk result (PutsAdvanced (release_view release.now) (variants.OnTheWay tried) next.old.items next.new.items) }
+    ensures { OnOk result (PutsAdvanced release.now (variants.OnTheWay tried) next.old.items next.new.items) }
 {
     match kept_if_met(alloc, release, tried, next)? {
         Some(tried) => normalise_tried(alloc, tried, next),
@@ -142,7 +141,7 @@ fn try_again(
     tried: PartialSolution,
     next: &mut Vec<Candidate>,
 ) -> Result<(), AllocError>
-    ensures { OnOk result (PutsAdvanced (release_view release.now) (variants.Normal tried) next.old.items next.new.items) }
+    ensures { OnOk result (PutsAdvanced release.now (variants.Normal tried) next.old.items next.new.items) }
 {
     match kept_if_met(alloc, release, tried, next)? {
         Some(tried) => {
@@ -160,7 +159,7 @@ fn advance(
     candidate: Candidate,
     next: &mut Vec<Candidate>,
 ) -> Result<(), AllocError>
-    ensures { OnOk result (PutsAdvanced (release_view release.now) candidate next.old.items next.new.items) }
+    ensures { OnOk result (PutsAdvanced release.now candidate next.old.items next.new.items) }
 {
     match candidate {
         Candidate::OnTheWay(tried) => try_first(alloc, release, tried, next),
@@ -178,7 +177,7 @@ pub(crate) fn round(
     release: &Release,
     candidates: Vec<Candidate>,
 ) -> Result<Vec<Candidate>, AllocError>
-    ensures { IfOk result (λ next. IsSolvingRound (release_view release.now) candidates.items next.items) }
+    ensures { IfOk result (λ next. IsSolvingRound release.now candidates.items next.items) }
 {
     let mut rest = candidates;
     rest.reverse();

@@ -1,7 +1,8 @@
 // Children of a test.
 ghost use Rattle.std.specs.Prelude.{◌≡◌, ◌++◌, ◌∷◌, [], map, IfOk, OnOk};
-ghost use Rattle.cp_model.specs.Data.{SkeletonData};
-ghost use Rattle.cp_cohort.specs.Views.{child_view, operation_of_made, child_of};
+ghost use Rattle.cp_model.specs.Skeleton.{Skeleton};
+ghost use Rattle.cp_cohort.specs.CoveringChildren.{child};
+ghost use Rattle.cp_cohort.specs.Views.{operation_of_made};
 
 use crate::PartialSolution;
 use cp_skel::{Node, Operation, Skeleton};
@@ -42,7 +43,7 @@ impl Made {
 
 /// Makes a child of a skeleton.
 fn as_child(skeleton: Skeleton, made: Made, path: &Path) -> Result<Child, AllocError>
-    ensures { IfOk result (λ c. child_view c ≡ child_of (operation_of_made made) path.now skeleton) }
+    ensures { IfOk result (λ c. c ≡ child (operation_of_made made) path.now skeleton) }
 {
     let path = path.copy()?;
     Ok(Child {
@@ -59,7 +60,7 @@ fn put_child(
     path: &Path,
     children: &mut Vec<Child>,
 ) -> Result<(), AllocError>
-    ensures { OnOk result (map child_view children.new.items ≡ map child_view children.old.items ++ child_of (operation_of_made made) path.now skeleton ∷ []) }
+    ensures { OnOk result (children.new.items ≡ children.old.items ++ child (operation_of_made made) path.now skeleton ∷ []) }
 {
     let child = as_child(skeleton, made, path)?;
     children.push(child)?;
@@ -69,7 +70,7 @@ fn put_child(
 /// Something from which a child's skeleton can be taken.
 pub(crate) trait HasSkeleton {
     /// The child's skeleton.
-    ghost skeleton: { Self → SkeletonData };
+    ghost skeleton: { Self → Skeleton };
 
     /// Takes the skeleton out.
     fn into_skeleton(self) -> Skeleton
@@ -99,8 +100,8 @@ pub(crate) fn put_children<T: HasSkeleton + Drop>(
     path: &Path,
     children: &mut Vec<Child>,
 ) -> Result<(), AllocError>
-    ensures { OnOk result (map child_view children.new.items ≡ map child_view children.old.items
-        ++ map (λ x. child_of (operation_of_made made) path.now (T.skeleton x)) made_of.items) }
+    ensures { OnOk result (children.new.items ≡ children.old.items
+        ++ map (λ x. child (operation_of_made made) path.now (T.skeleton x)) made_of.items) }
 {
     let mut rest = made_of;
     rest.reverse();

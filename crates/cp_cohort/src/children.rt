@@ -5,15 +5,13 @@ ghost use Rattle.cp_theory.specs.Guards.{Guards};
 ghost use Rattle.cp_lists.specs.Lists.{IsIn};
 ghost use Rattle.cp_model.specs.Bundle.{Bundle, IsBundle};
 ghost use Rattle.cp_model.specs.Standing.{Standing, StandsIn, StandsApart};
-ghost use Rattle.cp_skel.specs.View.{skeleton_view};
 ghost use Rattle.cp_theory.specs.NoneLeftOut.{IsComplete};
 ghost use Rattle.cp_cohort.specs.CoveringChildren.{Child as PlainChild};
-ghost use Rattle.cp_cohort.specs.Cohort.{IsCohort};
+ghost use Rattle.cp_cohort.specs.Cohort.{IsCohort, guarded_test_of};
 ghost use Rattle.cp_cohort.specs.Sound.{IsSoundChild};
 ghost use Rattle.cp_cohort.specs.Released.{HasItsOperation};
 ghost use Rattle.cp_cohort.specs.Through.{GoesThroughChild};
 ghost use Rattle.cp_cohort.specs.Asked.{IsAskedOver};
-ghost use Rattle.cp_cohort.specs.Views.{child_view, guarded_test_of, guarded_test_view, HasPredecessors};
 
 use crate::added::add;
 use crate::child::Child;
@@ -36,10 +34,9 @@ fn put_all(
     guarded_test: &GuardedTest,
     children: &mut Vec<Child>,
 ) -> Result<(), AllocError>
-    requires test { IsTest (guarded_test_view guarded_test.now).skeleton (guarded_test_view guarded_test.now).node (guarded_test_view guarded_test.now).critical }
-    requires gathered { HasPredecessors guarded_test.now }
+    requires test { IsTest guarded_test.now.skeleton guarded_test.now.node guarded_test.now.critical }
     requires empty { children.old.items ≡ [] }
-    ensures { OnOk result (IsCohort protocol.now (guarded_test_view guarded_test.now) (map child_view children.new.items)) }
+    ensures { OnOk result (IsCohort protocol.now guarded_test.now children.new.items) }
 {
     contract(alloc, guarded_test, children)?;
     displace(alloc, guarded_test, children)?;
@@ -53,9 +50,8 @@ fn children_of(
     protocol: &Protocol,
     guarded_test: &GuardedTest,
 ) -> Result<Vec<Child>, AllocError>
-    requires test { IsTest (guarded_test_view guarded_test.now).skeleton (guarded_test_view guarded_test.now).node (guarded_test_view guarded_test.now).critical }
-    requires gathered { HasPredecessors guarded_test.now }
-    ensures { IfOk result (λ cs. IsCohort protocol.now (guarded_test_view guarded_test.now) (map child_view cs.items)) }
+    requires test { IsTest guarded_test.now.skeleton guarded_test.now.node guarded_test.now.critical }
+    ensures { IfOk result (λ cs. IsCohort protocol.now guarded_test.now cs.items) }
 {
     let mut children = Vec::with_capacity(alloc, ROOM)?;
     put_all(alloc, protocol, guarded_test, &mut children)?;
@@ -90,16 +86,16 @@ pub fn cohort(
     critical: &Term,
     patterns: &[Pattern],
 ) -> Result<Vec<Child>, AllocError>
-    requires test { IsTest (skeleton_view k.now) node critical.now }
-    requires guards { Guards patterns.now (skeleton_view k.now) node critical.now }
-    ensures exact { IfOk result (λ cs. IsCohort protocol.now (guarded_test_of k.now node critical.now patterns.now) (map child_view cs.items)) }
-    ensures leaves_none_out { IfOk result (λ cs. IsAskedOver protocol.now (guarded_test_of k.now node critical.now patterns.now) → IsComplete protocol.now (skeleton_view k.now) (map (λ (c : PlainChild). c.skeleton) (map child_view cs.items))) }
+    requires test { IsTest k.now node critical.now }
+    requires guards { Guards patterns.now k.now node critical.now }
+    ensures exact { IfOk result (λ cs. IsCohort protocol.now (guarded_test_of k.now node critical.now patterns.now) cs.items) }
+    ensures leaves_none_out { IfOk result (λ cs. IsAskedOver protocol.now (guarded_test_of k.now node critical.now patterns.now) → IsComplete protocol.now k.now (map (λ (c : PlainChild). c.skeleton) cs.items)) }
     ensures through_a_child { IfOk result (λ cs. IsAskedOver protocol.now (guarded_test_of k.now node critical.now patterns.now)
-        → (b : Bundle) (h : Standing) → IsBundle protocol.now b → StandsIn (skeleton_view k.now) b h → StandsApart (skeleton_view k.now) h → GoesThroughChild (guarded_test_of k.now node critical.now patterns.now) (map child_view cs.items) b h) }
-    ensures none_only_nowhere { IfOk result (λ cs. map child_view cs.items ≡ [] → IsAskedOver protocol.now (guarded_test_of k.now node critical.now patterns.now)
-        → (b : Bundle) (h : Standing) → IsBundle protocol.now b → StandsIn (skeleton_view k.now) b h → StandsApart (skeleton_view k.now) h → ⊥) }
-    ensures sound { IfOk result (λ cs. IsAskedOver protocol.now (guarded_test_of k.now node critical.now patterns.now) → (c : PlainChild) → IsIn c (map child_view cs.items) → IsSoundChild protocol.now (guarded_test_of k.now node critical.now patterns.now) c) }
-    ensures as_said { IfOk result (λ cs. (c : PlainChild) → IsIn c (map child_view cs.items) → HasItsOperation (guarded_test_of k.now node critical.now patterns.now) c) }
+        → (b : Bundle) (h : Standing) → IsBundle protocol.now b → StandsIn k.now b h → StandsApart k.now h → GoesThroughChild (guarded_test_of k.now node critical.now patterns.now) cs.items b h) }
+    ensures none_only_nowhere { IfOk result (λ cs. cs.items ≡ [] → IsAskedOver protocol.now (guarded_test_of k.now node critical.now patterns.now)
+        → (b : Bundle) (h : Standing) → IsBundle protocol.now b → StandsIn k.now b h → StandsApart k.now h → ⊥) }
+    ensures sound { IfOk result (λ cs. IsAskedOver protocol.now (guarded_test_of k.now node critical.now patterns.now) → (c : PlainChild) → IsIn c cs.items → IsSoundChild protocol.now (guarded_test_of k.now node critical.now patterns.now) c) }
+    ensures as_said { IfOk result (λ cs. (c : PlainChild) → IsIn c cs.items → HasItsOperation (guarded_test_of k.now node critical.now patterns.now) c) }
 {
     cohorts_cover();
     children_are_sound();

@@ -1,8 +1,7 @@
 // The two conditions on a release.
 ghost use Rattle.std.specs.Prelude.{◌≡◌, ◌↔◌, IsTrue, IfOk, MatchOption};
 ghost use Rattle.cp_model.specs.Term.{apply_to};
-ghost use Rattle.cp_cohort.specs.Releases.{IsReleasedInside, IsInsideAlone, IsFirstOutside};
-ghost use Rattle.cp_cohort.specs.ReleaseViews.{release_view, partial_solution_view};
+ghost use Rattle.cp_cohort.specs.Releases.{came_by, IsReleasedInside, IsInsideAlone, IsFirstOutside};
 ghost use Rattle.cp_cohort.specs.Conditions.{IsFirstOutsideAt, HasNoneBefore};
 
 use crate::release::{PartialSolution, Release};
@@ -26,7 +25,7 @@ pub(crate) fn is_released_inside(
     release: &Release,
     tried: &PartialSolution,
 ) -> Result<bool, AllocError>
-    ensures { IfOk result (λ inside. IsTrue inside ↔ IsReleasedInside (release_view release.now) (partial_solution_view tried.now)) }
+    ensures { IfOk result (λ inside. IsTrue inside ↔ IsReleasedInside release.now tried.now) }
 {
     match message_at(alloc, &tried.skeleton, release.node)? {
         Some(message) => is_inside(
@@ -49,10 +48,10 @@ fn first_outside_at(
     critical: &Term,
     index: usize,
 ) -> Result<Option<Position>, AllocError>
-    requires { critical.now ≡ apply_to (partial_solution_view tried.now).substitution (release_view release.now).critical }
+    requires { critical.now ≡ apply_to (came_by tried.now) release.now.critical }
     ensures { IfOk result (λ found. MatchOption found
-        (IsInsideAlone (release_view release.now) (partial_solution_view tried.now) index)
-        (λ p. IsFirstOutsideAt (release_view release.now) (partial_solution_view tried.now) index p.term p.path)) }
+        (IsInsideAlone release.now tried.now index)
+        (λ p. IsFirstOutsideAt release.now tried.now index p.term p.path)) }
 {
     let node = Node {
         strand: release.node.strand,
@@ -81,8 +80,8 @@ pub(crate) fn first_outside_before(
     tried: &PartialSolution,
 ) -> Result<Option<Position>, AllocError>
     ensures { IfOk result (λ found. MatchOption found
-        (HasNoneBefore (release_view release.now) (partial_solution_view tried.now))
-        (λ p. IsFirstOutside (release_view release.now) (partial_solution_view tried.now) p.term p.path)) }
+        (HasNoneBefore release.now tried.now)
+        (λ p. IsFirstOutside release.now tried.now p.term p.path)) }
 {
     let critical = apply(alloc, &tried.substitution, release.critical)?;
     for index in 0..release.node.index {

@@ -4,10 +4,9 @@ ghost use Rattle.cp_theory.specs.Inside.{IsInside};
 ghost use Rattle.cp_model.specs.Identity.{unchanged};
 ghost use Rattle.cp_model.specs.Skeleton.{IsNodeOf};
 ghost use Rattle.cp_model.specs.Strand.{payload};
-ghost use Rattle.cp_skel.specs.View.{skeleton_view};
 ghost use Rattle.cp_cohort.specs.Cohort.{Contracts, AreContracted};
 ghost use Rattle.cp_cohort.specs.Children.{AreChildrenOfForms, ContractsEvent, IsPosition};
-ghost use Rattle.cp_cohort.specs.Views.{guarded_test_view, operation_of_made, HasPredecessors, PutsChildren};
+ghost use Rattle.cp_cohort.specs.Views.{operation_of_made, PutsChildren};
 
 use crate::child::{Child, Made, put_children};
 use crate::guarded_test::GuardedTest;
@@ -27,7 +26,7 @@ pub(crate) fn put_forms(
     path: &Path,
     children: &mut Vec<Child>,
 ) -> Result<(), AllocError>
-    ensures { OnOk result (PutsChildren (AreChildrenOfForms skeleton.variables (operation_of_made made) path.now (skeleton_view skeleton)) children.old.items children.new.items) }
+    ensures { OnOk result (PutsChildren (AreChildrenOfForms (operation_of_made made) path.now skeleton) children.old.items children.new.items) }
 {
     let forms = normalise(alloc, skeleton)?;
     put_children(forms, made, path, children)
@@ -40,7 +39,7 @@ fn is_guarded(
     message: &Term,
     path: &Path,
 ) -> Result<bool, AllocError>
-    ensures { IfOk result (λ answer. IsTrue answer ↔ IsInside (guarded_test_view guarded_test.now).patterns unchanged message.now path.now) }
+    ensures { IfOk result (λ answer. IsTrue answer ↔ IsInside guarded_test.now.patterns unchanged message.now path.now) }
 {
     let nothing = Subst::new(alloc);
     is_inside(
@@ -61,7 +60,7 @@ fn contract_at(
     children: &mut Vec<Child>,
 ) -> Result<(), AllocError>
     requires { IsPosition (payload occurrence.now.event) path.now }
-    ensures { OnOk result (PutsChildren (Contracts (guarded_test_view guarded_test.now) occurrence.now path.now) children.old.items children.new.items) }
+    ensures { OnOk result (PutsChildren (Contracts guarded_test.now occurrence.now path.now) children.old.items children.new.items) }
 {
     let message = occurrence.event.payload();
     if is_guarded(alloc, guarded_test, message, path)? {
@@ -93,9 +92,8 @@ fn contract_event(
     occurrence: &LocatedEvent,
     children: &mut Vec<Child>,
 ) -> Result<(), AllocError>
-    requires there { IsNodeOf (guarded_test_view guarded_test.now).skeleton.strands (guarded_test_view guarded_test.now).node }
-    requires gathered { HasPredecessors guarded_test.now }
-    ensures { OnOk result (PutsChildren (ContractsEvent (guarded_test_view guarded_test.now) occurrence.now) children.old.items children.new.items) }
+    requires there { IsNodeOf guarded_test.now.skeleton.strands guarded_test.now.node }
+    ensures { OnOk result (PutsChildren (ContractsEvent guarded_test.now occurrence.now) children.old.items children.new.items) }
 {
     if !is_sent_before(
         guarded_test.skeleton,
@@ -118,9 +116,8 @@ pub(crate) fn contract(
     guarded_test: &GuardedTest,
     children: &mut Vec<Child>,
 ) -> Result<(), AllocError>
-    requires there { IsNodeOf (guarded_test_view guarded_test.now).skeleton.strands (guarded_test_view guarded_test.now).node }
-    requires gathered { HasPredecessors guarded_test.now }
-    ensures { OnOk result (PutsChildren (AreContracted (guarded_test_view guarded_test.now)) children.old.items children.new.items) }
+    requires there { IsNodeOf guarded_test.now.skeleton.strands guarded_test.now.node }
+    ensures { OnOk result (PutsChildren (AreContracted guarded_test.now) children.old.items children.new.items) }
 {
     let occurrences = guarded_test.skeleton.events(alloc)?;
     for occurrence in &occurrences {

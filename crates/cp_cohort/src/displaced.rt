@@ -3,11 +3,10 @@ ghost use Rattle.std.specs.Prelude.{◌≡◌, ◌≢◌, ◌<◌, Some, length,
 ghost use Rattle.cp_theory.specs.Critical.{IsTest};
 ghost use Rattle.cp_model.specs.Problem.{numbers_from};
 ghost use Rattle.cp_lists.specs.Lists.{item_at};
-ghost use Rattle.cp_strand.specs.View.{strand_view};
 ghost use Rattle.cp_cohort.specs.Cohort.{DisplacesEvent, DisplacesStrand};
 ghost use Rattle.cp_cohort.specs.Children.{IsThere};
 ghost use Rattle.cp_cohort.specs.GatheredLists.{EachGives};
-ghost use Rattle.cp_cohort.specs.Views.{guarded_test_view, HasPredecessors, PutsChildren};
+ghost use Rattle.cp_cohort.specs.Views.{PutsChildren};
 
 use crate::child::{Child, Made};
 use crate::grown_skeletons::with_events;
@@ -26,12 +25,11 @@ fn displace_event(
     index: usize,
     children: &mut Vec<Child>,
 ) -> Result<(), AllocError>
-    requires test { IsTest (guarded_test_view guarded_test.now).skeleton (guarded_test_view guarded_test.now).node (guarded_test_view guarded_test.now).critical }
-    requires gathered { HasPredecessors guarded_test.now }
-    requires there { IsThere (guarded_test_view guarded_test.now).skeleton strand instance.now }
-    requires other { strand ≢ (guarded_test_view guarded_test.now).node.strand }
+    requires test { IsTest guarded_test.now.skeleton guarded_test.now.node guarded_test.now.critical }
+    requires there { IsThere guarded_test.now.skeleton strand instance.now }
+    requires other { strand ≢ guarded_test.now.node.strand }
     requires reached { index < length instance.now.role.trace }
-    ensures { OnOk result (PutsChildren (DisplacesEvent (guarded_test_view guarded_test.now) strand instance.now.role instance.now.height index) children.old.items children.new.items) }
+    ensures { OnOk result (PutsChildren (DisplacesEvent guarded_test.now strand instance.now.role instance.now.height index) children.old.items children.new.items) }
 {
     if !is_sent(instance.role(), index) {
         return Ok(());
@@ -65,10 +63,9 @@ fn displace_strand(
     strand: &Strand,
     children: &mut Vec<Child>,
 ) -> Result<(), AllocError>
-    requires test { IsTest (guarded_test_view guarded_test.now).skeleton (guarded_test_view guarded_test.now).node (guarded_test_view guarded_test.now).critical }
-    requires gathered { HasPredecessors guarded_test.now }
-    requires there { item_at (guarded_test_view guarded_test.now).skeleton.strands number ≡ Some (strand_view strand.now) }
-    ensures { OnOk result (PutsChildren (DisplacesStrand (guarded_test_view guarded_test.now) number) children.old.items children.new.items) }
+    requires test { IsTest guarded_test.now.skeleton guarded_test.now.node guarded_test.now.critical }
+    requires there { item_at guarded_test.now.skeleton.strands number ≡ Some strand.now }
+    ensures { OnOk result (PutsChildren (DisplacesStrand guarded_test.now number) children.old.items children.new.items) }
 {
     let StrandShape::Instance(instance) = strand.shape() else {
         return Ok(());
@@ -89,9 +86,8 @@ pub(crate) fn displace(
     guarded_test: &GuardedTest,
     children: &mut Vec<Child>,
 ) -> Result<(), AllocError>
-    requires test { IsTest (guarded_test_view guarded_test.now).skeleton (guarded_test_view guarded_test.now).node (guarded_test_view guarded_test.now).critical }
-    requires gathered { HasPredecessors guarded_test.now }
-    ensures { OnOk result (PutsChildren (EachGives (DisplacesStrand (guarded_test_view guarded_test.now)) (numbers_from 0 (guarded_test_view guarded_test.now).skeleton.strands)) children.old.items children.new.items) }
+    requires test { IsTest guarded_test.now.skeleton guarded_test.now.node guarded_test.now.critical }
+    ensures { OnOk result (PutsChildren (EachGives (DisplacesStrand guarded_test.now) (numbers_from 0 guarded_test.now.skeleton.strands)) children.old.items children.new.items) }
 {
     for (number, strand) in guarded_test.skeleton.strands().iter().enumerate() {
         displace_strand(alloc, guarded_test, number, strand, children)?;

@@ -2,12 +2,11 @@
 ghost use Rattle.std.specs.Prelude.{◌≡◌, ◌++◌, ◌≤◌, ℕ, suc, length, IfOk, OnOk};
 ghost use Rattle.cp_model.specs.Strand.{IsHeight, variables_of_trace};
 ghost use Rattle.cp_model.specs.Extensions.{AddsStrand};
-ghost use Rattle.cp_skel.specs.View.{skeleton_view};
+ghost use Rattle.cp_skel.specs.Tables.{DiffersInTable};
 ghost use Rattle.cp_model.specs.PrefixVariables.{is_added, added_variables, prefix_variables};
 ghost use Rattle.cp_theory.specs.Fresh.{fresh_terms};
 ghost use Rattle.cp_cohort.specs.CoveringChildren.{declarations_among, HasGrown};
 ghost use Rattle.cp_cohort.specs.Children.{Declares, IsThere, IsGrown, AddsRoleStrand};
-ghost use Rattle.cp_cohort.specs.Views.{guarded_test_view};
 
 use crate::guarded_test::GuardedTest;
 use cp_skel::{Declaration, Event, Instance, Role, Skeleton, occurs, prefix_of};
@@ -49,7 +48,7 @@ fn declare_added(
 ) -> Result<Vec<Term>, AllocError>
     ensures values { IfOk result (λ v. v.items ≡ fresh_terms (length k.old.variables) (added_variables role.now before height)) }
     ensures declared { OnOk result (k.new.variables ≡ k.old.variables ++ declarations_among role.now (added_variables role.now before height)) }
-    ensures rest { OnOk result (k.new ≡ record k.old { variables = k.new.variables }) }
+    ensures rest { OnOk result (DiffersInTable k.old k.new) }
 {
     let earlier = prefix_of(role, before);
     let prefix = prefix_of(role, height);
@@ -72,10 +71,10 @@ fn grow(
     height: usize,
     k: &mut Skeleton,
 ) -> Result<(), AllocError>
-    requires there { IsThere (skeleton_view k.old) strand instance.now }
+    requires there { IsThere k.old strand instance.now }
     requires reached { height ≤ length instance.now.role.trace }
     ensures { OnOk result ((j : ℕ) → height ≡ suc j
-        → HasGrown strand instance.now.role instance.now.height j k.old.variables (skeleton_view k.old) k.new.variables (skeleton_view k.new)) }
+        → HasGrown strand instance.now.role instance.now.height j k.old k.new) }
 {
     let before = instance.height();
     if height <= before {
@@ -93,7 +92,7 @@ fn add_instance(
     k: &mut Skeleton,
 ) -> Result<(), AllocError>
     requires height { IsHeight role.now.value height }
-    ensures adds { OnOk result (AddsStrand role.now.value height (fresh_terms (length k.old.variables) (prefix_variables role.now.value height)) (skeleton_view k.old) (skeleton_view k.new)) }
+    ensures adds { OnOk result (AddsStrand role.now.value height (fresh_terms (length k.old.variables) (prefix_variables role.now.value height)) k.old k.new) }
     ensures variables { OnOk result (k.new.variables ≡ k.old.variables ++ declarations_among role.now.value (prefix_variables role.now.value height)) }
 {
     let values = declare_added(alloc, role, 0, height, k)?;
@@ -109,10 +108,10 @@ fn grown_to(
     height: usize,
     mut k: Skeleton,
 ) -> Result<Skeleton, AllocError>
-    requires there { IsThere (skeleton_view k) strand instance.now }
+    requires there { IsThere k strand instance.now }
     requires reached { height ≤ length instance.now.role.trace }
     ensures { IfOk result (λ l. (j : ℕ) → height ≡ suc j
-        → HasGrown strand instance.now.role instance.now.height j k.variables (skeleton_view k) l.variables (skeleton_view l)) }
+        → HasGrown strand instance.now.role instance.now.height j k l) }
 {
     grow(alloc, strand, instance, height, &mut k)?;
     Ok(k)
@@ -126,9 +125,9 @@ pub(crate) fn with_events(
     instance: &Instance,
     height: usize,
 ) -> Result<Skeleton, AllocError>
-    requires there { IsThere (guarded_test_view guarded_test.now).skeleton strand instance.now }
+    requires there { IsThere guarded_test.now.skeleton strand instance.now }
     requires reached { height ≤ length instance.now.role.trace }
-    ensures { IfOk result (λ k. (j : ℕ) → height ≡ suc j → IsGrown (guarded_test_view guarded_test.now) strand instance.now.role instance.now.height j k) }
+    ensures { IfOk result (λ k. (j : ℕ) → height ≡ suc j → IsGrown guarded_test.now strand instance.now.role instance.now.height j k) }
 {
     let copied = guarded_test.skeleton.copy(alloc)?;
     grown_to(alloc, strand, instance, height, copied)
@@ -142,7 +141,7 @@ fn with_instance(
     mut k: Skeleton,
 ) -> Result<Skeleton, AllocError>
     requires height { IsHeight role.now.value height }
-    ensures { IfOk result (λ l. AddsStrand role.now.value height (fresh_terms (length k.variables) (prefix_variables role.now.value height)) (skeleton_view k) (skeleton_view l)
+    ensures { IfOk result (λ l. AddsStrand role.now.value height (fresh_terms (length k.variables) (prefix_variables role.now.value height)) k l
         × (l.variables ≡ k.variables ++ declarations_among role.now.value (prefix_variables role.now.value height))) }
 {
     add_instance(alloc, role, height, &mut k)?;
@@ -157,7 +156,7 @@ pub(crate) fn with_strand(
     height: usize,
 ) -> Result<Skeleton, AllocError>
     requires height { IsHeight role.now.value height }
-    ensures { IfOk result (λ k. (j : ℕ) → height ≡ suc j → AddsRoleStrand (guarded_test_view guarded_test.now) role.now.value j k) }
+    ensures { IfOk result (λ k. (j : ℕ) → height ≡ suc j → AddsRoleStrand guarded_test.now role.now.value j k) }
 {
     let copied = guarded_test.skeleton.copy(alloc)?;
     with_instance(alloc, role, height, copied)

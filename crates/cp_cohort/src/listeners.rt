@@ -4,9 +4,8 @@ ghost use Rattle.cp_theory.specs.Critical.{IsTest};
 ghost use Rattle.cp_cohort.specs.Cohort.{Listens, OpensPattern, AreListeners};
 ghost use Rattle.cp_cohort.specs.Children.{AddsListenerBefore};
 ghost use Rattle.cp_cohort.specs.HeardTerms.{FreesOnto, AreHeard};
-ghost use Rattle.cp_cohort.specs.Views.{guarded_test_view, PutsChildren};
+ghost use Rattle.cp_cohort.specs.Views.{PutsChildren};
 ghost use Rattle.cp_model.specs.Skeleton.{IsNodeOf};
-ghost use Rattle.cp_skel.specs.View.{skeleton_view};
 
 use crate::add_term;
 use crate::child::{Child, Made};
@@ -24,8 +23,8 @@ fn add_freeing(
     guarded_test: &GuardedTest,
     terms: &mut Vec<Term>,
 ) -> Result<(), AllocError>
-    requires { IsNodeOf (guarded_test_view guarded_test.now).skeleton.strands (guarded_test_view guarded_test.now).node }
-    ensures { OnOk result (FreesOnto (guarded_test_view guarded_test.now) terms.old.items terms.new.items) }
+    requires { IsNodeOf guarded_test.now.skeleton.strands guarded_test.now.node }
+    ensures { OnOk result (FreesOnto guarded_test.now terms.old.items terms.new.items) }
 {
     let Shape::Encryption(body, key) = guarded_test.critical.shape() else {
         return Ok(());
@@ -51,8 +50,8 @@ fn opening(alloc: Global, pattern: &Pattern) -> Result<Term, AllocError>
 
 /// The terms on which listeners are added, each once.
 fn heard(alloc: Global, guarded_test: &GuardedTest) -> Result<Vec<Term>, AllocError>
-    requires { IsNodeOf (guarded_test_view guarded_test.now).skeleton.strands (guarded_test_view guarded_test.now).node }
-    ensures { IfOk result (λ ts. AreHeard (guarded_test_view guarded_test.now) ts.items) }
+    requires { IsNodeOf guarded_test.now.skeleton.strands guarded_test.now.node }
+    ensures { IfOk result (λ ts. AreHeard guarded_test.now ts.items) }
 {
     let mut terms = Vec::new(alloc);
     add_freeing(alloc, guarded_test, &mut terms)?;
@@ -72,11 +71,10 @@ fn add_before(
     term: &Term,
     k: &mut Skeleton,
 ) -> Result<usize, AllocError>
-    requires test { IsTest (guarded_test_view guarded_test.now).skeleton (guarded_test_view guarded_test.now).node (guarded_test_view guarded_test.now).critical }
-    requires copied { k.old ≡ guarded_test.now.skeleton.now }
-    ensures number { IfOk result (λ s. s ≡ length (guarded_test_view guarded_test.now).skeleton.strands) }
-    ensures put { IfOk result (λ s. AddsListenerBefore (guarded_test_view guarded_test.now) term.now s (skeleton_view k.new)) }
-    ensures variables { OnOk result (k.new.variables ≡ (guarded_test_view guarded_test.now).variables) }
+    requires test { IsTest guarded_test.now.skeleton guarded_test.now.node guarded_test.now.critical }
+    requires copied { k.old ≡ guarded_test.now.skeleton }
+    ensures number { IfOk result (λ s. s ≡ length guarded_test.now.skeleton.strands) }
+    ensures put { IfOk result (λ s. AddsListenerBefore guarded_test.now term.now s k.new) }
 {
     k.is_sound();
     let message = term.copy()?;
@@ -96,9 +94,9 @@ fn listen_in(
     mut k: Skeleton,
     children: &mut Vec<Child>,
 ) -> Result<(), AllocError>
-    requires test { IsTest (guarded_test_view guarded_test.now).skeleton (guarded_test_view guarded_test.now).node (guarded_test_view guarded_test.now).critical }
-    requires copied { k ≡ guarded_test.now.skeleton.now }
-    ensures { OnOk result (PutsChildren (Listens (guarded_test_view guarded_test.now) term.now) children.old.items children.new.items) }
+    requires test { IsTest guarded_test.now.skeleton guarded_test.now.node guarded_test.now.critical }
+    requires copied { k ≡ guarded_test.now.skeleton }
+    ensures { OnOk result (PutsChildren (Listens guarded_test.now term.now) children.old.items children.new.items) }
 {
     let strand = add_before(alloc, guarded_test, term, &mut k)?;
     let path = Path::new(alloc);
@@ -112,8 +110,8 @@ fn listen_to(
     term: &Term,
     children: &mut Vec<Child>,
 ) -> Result<(), AllocError>
-    requires { IsTest (guarded_test_view guarded_test.now).skeleton (guarded_test_view guarded_test.now).node (guarded_test_view guarded_test.now).critical }
-    ensures { OnOk result (PutsChildren (Listens (guarded_test_view guarded_test.now) term.now) children.old.items children.new.items) }
+    requires { IsTest guarded_test.now.skeleton guarded_test.now.node guarded_test.now.critical }
+    ensures { OnOk result (PutsChildren (Listens guarded_test.now term.now) children.old.items children.new.items) }
 {
     let k = guarded_test.skeleton.copy(alloc)?;
     listen_in(alloc, guarded_test, term, k, children)
@@ -125,8 +123,8 @@ pub(crate) fn listen(
     guarded_test: &GuardedTest,
     children: &mut Vec<Child>,
 ) -> Result<(), AllocError>
-    requires { IsTest (guarded_test_view guarded_test.now).skeleton (guarded_test_view guarded_test.now).node (guarded_test_view guarded_test.now).critical }
-    ensures { OnOk result (PutsChildren (AreListeners (guarded_test_view guarded_test.now)) children.old.items children.new.items) }
+    requires { IsTest guarded_test.now.skeleton guarded_test.now.node guarded_test.now.critical }
+    ensures { OnOk result (PutsChildren (AreListeners guarded_test.now) children.old.items children.new.items) }
 {
     let terms = heard(alloc, guarded_test)?;
     for term in &terms {

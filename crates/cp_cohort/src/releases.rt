@@ -6,10 +6,9 @@ ghost use Rattle.cp_model.specs.Skeleton.{IsNodeOf, IsOrderPair, term_event_at};
 ghost use Rattle.cp_model.specs.Term.{Term as Plain};
 ghost use Rattle.cp_pattern.specs.Candidates.{may_equal};
 ghost use Rattle.cp_model.specs.Positions.{positions_where};
-ghost use Rattle.cp_skel.specs.View.{skeleton_view};
 ghost use Rattle.cp_cohort.specs.Children.{IsPosition, ReleasesPut, ReleasesEach};
 ghost use Rattle.cp_cohort.specs.GatheredLists.{EachGives};
-ghost use Rattle.cp_cohort.specs.Views.{guarded_test_view, operation_of_made, PutsChildren};
+ghost use Rattle.cp_cohort.specs.Views.{operation_of_made, PutsChildren};
 
 use crate::child::{Child, Made, put_children};
 use crate::guarded_test::GuardedTest;
@@ -22,8 +21,8 @@ use std::alloc::{AllocError, Global};
 
 /// The message at a node that exists.
 fn message_at(alloc: Global, k: &Skeleton, node: Node) -> Result<Term, AllocError>
-    requires { IsNodeOf (skeleton_view k.now).strands node }
-    ensures { IfOk result (λ t. (e : PlainEvent Plain) → term_event_at (skeleton_view k.now).strands node ≡ Some e → t ≡ payload e) }
+    requires { IsNodeOf k.now.strands node }
+    ensures { IfOk result (λ t. (e : PlainEvent Plain) → term_event_at k.now.strands node ≡ Some e → t ≡ payload e) }
 {
     let Some(strand) = k.strands().get(node.strand) else {
         unreachable!();
@@ -46,7 +45,7 @@ fn release_at(
     children: &mut Vec<Child>,
 ) -> Result<(), AllocError>
     requires { IsPosition message.now path.now }
-    ensures { OnOk result (PutsChildren (ReleasesPut (guarded_test_view guarded_test.now) put.now.variables (operation_of_made made) node (skeleton_view put.now) message.now path.now) children.old.items children.new.items) }
+    ensures { OnOk result (PutsChildren (ReleasesPut guarded_test.now (operation_of_made made) node put.now message.now path.now) children.old.items children.new.items) }
 {
     put.is_sound();
     let Some(term) = at(message, path) else {
@@ -81,8 +80,8 @@ fn release_each(
     made: Made,
     children: &mut Vec<Child>,
 ) -> Result<(), AllocError>
-    ensures { OnOk result (PutsChildren (EachGives (ReleasesPut (guarded_test_view guarded_test.now) put.now.variables (operation_of_made made) node (skeleton_view put.now) message.now)
-        (positions_where (may_equal (guarded_test_view guarded_test.now).critical) message.now)) children.old.items children.new.items) }
+    ensures { OnOk result (PutsChildren (EachGives (ReleasesPut guarded_test.now (operation_of_made made) node put.now message.now)
+        (positions_where (may_equal guarded_test.now.critical) message.now)) children.old.items children.new.items) }
 {
     let paths = positions_for(alloc, message, guarded_test.critical)?;
     for path in &paths {
@@ -110,8 +109,8 @@ fn release_before(
     made: Made,
     children: &mut Vec<Child>,
 ) -> Result<(), AllocError>
-    requires { IsOrderPair (skeleton_view grown.old) (record { earlier = node; later = (guarded_test_view guarded_test.now).node }) }
-    ensures { OnOk result (PutsChildren (ReleasesEach (guarded_test_view guarded_test.now) grown.old.variables (operation_of_made made) node (skeleton_view grown.old)) children.old.items children.new.items) }
+    requires { IsOrderPair grown.old (record { earlier = node; later = guarded_test.now.node }) }
+    ensures { OnOk result (PutsChildren (ReleasesEach guarded_test.now (operation_of_made made) node grown.old) children.old.items children.new.items) }
 {
     if !grown.add_order(alloc, node, guarded_test.node)? {
         return Ok(());
@@ -129,8 +128,8 @@ pub(crate) fn release(
     made: Made,
     children: &mut Vec<Child>,
 ) -> Result<(), AllocError>
-    requires { IsOrderPair (skeleton_view grown) (record { earlier = node; later = (guarded_test_view guarded_test.now).node }) }
-    ensures { OnOk result (PutsChildren (ReleasesEach (guarded_test_view guarded_test.now) grown.variables (operation_of_made made) node (skeleton_view grown)) children.old.items children.new.items) }
+    requires { IsOrderPair grown (record { earlier = node; later = guarded_test.now.node }) }
+    ensures { OnOk result (PutsChildren (ReleasesEach guarded_test.now (operation_of_made made) node grown) children.old.items children.new.items) }
 {
     let mut put = grown;
     release_before(alloc, guarded_test, &mut put, node, made, children)

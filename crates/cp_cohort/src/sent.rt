@@ -1,7 +1,6 @@
 // Transmissions of role strands before a node.
 ghost use Rattle.std.specs.Prelude.{◌≡◌, ◌↔◌, IsTrue};
 ghost use Rattle.cp_model.specs.Skeleton.{IsNodeOf};
-ghost use Rattle.cp_skel.specs.View.{skeleton_view};
 ghost use Rattle.cp_cohort.specs.CoveringChildren.{IsTransmissionBefore};
 
 use cp_skel::{Event, LocatedEvent, Node, Predecessors, Skeleton, comes_before};
@@ -14,9 +13,9 @@ pub fn is_sent_before(
     node: Node,
     occurrence: &LocatedEvent,
 ) -> bool
-    requires there { IsNodeOf (skeleton_view k.now).strands node }
-    requires gathered { leading.now ≡ record { pairs = k.now.order; node = node } }
-    ensures { IsTrue result ↔ IsTransmissionBefore (skeleton_view k.now) node occurrence.now }
+    requires there { IsNodeOf k.now.strands node }
+    requires gathered { leading.now ≡ record { pairs = k.now.pairs; node = node } }
+    ensures { IsTrue result ↔ IsTransmissionBefore k.now node occurrence.now }
 {
     if !occurrence.by_role {
         return false;

@@ -1,7 +1,6 @@
 // Solves a release.
 ghost use Rattle.std.specs.Prelude.{◌≡◌, map, IfOk};
 ghost use Rattle.cp_cohort.specs.Stages.{SolvesRelease, on_the_way};
-ghost use Rattle.cp_cohort.specs.ReleaseViews.{release_view, partial_solution_view};
 ghost use Rattle.cp_cohort.specs.Candidates.{tried_of};
 
 use crate::candidates::{Candidate, round, some_is_open};
@@ -36,7 +35,7 @@ pub fn solve(
     release: &Release,
     tried: PartialSolution,
 ) -> Result<Vec<PartialSolution>, AllocError>
-    ensures { IfOk result (λ ts. SolvesRelease (release_view release.now) on_the_way (partial_solution_view tried) (map partial_solution_view ts.items)) }
+    ensures { IfOk result (λ ts. SolvesRelease release.now on_the_way tried ts.items) }
 {
     let mut alone = Vec::with_capacity(alloc, 1)?;
     alone.push(Candidate::OnTheWay(tried))?;

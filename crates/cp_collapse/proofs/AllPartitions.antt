@@ -4,7 +4,6 @@ use Rattle.cp_lists.specs.Lists.{item_at, IsIn}
 use Rattle.cp_model.specs.Skeleton.{Skeleton}
 use Rattle.cp_lists.proofs.Items.{item_below, at_place}
 use Rattle.cp_lists.proofs.Members.{in_append, only_item}
-use Rattle.cp_model.specs.Data.{SkeletonData as Program}
 use Rattle.cp_collapse.specs.Collapses.{IsCollapsed, HasNoCycle, IsImpossible, AreCollapses}
 use Rattle.cp_collapse.specs.FirstPartitions.{ArePartitionsOfFirst, AreCollapsedTo}
 use Rattle.cp_collapse.specs.Partitions.{IsPartitionByRole, finest}
@@ -39,15 +38,15 @@ module _ (k : Skeleton) (ps : List (List ℕ)) (are : ArePartitionsOfFirst k (le
   })
 
 -- Each of the program's collapses has the variables of k.
-abbrev pub HaveVariablesOf : Program → List Program → Type 0
-HaveVariablesOf k ls = (l : Program) → IsIn l ls → l.variables ≡ k.variables
+abbrev pub HaveVariablesOf : Skeleton → List Skeleton → Type 0
+HaveVariablesOf k ls = (l : Skeleton) → IsIn l ls → l.variables ≡ k.variables
 
-pub none_of_these : (k : Program) (ls : List Program) → ls ≡ [] → HaveVariablesOf k ls
+pub none_of_these : (k : Skeleton) (ls : List Skeleton) → ls ≡ [] → HaveVariablesOf k ls
 none_of_these k ls e l i = elim (subst (IsIn l) e i) [ ]
 
-pub one_of_these : (k : Program) (ls new : List Program) (l : Program) → HaveVariablesOf k ls → l.variables ≡ k.variables → new ≡ ls ++ (l ∷ []) → HaveVariablesOf k new
+pub one_of_these : (k : Skeleton) (ls new : List Skeleton) (l : Skeleton) → HaveVariablesOf k ls → l.variables ≡ k.variables → new ≡ ls ++ (l ∷ []) → HaveVariablesOf k new
 one_of_these k ls new l old same e m i = by (in_append ls (l ∷ []) (subst (IsIn m) e i))
   where
     by : IsIn m ls ⊎ IsIn m (l ∷ []) → m.variables ≡ k.variables
     by (inl j) = old m j
-    by (inr j) = subst (λ (n : Program). n.variables ≡ k.variables) (sym (only_item j)) same
+    by (inr j) = subst (λ (n : Skeleton). n.variables ≡ k.variables) (sym (only_item j)) same

@@ -6,7 +6,7 @@ use Rattle.cp_model.specs.Message.{Message}
 use Rattle.cp_model.specs.Strand.{Role, Protocol}
 use Rattle.cp_model.specs.declared.strand.Event.{Event}
 use Rattle.cp_model.specs.declared.strand.Event.TheVariants.{Send as send, Receive as recv}
-use Rattle.cp_model.specs.Term.{Substitution}
+use Rattle.cp_model.specs.Bindings.{Binding}
 use Rattle.cp_model.specs.Bundle.{node_at, event_at, Bundle, Precedes, IsBundle}
 use Rattle.cp_model.specs.Skeleton.{SkeletonStrand, instance, Skeleton, along_pair, IsSkeleton}
 use Rattle.cp_model.specs.declared.node.OrderPair.{OrderPair}
@@ -62,7 +62,7 @@ module _ (protocol : Protocol) (k : Skeleton) (b : Bundle) (h : Standing) (sk : 
       (sym (place_of_entry p s (low (together k h) s) e) ∙ same ∙ place_of_entry p t (low (together k h) t) f)
 
   -- Two different strands in one block are role strands, and go to one strand.
-  on_role : (s t : ℕ) → s ≢ t → low (together k h) s ≡ low (together k h) t → Dec (s ≡ low (together k h) s) → (role : Role) × (height : ℕ) × (terms : Substitution) × (item_at k.strands s ≡ Some (instance role height terms))
+  on_role : (s t : ℕ) → s ≢ t → low (together k h) s ≡ low (together k h) t → Dec (s ≡ low (together k h) s) → (role : Role) × (height : ℕ) × (terms : List Binding) × (item_at k.strands s ≡ Some (instance role height terms))
   on_role s t ne same (no other) = let a = alike_or_same k h b stands s other in (a.role, a.height, a.terms, a.first)
   on_role s t ne same (yes own) =
       let a = alike_or_same k h b stands t (λ e. ne (own ∙ same ∙ sym e)) in

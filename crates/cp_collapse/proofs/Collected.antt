@@ -1,5 +1,5 @@
 -- A skeleton whose strands say the same as merged ones is collapsed; and what the program's tests say of it.
-use Rattle.std.proofs.Common.{◌≡◌, inl, inr, ℕ, suc, ◌<◌, List, map, length, refl, sym, ap, ◌∙◌, subst, arith}
+use Rattle.std.proofs.Common.{◌≡◌, inl, inr, ℕ, suc, ◌<◌, List, length, refl, sym, ap, ◌∙◌, subst, arith}
 use native.Mathlib.Decide.{dec_lt}
 use Rattle.cp_lists.specs.Lists.{IsIn}
 use Rattle.cp_model.specs.Term.{Substitution}
@@ -8,8 +8,6 @@ use Rattle.cp_model.specs.Skeleton.{SkeletonStrand, Assumptions, Skeleton, IsOrd
 use Rattle.cp_model.specs.declared.node.OrderPair.{OrderPair}
 use Rattle.cp_model.proofs.LawPrefixes.{variables_of_higher}
 use Rattle.cp_unify.specs.Bindings.{Binding, as_substitution}
-use Rattle.cp_strand.specs.View.{strand_view}
-use Rattle.cp_model.specs.Data.{StrandData as Strand}
 use Rattle.cp_collapse.specs.SameSkeletons.{AreSameStrands, no_strands, same_strands}
 use Rattle.cp_collapse.specs.Collapses.{ArePairsIn, LiesOnOne, assumptions_in, IsFromProblemIn, IsCollapsed, HasNoCycle, HasPairBackward, IsImpossible}
 use Rattle.cp_collapse.specs.Cycles.{ClosesCycleAt}
@@ -39,7 +37,7 @@ like_merged k l p f ss same m = record {
   listeners = λ s t at. listener_at (all_same_back same) _ _ (m.listeners s t at);
 }
 
-alike_merged : (k l : Skeleton) (p : List ℕ) (r : List Binding) (ss : List Strand) → IsPartitionByRole k p → IsExactFor (IdentifiesValues k p) r → AreMergedAlike k p (as_substitution r) (length p) ss → l.strands ≡ map strand_view ss →
+alike_merged : (k l : Skeleton) (p : List ℕ) (r : List Binding) (ss : List SkeletonStrand) → IsPartitionByRole k p → IsExactFor (IdentifiesValues k p) r → AreMergedAlike k p (as_substitution r) (length p) ss → l.strands ≡ ss →
     HasMergedStrands k p (as_substitution r) l
 alike_merged k l p r ss part exact m views =
     like_merged k l p (as_substitution r) m.exact (subst (AreSameStrands m.exact) (sym views) m.alike) (has_merged_strands k (record l { strands = m.exact }) p r part exact m.merged)
@@ -63,7 +61,7 @@ is_collapsed k m p r exact strands pairs forward assumptions from_problem = reco
   from_problem = from_problem;
 }
 
-pub listed_collapsed : (k m l : Skeleton) (p : List ℕ) (r : List Binding) (ss : List Strand) → IsPartitionByRole k p → IsExactFor (IdentifiesValues k p) r → AreMergedAlike k p (as_substitution r) (length p) ss → m.strands ≡ map strand_view ss →
+pub listed_collapsed : (k m l : Skeleton) (p : List ℕ) (r : List Binding) (ss : List SkeletonStrand) → IsPartitionByRole k p → IsExactFor (IdentifiesValues k p) r → AreMergedAlike k p (as_substitution r) (length p) ss → m.strands ≡ ss →
     ArePairsIn p k.pairs m.pairs → ((q : OrderPair) → IsIn q k.pairs → LiesOnOne p q → q.earlier.index < q.later.index) →
     m.assumptions ≡ assumptions_in p (as_substitution r) k.assumptions → IsFromProblemIn p (as_substitution r) k.from_problem m.from_problem → l ≡ record m { assumptions = listed m } → IsCollapsed k p l
 listed_collapsed k m l p r ss part exact merged views pairs forward assumptions from_problem is =

@@ -3,6 +3,7 @@ use Rattle.std.proofs.Common.{◌≡◌, ◌⊎◌, inl, inr, ℕ, zero, suc, Li
 use Rattle.cp_lists.specs.Lists.{item_at, IsIn, here, there, one_step, more_steps}
 use Rattle.cp_lists.proofs.Members.{in_cases}
 use Rattle.cp_model.specs.Term.{Term, after, Substitution, apply_to, composed, variable_term, value_of}
+use Rattle.cp_model.specs.Bindings.{as_substitution}
 use Rattle.cp_model.specs.Strand.{event_map}
 use Rattle.cp_model.specs.declared.strand.Event.{Event}
 use Rattle.cp_model.specs.declared.strand.Event.TheVariants.{Send as send, Receive as recv}
@@ -22,7 +23,7 @@ use Rattle.cp_collapse.proofs.Places.{strand_at_place}
 
 some_identifies : (k l : Skeleton) (p : List ℕ) (c : IsCollapsed k p l) → IdentifiesValues k p (after free c.unifier)
 some_identifies k l p c s t role height terms height' terms' at au a x i j =
-    value terms ∙ ap (value_of free) (c.most_general.identifies s t role height terms height' terms' at au a x i j) ∙ sym (value terms')
+    value (as_substitution terms) ∙ ap (value_of free) (c.most_general.identifies s t role height terms height' terms' at au a x i j) ∙ sym (value (as_substitution terms'))
   where
     value : (d : Substitution) → value_of (after (after free c.unifier) d) (variable_term x) ≡ value_of free (apply_to (composed d c.unifier) (variable_term x))
     value d =
@@ -56,7 +57,7 @@ module _ (k m l : Skeleton) (p : List ℕ) (part : IsPartitionByRole k p) (c : I
       let u = event_of_instance role height terms i e ev in
       let less = u.0 in
       let at_least = go.at_least in
-      (event_map (apply_to go.to_terms) u.1, event_of_higher l.strands s i role go.to_height go.to_terms u.1 (ap (item_at l.strands) (sym one.at_place) ∙ go.on_instance) (omega (arith, less, at_least)) u.2)
+      (event_map (apply_to (as_substitution go.to_terms)) u.1, event_of_higher l.strands s i role go.to_height go.to_terms u.1 (ap (item_at l.strands) (sym one.at_place) ∙ go.on_instance) (omega (arith, less, at_least)) u.2)
   node_on s i (listener t) e at ev = let u = listener_there s t at in on_listener u.0 u.1 i ev
     where
       on_listener : (u : Term) → item_at l.strands s ≡ Some (listener u) → (j : ℕ) → item_at (skeleton_trace (listener t)) j ≡ Some e → IsNodeOf l.strands (node_at s j)

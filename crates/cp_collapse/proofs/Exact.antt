@@ -1,14 +1,14 @@
 -- Bindings that are met by exactly the assignments of which a fact is true, and how unification adds to them.
 use Rattle.std.proofs.Common.{◌≡◌, ◌⊎◌, inl, inr, ℕ, ◌≤◌, List, [], ◌∷◌, ◌++◌, sym, ap, ◌∙◌, subst}
 use Rattle.cp_lists.specs.Lists.{IsIn, here}
-use Rattle.cp_model.specs.Term.{Term, atom_term, Assignment, value_of, after, Substitution, AgreeOn, variable_term, apply_to}
+use Rattle.cp_model.specs.Term.{Term, Assignment, value_of, after, Substitution, AgreeOn, variable_term, apply_to}
 use Rattle.cp_model.specs.declared.variable.Variable.{Variable}
 use Rattle.cp_model.specs.Strand.{Role, variables_of_prefix}
 use Rattle.cp_model.specs.Skeleton.{Skeleton}
 use Rattle.cp_lists.proofs.Members.{in_append_left, in_append_right, in_append, only_item}
 use Rattle.cp_model.proofs.LawPrefixes.{variables_of_higher}
 use Rattle.cp_model.proofs.LawTerms.{value_after, term_composed}
-use Rattle.cp_unify.specs.Bindings.{Binding, variable_of, Meets, as_substitution}
+use Rattle.cp_unify.specs.Bindings.{Binding, Meets, as_substitution}
 use Rattle.cp_unify.specs.Unifiers.{Solves, IsMostGeneralUnifier, HasNoUnifier}
 use Rattle.cp_unify.proofs.Free.{free}
 use Rattle.cp_unify.proofs.SolvedBindings.{unified}
@@ -31,7 +31,7 @@ exact_same e f r to from x = record { met = x.met; sound = λ g m. to g (x.sound
 meets_after : (g : Assignment) (s : Substitution) (r : List Binding) → Solves s r → Meets (after g s) r
 meets_after g s [] h = tt
 meets_after g s (b ∷ bs) h =
-    (value_after g s (variable_term (variable_of b)) ∙ ap (value_of g) h.0 ∙ sym (value_after g s (atom_term b.term)), meets_after g s bs h.1)
+    (value_after g s (variable_term b.variable) ∙ ap (value_of g) h.0 ∙ sym (value_after g s b.term), meets_after g s bs h.1)
 
 pub exact_unified : (e : Assignment → Type 0) (a b : Term) (r q : List Binding) → IsExactFor e r → IsMostGeneralUnifier a b r q → IsExactFor (λ g. e g × (value_of g a ≡ value_of g b)) q
 exact_unified e a b r q x m = record {
@@ -87,26 +87,26 @@ module _ (e : Assignment → Type 0) (s t : Substitution) where
       never_unified (AlsoAgree xs) (apply_to s (variable_term y)) (apply_to t (variable_term y)) r x none g (f, a) (terms_equal g s t y same)
 
 -- The variables that are in both prefixes are those of the shorter.
-pub equal_on_shorter : (role : Role) (height : ℕ) (terms : Substitution) (height' : ℕ) (terms' : Substitution) (g : Assignment) → height ≤ height' →
-    AgreeOn (variables_of_prefix role height) (after g terms) (after g terms') → HaveEqualValues role height terms height' terms' g
+pub equal_on_shorter : (role : Role) (height : ℕ) (terms : List Binding) (height' : ℕ) (terms' : List Binding) (g : Assignment) → height ≤ height' →
+    AgreeOn (variables_of_prefix role height) (after g (as_substitution terms)) (after g (as_substitution terms')) → HaveEqualValues role height terms height' terms' g
 equal_on_shorter role height terms height' terms' g le a x i j = a x i
 
-pub shorter_on_equal : (role : Role) (height : ℕ) (terms : Substitution) (height' : ℕ) (terms' : Substitution) (g : Assignment) → height ≤ height' →
-    HaveEqualValues role height terms height' terms' g → AgreeOn (variables_of_prefix role height) (after g terms) (after g terms')
+pub shorter_on_equal : (role : Role) (height : ℕ) (terms : List Binding) (height' : ℕ) (terms' : List Binding) (g : Assignment) → height ≤ height' →
+    HaveEqualValues role height terms height' terms' g → AgreeOn (variables_of_prefix role height) (after g (as_substitution terms)) (after g (as_substitution terms'))
 shorter_on_equal role height terms height' terms' g le a x i = a x i (variables_of_higher role height height' le x i)
 
-pub equal_back : (role : Role) (height : ℕ) (terms : Substitution) (height' : ℕ) (terms' : Substitution) (g : Assignment) → HaveEqualValues role height terms height' terms' g → HaveEqualValues role height' terms' height terms g
+pub equal_back : (role : Role) (height : ℕ) (terms : List Binding) (height' : ℕ) (terms' : List Binding) (g : Assignment) → HaveEqualValues role height terms height' terms' g → HaveEqualValues role height' terms' height terms g
 equal_back role height terms height' terms' g a x i j = sym (a x j i)
 
 -- ---- the substitution of exact bindings
 
 pub exact_identifies : (k : Skeleton) (p : List ℕ) (r : List Binding) → IsExactFor (IdentifiesValues k p) r → Identifies k p (as_substitution r)
 exact_identifies k p r x s t role height terms height' terms' at au together y i j =
-    let a = apply_to terms (variable_term y) in
-    let b = apply_to terms' (variable_term y) in
+    let a = apply_to (as_substitution terms) (variable_term y) in
+    let b = apply_to (as_substitution terms') (variable_term y) in
     let e : apply_to (as_substitution r) a ≡ apply_to (as_substitution r) b =
-    unified r a b x.met (λ g m. terms_equal g terms terms' y (x.sound g m s t role height terms height' terms' at au together y i j)) in
-    term_composed terms (as_substitution r) (variable_term y) ∙ e ∙ sym (term_composed terms' (as_substitution r) (variable_term y))
+    unified r a b x.met (λ g m. terms_equal g (as_substitution terms) (as_substitution terms') y (x.sound g m s t role height terms height' terms' at au together y i j)) in
+    term_composed (as_substitution terms) (as_substitution r) (variable_term y) ∙ e ∙ sym (term_composed (as_substitution terms') (as_substitution r) (variable_term y))
 
 pub exact_is_most_general : (k : Skeleton) (p : List ℕ) (r : List Binding) → IsExactFor (IdentifiesValues k p) r → IsMostGeneralOn k p (as_substitution r)
 exact_is_most_general k p r x = record {

@@ -1,7 +1,8 @@
 -- Exact bindings of a partition, one strand more: alone, or in a block, strand by strand of the block.
 use Rattle.std.proofs.Common.{◌≡◌, ℕ, suc, ◌≤◌, List, [], ◌∷◌, ◌++◌, Some, arith}
 use Rattle.cp_lists.specs.Lists.{item_at}
-use Rattle.cp_model.specs.Term.{Assignment, Substitution}
+use Rattle.cp_model.specs.Term.{Assignment}
+use Rattle.cp_model.specs.Bindings.{as_substitution}
 use Rattle.cp_model.specs.Strand.{Role, variables_of_prefix}
 use Rattle.cp_model.specs.Skeleton.{instance, Skeleton}
 use Rattle.cp_unify.specs.Bindings.{Binding}
@@ -12,15 +13,15 @@ use Rattle.cp_collapse.proofs.Exact.{exact_none, exact_same, AlsoAgree, equal_on
 use Rattle.cp_collapse.proofs.OneStrandMore.{equal_at_instances, identifies_alone, alone_identifies, block_identifies, identifies_block, block_at_first, block_passes, block_takes, block_before, block_has, never_joined}
 
 -- Two instances, of which the first is no taller, have equal values where they agree on the variables of its prefix.
-pub exact_values : (e : Assignment → Type 0) (role : Role) (height : ℕ) (terms : Substitution) (height' : ℕ) (terms' : Substitution) (r : List Binding) → height ≤ height' →
-    IsExactFor (AlsoAgree e terms terms' (variables_of_prefix role height)) r → IsExactFor (λ g. e g × HaveEqualValues role height terms height' terms' g) r
+pub exact_values : (e : Assignment → Type 0) (role : Role) (height : ℕ) (terms : List Binding) (height' : ℕ) (terms' : List Binding) (r : List Binding) → height ≤ height' →
+    IsExactFor (AlsoAgree e (as_substitution terms) (as_substitution terms') (variables_of_prefix role height)) r → IsExactFor (λ g. e g × HaveEqualValues role height terms height' terms' g) r
 exact_values e role height terms height' terms' r le =
-    exact_same (AlsoAgree e terms terms' (variables_of_prefix role height)) (λ g. e g × HaveEqualValues role height terms height' terms' g) r
+    exact_same (AlsoAgree e (as_substitution terms) (as_substitution terms') (variables_of_prefix role height)) (λ g. e g × HaveEqualValues role height terms height' terms' g) r
     (λ g f. (f.0, equal_on_shorter role height terms height' terms' g le f.1))
     (λ g f. (f.0, shorter_on_equal role height terms height' terms' g le f.1))
 
 -- The same where the second comes first.
-pub exact_values_back : (e : Assignment → Type 0) (role : Role) (height : ℕ) (terms : Substitution) (height' : ℕ) (terms' : Substitution) (r : List Binding) →
+pub exact_values_back : (e : Assignment → Type 0) (role : Role) (height : ℕ) (terms : List Binding) (height' : ℕ) (terms' : List Binding) (r : List Binding) →
     IsExactFor (λ g. e g × HaveEqualValues role height' terms' height terms g) r → IsExactFor (λ g. e g × HaveEqualValues role height terms height' terms' g) r
 exact_values_back e role height terms height' terms' r =
     exact_same (λ g. e g × HaveEqualValues role height' terms' height terms g) (λ g. e g × HaveEqualValues role height terms height' terms' g) r
@@ -45,7 +46,7 @@ module _ (k : Skeleton) (n : ℕ) (p : List ℕ) (part : IsPartitionOfFirst k n 
     pub exact_block_last : (r : List Binding) → IsExactFor (EqualsBlock k p n l n) r → IsExactFor (IdentifiesValues k (p ++ (l ∷ []))) r
     exact_block_last r = exact_same (EqualsBlock k p n l n) (IdentifiesValues k (p ++ (l ∷ []))) r (block_identifies k n p part l) (λ g. identifies_block k n p part l g n)
 
-    module _ (i : ℕ) (own : item_at p i ≡ Some l) (role : Role) (height : ℕ) (terms : Substitution) (height' : ℕ) (terms' : Substitution)
+    module _ (i : ℕ) (own : item_at p i ≡ Some l) (role : Role) (height : ℕ) (terms : List Binding) (height' : ℕ) (terms' : List Binding)
         (at : item_at k.strands i ≡ Some (instance role height terms)) (last : item_at k.strands n ≡ Some (instance role height' terms')) where
       pub exact_block_takes : (r : List Binding) → IsExactFor (λ g. EqualsBlock k p n l i g × HaveEqualValues role height terms height' terms' g) r → IsExactFor (EqualsBlock k p n l (suc i)) r
       exact_block_takes r =

@@ -1,18 +1,16 @@
 -- One strand more, alone or in a block, as the program tries it.
-use Rattle.std.proofs.Common.{◌≡◌, inl, inr, ℕ, suc, ◌<◌, ◌≤◌, ◌+◌, List, [], ◌∷◌, ◌++◌, Some, map, length, sym, ap, ◌∙◌, subst, arith}
+use Rattle.std.proofs.Common.{◌≡◌, inl, inr, ℕ, suc, ◌<◌, ◌≤◌, ◌+◌, List, [], ◌∷◌, ◌++◌, Some, length, sym, ap, ◌∙◌, subst, arith}
 use native.Mathlib.Decide.{ℕ_discrete}
 use Rattle.cp_lists.specs.Lists.{item_at}
 use Rattle.cp_model.specs.Term.{Assignment}
+use Rattle.cp_model.specs.Bindings.{bindings_of}
 use Rattle.cp_model.specs.Strand.{Role}
-use Rattle.cp_model.specs.Homomorphism.{substitution_by}
 use Rattle.cp_model.specs.Skeleton.{SkeletonStrand, instance, Skeleton}
-use Rattle.cp_lists.proofs.Items.{item_below, map_of_item}
+use Rattle.cp_lists.proofs.Items.{item_below}
 use Rattle.cp_unify.specs.Bindings.{Binding, Meets}
 use Rattle.cp_model.specs.Extensions.{IsClosedPrefix}
-use Rattle.cp_skel.specs.DeclaredPrefixes.{HasDeclaredPrefixes}
-use Rattle.cp_strand.specs.View.{instance_view, instance_as_data, strand_view}
-use Rattle.cp_skel.specs.View.{skeleton_view}
-use Rattle.cp_model.specs.Data.{InstanceData, StrandData as Strand, SkeletonData as Program}
+use Rattle.cp_model.specs.Declares.{HasDeclaredPrefixes}
+use Rattle.cp_strand.specs.View.{instance_view, InstanceData}
 use Rattle.cp_collapse.specs.FirstPartitions.{IsPartitionOfFirst, IsExactFor, EqualAt, EqualsBlock}
 use Rattle.cp_collapse.specs.Partials.{AlsoEqual, IsOfNoAssignment, MayNotJoin}
 use Rattle.cp_collapse.specs.Partitions.{AreOfOneRole, IdentifiesValues}
@@ -32,45 +30,45 @@ alike_then ss s t u a b =
     let same : a.role ≡ b.role = cc in
     record { role = a.role; height = a.height; terms = a.terms; first = a.first; height' = b.height'; terms' = b.terms'; second = subst (λ (r : Role). item_at ss u ≡ Some (instance r b.height' b.terms')) (sym same) b.second }
 
-module _ (ss : List Strand) (s t : ℕ) (a b : InstanceData) (at : item_at ss s ≡ Some (instance_as_data a)) (bt : item_at ss t ≡ Some (instance_as_data b)) where
-  viewed_first : item_at (map strand_view ss) s ≡ Some (instance_view a)
-  viewed_first = map_of_item strand_view ss s (instance_as_data a) at
+module _ (ss : List SkeletonStrand) (s t : ℕ) (a b : InstanceData) (at : item_at ss s ≡ Some (instance_view a)) (bt : item_at ss t ≡ Some (instance_view b)) where
+  viewed_first : item_at ss s ≡ Some (instance_view a)
+  viewed_first = at
 
-  viewed_second : item_at (map strand_view ss) t ≡ Some (instance_view b)
-  viewed_second = map_of_item strand_view ss t (instance_as_data b) bt
+  viewed_second : item_at ss t ≡ Some (instance_view b)
+  viewed_second = bt
 
-  pub alike_if : a.role ≡ b.role → AreOfOneRole (map strand_view ss) s t
+  pub alike_if : a.role ≡ b.role → AreOfOneRole ss s t
   alike_if same = record {
     role = a.role;
     height = a.height;
-    terms = substitution_by a.values;
+    terms = bindings_of a.values;
     first = viewed_first;
     height' = b.height;
-    terms' = substitution_by b.values;
-    second = viewed_second ∙ ap (λ (r : Role). Some (instance r b.height (substitution_by b.values))) (sym same);
+    terms' = bindings_of b.values;
+    second = viewed_second ∙ ap (λ (r : Role). Some (instance r b.height (bindings_of b.values))) (sym same);
   }
 
-  pub if_alike : AreOfOneRole (map strand_view ss) s t → a.role ≡ b.role
+  pub if_alike : AreOfOneRole ss s t → a.role ≡ b.role
   if_alike o =
-      let e : Some (instance a.role a.height (substitution_by a.values)) ≡ Some (instance o.role o.height o.terms) = sym viewed_first ∙ o.first in
-      let f : Some (instance b.role b.height (substitution_by b.values)) ≡ Some (instance o.role o.height' o.terms') = sym viewed_second ∙ o.second in
+      let e : Some (instance a.role a.height (bindings_of a.values)) ≡ Some (instance o.role o.height o.terms) = sym viewed_first ∙ o.first in
+      let f : Some (instance b.role b.height (bindings_of b.values)) ≡ Some (instance o.role o.height' o.terms') = sym viewed_second ∙ o.second in
       let p : a.role ≡ o.role = cc in
       let q : b.role ≡ o.role = cc in
       p ∙ sym q
 
   -- Equal values of the strands are those of the instances.
-  module _ (k : Skeleton) (same_strands : k.strands ≡ map strand_view ss) (same : a.role ≡ b.role) (given : List Binding) where
-    first_in : item_at k.strands s ≡ Some (instance a.role a.height (substitution_by a.values))
+  module _ (k : Skeleton) (same_strands : k.strands ≡ ss) (same : a.role ≡ b.role) (given : List Binding) where
+    first_in : item_at k.strands s ≡ Some (instance a.role a.height (bindings_of a.values))
     first_in = ap (λ (xs : List SkeletonStrand). item_at xs s) same_strands ∙ viewed_first
 
-    second_in : item_at k.strands t ≡ Some (instance a.role b.height (substitution_by b.values))
-    second_in = ap (λ (xs : List SkeletonStrand). item_at xs t) same_strands ∙ viewed_second ∙ ap (λ (r : Role). Some (instance r b.height (substitution_by b.values))) (sym same)
+    second_in : item_at k.strands t ≡ Some (instance a.role b.height (bindings_of b.values))
+    second_in = ap (λ (xs : List SkeletonStrand). item_at xs t) same_strands ∙ viewed_second ∙ ap (λ (r : Role). Some (instance r b.height (bindings_of b.values))) (sym same)
 
     to_strands : (g : Assignment) → AlsoEqual given a b g → Meets g given × EqualAt k s t g
-    to_strands g f = (f.0, equal_at_instances k s t g a.role a.height (substitution_by a.values) b.height (substitution_by b.values) first_in second_in f.1)
+    to_strands g f = (f.0, equal_at_instances k s t g a.role a.height (bindings_of a.values) b.height (bindings_of b.values) first_in second_in f.1)
 
     of_strands : (g : Assignment) → Meets g given × EqualAt k s t g → AlsoEqual given a b g
-    of_strands g f = (f.0, f.1 a.role a.height (substitution_by a.values) b.height (substitution_by b.values) first_in second_in)
+    of_strands g f = (f.0, f.1 a.role a.height (bindings_of a.values) b.height (bindings_of b.values) first_in second_in)
 
     pub never_strands : IsOfNoAssignment (AlsoEqual given a b) → IsOfNoAssignment (λ g. Meets g given × EqualAt k s t g)
     never_strands never g f = never g (of_strands g f)
@@ -79,8 +77,8 @@ module _ (ss : List Strand) (s t : ℕ) (a b : InstanceData) (at : item_at ss s 
     exact_strands r = exact_same (AlsoEqual given a b) (λ g. Meets g given × EqualAt k s t g) r to_strands of_strands
 
 -- The role of an instance declares the variables of its prefix.
-pub declared_at : (k : Program) (s : ℕ) (a : InstanceData) → HasDeclaredPrefixes (skeleton_view k) → item_at k.strands s ≡ Some (instance_as_data a) → IsClosedPrefix a.role a.height
-declared_at k s a all e = all s a.role a.height (substitution_by a.values) (map_of_item strand_view k.strands s (instance_as_data a) e)
+pub declared_at : (k : Skeleton) (s : ℕ) (a : InstanceData) → HasDeclaredPrefixes k → item_at k.strands s ≡ Some (instance_view a) → IsClosedPrefix a.role a.height
+declared_at k s a all e = all s a.role a.height (bindings_of a.values) e
 
 -- ---- strand by strand of a block
 

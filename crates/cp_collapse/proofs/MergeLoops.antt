@@ -4,6 +4,7 @@ use Rattle.cp_lists.specs.Lists.{item_at}
 use Rattle.cp_lists.proofs.Items.{item_in_front, item_last}
 use Rattle.cp_lists.proofs.Appended.{length_pushed}
 use Rattle.cp_model.specs.Term.{Substitution}
+use Rattle.cp_model.specs.Bindings.{Binding}
 use Rattle.cp_model.specs.Strand.{Role}
 use Rattle.cp_model.specs.Skeleton.{SkeletonStrand, instance, Skeleton}
 use Rattle.cp_theory.specs.Normal.{strand_under}
@@ -18,21 +19,21 @@ module _ (k : Skeleton) (p : List ℕ) (l : ℕ) where
   tallest_first own = record { in_block = own; as_tall = λ s role height terms less e at. absurd (omega (arith, less)) }
 
   module _ (i t : ℕ) (so_far : IsTallestTo k p l i t) where
-    keeping : ((role : Role) (height : ℕ) (terms : Substitution) → item_at p i ≡ Some l → item_at k.strands i ≡ Some (instance role height terms) → IsAsTall k t role height) →
-        (s : ℕ) (role : Role) (height : ℕ) (terms : Substitution) → (s ≡ i) ⊎ (s < i) → item_at p s ≡ Some l → item_at k.strands s ≡ Some (instance role height terms) → IsAsTall k t role height
+    keeping : ((role : Role) (height : ℕ) (terms : List Binding) → item_at p i ≡ Some l → item_at k.strands i ≡ Some (instance role height terms) → IsAsTall k t role height) →
+        (s : ℕ) (role : Role) (height : ℕ) (terms : List Binding) → (s ≡ i) ⊎ (s < i) → item_at p s ≡ Some l → item_at k.strands s ≡ Some (instance role height terms) → IsAsTall k t role height
     keeping here s role height terms (inl e) own at = here role height terms (ap (item_at p) (sym e) ∙ own) (ap (item_at k.strands) (sym e) ∙ at)
     keeping here s role height terms (inr less) own at = so_far.as_tall s role height terms less own at
 
     -- The next strand is in another block, or a listener, or not taller.
-    pub tallest_keeps : ((role : Role) (height : ℕ) (terms : Substitution) → item_at p i ≡ Some l → item_at k.strands i ≡ Some (instance role height terms) → IsAsTall k t role height) → IsTallestTo k p l (suc i) t
+    pub tallest_keeps : ((role : Role) (height : ℕ) (terms : List Binding) → item_at p i ≡ Some l → item_at k.strands i ≡ Some (instance role height terms) → IsAsTall k t role height) → IsTallestTo k p l (suc i) t
     tallest_keeps here = record { in_block = so_far.in_block; as_tall = λ s role height terms less own at. keeping here s role height terms (eq-or-lt_of_le (omega (arith, less))) own at }
 
     -- The next strand is in the block, and at least as tall.
-    pub tallest_changes : (role : Role) (height : ℕ) (terms : Substitution) (higher : ℕ) (other : Substitution) → item_at p i ≡ Some l →
+    pub tallest_changes : (role : Role) (height : ℕ) (terms : List Binding) (higher : ℕ) (other : List Binding) → item_at p i ≡ Some l →
         item_at k.strands t ≡ Some (instance role height terms) → item_at k.strands i ≡ Some (instance role higher other) → height ≤ higher → IsTallestTo k p l (suc i) i
     tallest_changes role height terms higher other own at now le = record { in_block = own; as_tall = λ s role' height' terms' less e there. by s role' height' terms' (eq-or-lt_of_le (omega (arith, less))) e there }
       where
-        by : (s : ℕ) (role' : Role) (height' : ℕ) (terms' : Substitution) → (s ≡ i) ⊎ (s < i) → item_at p s ≡ Some l → item_at k.strands s ≡ Some (instance role' height' terms') → IsAsTall k i role' height'
+        by : (s : ℕ) (role' : Role) (height' : ℕ) (terms' : List Binding) → (s ≡ i) ⊎ (s < i) → item_at p s ≡ Some l → item_at k.strands s ≡ Some (instance role' height' terms') → IsAsTall k i role' height'
         by s role' height' terms' (inl e) q there = record { own_height = height'; own_terms = terms'; on_instance = ap (item_at k.strands) (sym e) ∙ there; at_least = omega arith }
         by s role' height' terms' (inr less) q there =
             let tall = so_far.as_tall s role' height' terms' less q there in

@@ -3,6 +3,7 @@ use Rattle.std.proofs.Common.{◌≡◌, ℕ, suc, ◌<◌, ◌≤◌, List, Som
 use native.Mathlib.Decide.{ℕ_discrete}
 use Rattle.cp_lists.specs.Lists.{item_at, IsIn, one_step, more_steps}
 use Rattle.cp_model.specs.Term.{Term, variables_of, Substitution, apply_to, apply_to_atom, composed, AgreeOnTerms}
+use Rattle.cp_model.specs.Bindings.{Binding, as_substitution}
 use Rattle.cp_model.specs.Strand.{payload, event_map, Role, prefix_of}
 use Rattle.cp_model.specs.declared.strand.Event.{Event}
 use Rattle.cp_model.specs.declared.strand.Event.TheVariants.{Send as send, Receive as recv}
@@ -27,15 +28,15 @@ event_agrees s f t (send u) a = ap send (sym (agree_term (composed s f) t u a) �
 event_agrees s f t (recv u) a = ap recv (sym (agree_term (composed s f) t u a) ∙ term_composed s f u)
 
 -- The event of an instance, where the instance goes.
-pub event_goes : (l : Skeleton) (f : SkeletonMap) (s i : ℕ) (role : Role) (height : ℕ) (terms : Substitution) (e : Event Term) → GoesToInstance l f s role height terms →
+pub event_goes : (l : Skeleton) (f : SkeletonMap) (s i : ℕ) (role : Role) (height : ℕ) (terms : List Binding) (e : Event Term) → GoesToInstance l f s role height terms →
     item_at (skeleton_trace (instance role height terms)) i ≡ Some e → term_event_at l.strands (node_at (f.strands s) i) ≡ Some (event_map (apply_to f.terms) e)
 event_goes l f s i role height terms e g ev =
-    let m = item_of_map (event_map (apply_to terms)) (prefix_of role height) i e ev in
+    let m = item_of_map (event_map (apply_to (as_substitution terms))) (prefix_of role height) i e ev in
     let t = item_of_take height role.trace i m.0 m.1 in
     let below : i < height = t.0 in
     let higher : height ≤ g.to_height = g.at_least in
     event_of_higher l.strands (f.strands s) i role g.to_height g.to_terms m.0 g.on_instance (omega arith) t.1
-    ∙ ap Some (event_agrees terms f.terms g.to_terms m.0 (λ x inx. g.equal_terms x (in_trace (prefix_of role height) i m.0 x m.1 inx)) ∙ ap (event_map (apply_to f.terms)) m.2)
+    ∙ ap Some (event_agrees (as_substitution terms) f.terms (as_substitution g.to_terms) m.0 (λ x inx. g.equal_terms x (in_trace (prefix_of role height) i m.0 x m.1 inx)) ∙ ap (event_map (apply_to f.terms)) m.2)
 
 module _ (k l : Skeleton) (p : List ℕ) (c : IsCollapsed k p l) where
   abbrev f : SkeletonMap

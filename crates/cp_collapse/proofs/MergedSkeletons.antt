@@ -1,7 +1,8 @@
 -- A skeleton over a protocol whose strands are merged is one, where the merged order has no cycle.
 use Rattle.std.proofs.Common.{◌≡◌, ◌≢◌, ℕ, List, Some, sym, ◌∙◌, subst}
 use Rattle.cp_lists.specs.Lists.{item_at, IsIn}
-use Rattle.cp_model.specs.Term.{AtomTerm, Substitution, apply_to, apply_to_atom, composed, variable_term}
+use Rattle.cp_model.specs.Term.{AtomTerm, apply_to, apply_to_atom, composed, variable_term}
+use Rattle.cp_model.specs.Bindings.{Binding, as_substitution}
 use Rattle.cp_model.specs.Strand.{Role, Protocol, Applies}
 use Rattle.cp_model.specs.declared.strand.Event.TheVariants.{Send as send, Receive as recv}
 use Rattle.cp_model.specs.Bundle.{node_at}
@@ -49,26 +50,26 @@ module _ (k l : Skeleton) (p : List ℕ) (c : IsCollapsed k p l) where
   merged_origins origins w inw = let h = ((assumptions_are k l p c).unique w).0 inw in subst (IsOrigin l) h.2 (origin_goes h.0 (origins h.0 h.1))
 
   -- What the merged strand's role gives, an instance of the block gave already.
-  module _ (place : ℕ) (role : Role) (height : ℕ) (terms : Substitution) (at : item_at l.strands place ≡ Some (instance role height terms)) where
+  module _ (place : ℕ) (role : Role) (height : ℕ) (terms : List Binding) (at : item_at l.strands place ≡ Some (instance role height terms)) where
     abbrev one : HasInstance k p place role height
     one = c.tallest place role height terms at
 
-    same_value : (v : AtomTerm) → Applies role height v → apply_to_atom c.unifier (apply_to_atom one.terms v) ≡ apply_to_atom terms v
+    same_value : (v : AtomTerm) → Applies role height v → apply_to_atom c.unifier (apply_to_atom (as_substitution one.terms) v) ≡ apply_to_atom (as_substitution terms) v
     same_value v applies =
         let g = c.instances one.strand role height one.terms one.on_instance in
         let e : Some (instance role g.to_height g.to_terms) ≡ Some (instance role height terms) = sym g.on_instance ∙ subst (λ (s : ℕ). item_at l.strands s ≡ Some (instance role height terms)) (sym one.at_place) at in
         let t : g.to_terms ≡ terms = cc in
-        sym (atom_composed one.terms c.unifier v)
-        ∙ agree_atom (composed one.terms c.unifier) terms v
-        (λ x inx. subst (λ (d : Substitution). apply_to (composed one.terms c.unifier) (variable_term x) ≡ apply_to d (variable_term x)) t (g.equal_terms x (applies x inx)))
+        sym (atom_composed (as_substitution one.terms) c.unifier v)
+        ∙ agree_atom (composed (as_substitution one.terms) c.unifier) (as_substitution terms) v
+        (λ x inx. subst (λ (d : List Binding). apply_to (composed (as_substitution one.terms) c.unifier) (variable_term x) ≡ apply_to (as_substitution d) (variable_term x)) t (g.equal_terms x (applies x inx)))
 
     merged_gives : GivesAssumptions k one.strand role height one.terms → GivesAssumptions l place role height terms
     merged_gives gives = record {
-      non = λ v inv applies. ((assumptions_are k l p c).non (apply_to_atom terms v)).1 (apply_to_atom one.terms v, gives.non v inv applies, same_value v applies);
-      penetrator_non = λ v inv applies. ((assumptions_are k l p c).penetrator_non (apply_to_atom terms v)).1 (apply_to_atom one.terms v, gives.penetrator_non v inv applies, same_value v applies);
+      non = λ v inv applies. ((assumptions_are k l p c).non (apply_to_atom (as_substitution terms) v)).1 (apply_to_atom (as_substitution one.terms) v, gives.non v inv applies, same_value v applies);
+      penetrator_non = λ v inv applies. ((assumptions_are k l p c).penetrator_non (apply_to_atom (as_substitution terms) v)).1 (apply_to_atom (as_substitution one.terms) v, gives.penetrator_non v inv applies, same_value v applies);
       unique = λ v i inv applies.
-          ((assumptions_are k l p c).unique (record { value = apply_to_atom terms v; origin = node_at place i })).1 (
-            record { value = apply_to_atom one.terms v; origin = node_at one.strand i },
+          ((assumptions_are k l p c).unique (record { value = apply_to_atom (as_substitution terms) v; origin = node_at place i })).1 (
+            record { value = apply_to_atom (as_substitution one.terms) v; origin = node_at one.strand i },
             gives.unique v i inv applies,
             λ j. record { value = same_value v (applies_at role height v i applies) j; origin = node_at (one.at_place j) i },
           );

@@ -4,6 +4,7 @@ use native.Mathlib.Decide.{ℕ_discrete}
 use Rattle.cp_lists.specs.Lists.{item_at, IsIn, one_step}
 use Rattle.cp_model.specs.Message.{Atom, Message, atom}
 use Rattle.cp_model.specs.Term.{AtomTerm, Term, atom_term, value_of, value_of_atom, Substitution, apply_to, apply_to_atom, variable_term}
+use Rattle.cp_model.specs.Bindings.{Binding, as_substitution}
 use Rattle.cp_model.specs.Strand.{Role, Protocol}
 use Rattle.cp_model.specs.declared.strand.Event.TheVariants.{Send as send, Receive as recv}
 use Rattle.cp_model.specs.Bundle.{node_at, event_at, KeepsNon, KeepsPenetratorNon, KeepsUnique, Bundle, Precedes, IsBundle}
@@ -32,7 +33,7 @@ module _ (k : Skeleton) (b : Bundle) (h : Standing) (stands : StandsIn k b h) wh
   on_blocks = record { nodes = λ place. h.nodes (lowest_of p place); values = h.values }
 
   -- A strand goes where the lowest of its block goes.
-  same_start : (s t : ℕ) (role : Role) (height : ℕ) (terms : Substitution) (role' : Role) (height' : ℕ) (terms' : Substitution) →
+  same_start : (s t : ℕ) (role : Role) (height : ℕ) (terms : List Binding) (role' : Role) (height' : ℕ) (terms' : List Binding) →
       item_at k.strands s ≡ Some (instance role height terms) → item_at k.strands t ≡ Some (instance role' height' terms') →
       (h.nodes s).strand ≡ (h.nodes t).strand → h.nodes s ≡ h.nodes t
   same_start s t role height terms role' height' terms' at au e i =
@@ -55,7 +56,7 @@ module _ (k : Skeleton) (b : Bundle) (h : Standing) (stands : StandsIn k b h) wh
   goes_as_block s = entry_goes s (item_at p s) refl
 
   -- Strands that go to one strand have one place.
-  pub one_place : (s t : ℕ) (role : Role) (height : ℕ) (terms : Substitution) (role' : Role) (height' : ℕ) (terms' : Substitution) →
+  pub one_place : (s t : ℕ) (role : Role) (height : ℕ) (terms : List Binding) (role' : Role) (height' : ℕ) (terms' : List Binding) →
       item_at k.strands s ≡ Some (instance role height terms) → item_at k.strands t ≡ Some (instance role' height' terms') →
       (h.nodes s).strand ≡ (h.nodes t).strand → place_in p s ≡ place_in p t
   one_place s t role height terms role' height' terms' at au e =
@@ -75,7 +76,7 @@ module _ (k : Skeleton) (b : Bundle) (h : Standing) (stands : StandsIn k b h) wh
     same_atom v = let e : atom (value_of_atom h.values (apply_to_atom f v)) ≡ atom (value_of_atom h.values v) = same_term (atom_term v) in cc
 
     -- The merged strand stands where the tallest of its block does.
-    instance_stands : (place : ℕ) (role : Role) (height : ℕ) (terms : Substitution) → item_at l.strands place ≡ Some (instance role height terms) → StandsOnRegular b on_blocks place role height terms
+    instance_stands : (place : ℕ) (role : Role) (height : ℕ) (terms : List Binding) → item_at l.strands place ≡ Some (instance role height terms) → StandsOnRegular b on_blocks place role height terms
     instance_stands place role height terms at =
         let one = c.tallest place role height terms at in
         let go = c.instances one.strand role height one.terms one.on_instance in
@@ -90,10 +91,10 @@ module _ (k : Skeleton) (b : Bundle) (h : Standing) (stands : StandsIn k b h) wh
           on_regular = ap (λ (n : Node). item_at b.strands n.strand) node ∙ st.on_regular;
           at_least = st.at_least;
           equal_values = λ x inx.
-              value_after h.values terms (variable_term x)
-              ∙ ap (value_of h.values) (ap (λ (d : Substitution). apply_to d (variable_term x)) (sym same) ∙ sym (go.equal_terms x inx) ∙ term_composed one.terms f (variable_term x))
-              ∙ same_term (apply_to one.terms (variable_term x))
-              ∙ sym (value_after h.values one.terms (variable_term x))
+              value_after h.values (as_substitution terms) (variable_term x)
+              ∙ ap (value_of h.values) (ap (λ (d : List Binding). apply_to (as_substitution d) (variable_term x)) (sym same) ∙ sym (go.equal_terms x inx) ∙ term_composed (as_substitution one.terms) f (variable_term x))
+              ∙ same_term (apply_to (as_substitution one.terms) (variable_term x))
+              ∙ sym (value_after h.values (as_substitution one.terms) (variable_term x))
               ∙ st.equal_values x inx;
         }
 

@@ -3,12 +3,13 @@ use Rattle.std.proofs.Common.{◌≡◌, ◌⊎◌, inl, inr, ℕ, ◌<◌, List
 use native.Mathlib.Decide.{ℕ_discrete}
 use Rattle.cp_lists.specs.Lists.{item_at}
 use Rattle.cp_model.specs.Term.{Term, Substitution, apply_to, composed}
-use Rattle.cp_model.specs.Strand.{Role}
+use Rattle.cp_model.specs.Strand.{Role, variables_of_prefix}
 use Rattle.cp_model.specs.Skeleton.{SkeletonStrand, instance, listener, Skeleton}
 use Rattle.cp_model.specs.Homomorphism.{GoesToInstance}
 use Rattle.cp_lists.proofs.Items.{item_below, item_there}
 use Rattle.cp_model.proofs.LawPrefixes.{variables_of_higher}
-use Rattle.cp_theory.specs.Normal.{strand_under}
+use Rattle.cp_model.proofs.DeclaredTerms.{by_bindings}
+use Rattle.cp_theory.specs.Normal.{strand_under, terms_under}
 use Rattle.cp_collapse.specs.Partitions.{IsPartitionByRole, block_count, place_in, Identifies, IdentifiesValues}
 use Rattle.cp_collapse.specs.Collapses.{onto_blocks, HasInstance}
 use Rattle.cp_collapse.specs.FirstPartitions.{IsExactFor}
@@ -18,8 +19,8 @@ use Rattle.cp_collapse.proofs.Exact.{exact_identifies}
 use Rattle.cp_collapse.proofs.Places.{entry_of_own, taken, place_of_entry}
 
 -- What an instance under a substitution was.
-instance_under : (f : Substitution) (ks : List SkeletonStrand) (t : ℕ) (st : SkeletonStrand) (role : Role) (height : ℕ) (terms : Substitution) → item_at ks t ≡ Some st → strand_under f st ≡ instance role height terms →
-    (own : Substitution) × (item_at ks t ≡ Some (instance role height own))
+instance_under : (f : Substitution) (ks : List SkeletonStrand) (t : ℕ) (st : SkeletonStrand) (role : Role) (height : ℕ) (terms : List Binding) → item_at ks t ≡ Some st → strand_under f st ≡ instance role height terms →
+    (own : List Binding) × (item_at ks t ≡ Some (instance role height own))
 instance_under f ks t (instance role' height' own) role height terms at e =
     let r : role' ≡ role = cc in
     let h : height' ≡ height = cc in
@@ -33,7 +34,7 @@ module _ (k l : Skeleton) (p : List ℕ) (f : Substitution) (part : IsPartitionB
   block_of : (s m : ℕ) → item_at p s ≡ Some m → IsMergedAt k p f m l.strands
   block_of s m e = let own = (part.lowest s m e).1 in merged.each m (item_below p m m own) own
 
-  pub merged_instances : Identifies k p f → (s : ℕ) (role : Role) (height : ℕ) (terms : Substitution) → item_at k.strands s ≡ Some (instance role height terms) → GoesToInstance l (onto_blocks p f) s role height terms
+  pub merged_instances : Identifies k p f → (s : ℕ) (role : Role) (height : ℕ) (terms : List Binding) → item_at k.strands s ≡ Some (instance role height terms) → GoesToInstance l (onto_blocks p f) s role height terms
   merged_instances identifies s role height terms at =
       let e = entry_of s (instance role height terms) at in
       let m = block_of s e.0 e.1 in
@@ -42,13 +43,16 @@ module _ (k l : Skeleton) (p : List ℕ) (f : Substitution) (part : IsPartitionB
       let is : m.strand ≡ instance role tall.own_height tall.own_terms = cc in
       record {
         to_height = tall.own_height;
-        to_terms = composed tall.own_terms f;
+        to_terms = terms_under f role tall.own_height tall.own_terms;
         on_instance = ap (item_at l.strands) (place_of_entry p s e.0 e.1) ∙ m.merged ∙ ap (λ (st : SkeletonStrand). Some (strand_under f st)) is;
         at_least = tall.at_least;
-        equal_terms = λ x i. identifies s m.tallest role height terms tall.own_height tall.own_terms at tall.on_instance (e.0, e.1, m.is_tallest.in_block) x i (variables_of_higher role height tall.own_height tall.at_least x i);
+        equal_terms = λ x i.
+            let j = variables_of_higher role height tall.own_height tall.at_least x i in
+            identifies s m.tallest role height terms tall.own_height tall.own_terms at tall.on_instance (e.0, e.1, m.is_tallest.in_block) x i j
+            ∙ sym (by_bindings (composed (as_substitution tall.own_terms) f) (variables_of_prefix role tall.own_height) x j);
       }
 
-  pub merged_tallest : (place : ℕ) (role : Role) (height : ℕ) (terms : Substitution) → item_at l.strands place ≡ Some (instance role height terms) → HasInstance k p place role height
+  pub merged_tallest : (place : ℕ) (role : Role) (height : ℕ) (terms : List Binding) → item_at l.strands place ≡ Some (instance role height terms) → HasInstance k p place role height
   merged_tallest place role height terms at =
       let below = item_below l.strands place (instance role height terms) at in
       let c = merged.count in
@@ -65,7 +69,7 @@ module _ (k l : Skeleton) (p : List ℕ) (f : Substitution) (part : IsPartitionB
       own_within s less (inr some) = some
 
   -- A listener is alone in its block.
-  not_an_instance : (s m : ℕ) (t : Term) (role : Role) (height : ℕ) (terms : Substitution) → item_at k.strands s ≡ Some (listener t) → item_at k.strands m ≡ Some (instance role height terms) → s ≡ m → ⊥
+  not_an_instance : (s m : ℕ) (t : Term) (role : Role) (height : ℕ) (terms : List Binding) → item_at k.strands s ≡ Some (listener t) → item_at k.strands m ≡ Some (instance role height terms) → s ≡ m → ⊥
   not_an_instance s m t role height terms at there e = let q : Some (listener t) ≡ Some (instance role height terms) = sym at ∙ ap (item_at k.strands) e ∙ there in cc
 
   listener_own : (s m : ℕ) (t : Term) → item_at k.strands s ≡ Some (listener t) → item_at p s ≡ Some m → Dec (s ≡ m) → s ≡ m
@@ -90,8 +94,8 @@ module _ (k l : Skeleton) (p : List ℕ) (f : Substitution) (part : IsPartitionB
 -- The strands of l are those of k merged by the partition, under the substitution.
 pub record HasMergedStrands (k : Skeleton) (p : List ℕ) (f : Substitution) (l : Skeleton) : Type 0 where
   pub count : length l.strands ≡ block_count p
-  pub instances : (s : ℕ) (role : Role) (height : ℕ) (terms : Substitution) → item_at k.strands s ≡ Some (instance role height terms) → GoesToInstance l (onto_blocks p f) s role height terms
-  pub tallest : (place : ℕ) (role : Role) (height : ℕ) (terms : Substitution) → item_at l.strands place ≡ Some (instance role height terms) → HasInstance k p place role height
+  pub instances : (s : ℕ) (role : Role) (height : ℕ) (terms : List Binding) → item_at k.strands s ≡ Some (instance role height terms) → GoesToInstance l (onto_blocks p f) s role height terms
+  pub tallest : (place : ℕ) (role : Role) (height : ℕ) (terms : List Binding) → item_at l.strands place ≡ Some (instance role height terms) → HasInstance k p place role height
   pub listeners : (s : ℕ) (t : Term) → item_at k.strands s ≡ Some (listener t) → item_at l.strands (place_in p s) ≡ Some (listener (apply_to f t))
 
 pub has_merged_strands : (k l : Skeleton) (p : List ℕ) (r : List Binding) → IsPartitionByRole k p → IsExactFor (IdentifiesValues k p) r → AreMergedTo k p (as_substitution r) (length p) l.strands →

@@ -2,7 +2,7 @@
 -- all others.
 use Rattle.std.proofs.Common.{◌≡◌, ◌⊎◌, inl, inr, ℕ, suc, List, Option, Some, None, sym, ap, ◌∙◌, subst, arith}
 use Rattle.cp_lists.specs.Lists.{item_at, IsIn}
-use Rattle.cp_model.specs.Term.{AtomTerm, atom_of_variable, Term, atom_term, variables_of_atom, variables_of, Assignment, value_of_atom, value_of, after, Substitution, apply_to_atom, apply_to, variable_term}
+use Rattle.cp_model.specs.Term.{AtomTerm, Term, atom_term, variables_of_atom, variables_of, Assignment, value_of_atom, value_of, after, Substitution, apply_to_atom, apply_to, variable_term}
 use Rattle.cp_model.specs.declared.sort.Sort.{Sort}
 use Rattle.cp_model.specs.declared.sort.Sort.TheVariants.{Text as text_sort, Datum as datum_sort, Name as name_sort, Skey as skey_sort, Akey as akey_sort}
 use Rattle.cp_model.specs.declared.variable.Variable.{Variable}
@@ -11,12 +11,11 @@ use Rattle.cp_model.specs.Problem.{declared_sort, IsDeclared}
 use Rattle.cp_model.proofs.LawTerms.{value_after}
 use Rattle.cp_model.proofs.LawAgreement.{agree_term}
 use Rattle.cp_model.proofs.VariableTerms.{unchanged_atom, unchanged_term}
-use Rattle.cp_unify.specs.Bindings.{Binding, variable_of, put_term}
+use Rattle.cp_unify.specs.Bindings.{Binding, put_term}
 use Rattle.cp_unify.proofs.VariableTests.{is_variable_tells}
 use Rattle.cp_unify.proofs.Free.{free, same_terms}
-use Rattle.cp_unify.proofs.VariablesUnder.{Leaves, leaves_variables_of, bound, other, given_atom, given_term}
+use Rattle.cp_unify.proofs.VariablesUnder.{Leaves, leaves_variables_of, variable_has_sort, bound, other, given_atom, given_term}
 use Rattle.cp_collapse.specs.Directed.{IsMostGeneralFor}
-use Rattle.cp_collapse.proofs.Values.{sort_of_variable}
 use Rattle.cp_collapse.proofs.Bound.{gone, left_or_taken}
 
 -- ---- whether a variable is declared
@@ -55,32 +54,26 @@ next_differs akey_sort n e = let m : suc n ≡ n = cc in omega (arith, m)
 
 -- The binding of a variable to the next of its sort.
 abbrev to_next : Variable → Binding
-to_next y = record { number = y.number; term = atom_of_variable (next y) }
-
-binds : (y : Variable) → variable_of (to_next y) ≡ y
-binds y = ap (λ (s : Sort). let x : Variable = record { sort = s; number = y.number } in x) (sort_of_variable y.sort (suc y.number))
+to_next y = record { variable = y; term = variable_term (next y) }
 
 -- The substitution but at one variable, which it gives the next of its sort.
 abbrev but_at : Variable → Substitution → Substitution
-but_at y s = put_term y.number (atom_of_variable (next y)) s
+but_at y s = put_term y (variable_term (next y)) s
 
 never_left : (y : Variable) (s : Substitution) → Leaves (but_at y s) y → ⊥
 never_left y s e =
     next_differs y.sort y.number
-    (sym (ap atom_term (bound (to_next y) s)) ∙ ap (λ (x : Variable). apply_to (but_at y s) (variable_term x)) (binds y) ∙ unchanged_term (but_at y s) y e)
+    (sym (bound (to_next y) s (variable_has_sort y.sort (suc y.number))) ∙ unchanged_term (but_at y s) y e)
 
 -- The substitution but at one variable, which it leaves.
 abbrev own : Variable → Binding
-own y = record { number = y.number; term = atom_of_variable y }
+own y = record { variable = y; term = variable_term y }
 
 abbrev left_at : Variable → Substitution → Substitution
-left_at y s = put_term y.number (atom_of_variable y) s
-
-is_own : (y : Variable) → variable_of (own y) ≡ y
-is_own y = ap (λ (s : Sort). let x : Variable = record { sort = s; number = y.number } in x) (sort_of_variable y.sort y.number)
+left_at y s = put_term y (variable_term y) s
 
 leaves_own : (y : Variable) (s : Substitution) → apply_to (left_at y s) (variable_term y) ≡ variable_term y
-leaves_own y s = sym (ap (λ (x : Variable). apply_to (left_at y s) (variable_term x)) (is_own y)) ∙ ap atom_term (bound (own y) s)
+leaves_own y s = bound (own y) s (variable_has_sort y.sort y.number)
 
 -- ---- most general substitutions
 
@@ -108,7 +101,7 @@ module _ (P : Variable → Type 0) (tells : (x : Variable) → P x ⊎ (P x → 
       (sym (value_after free t (apply_to s u)) ∙ sym (value_after (after free t) s u) ∙ general (after free t) is u ∙ value_after free t u)
 
   alike_but_at : (y : Variable) → (P y → ⊥) → AgreeWithin P (but_at y s) s
-  alike_but_at y never x is = ap atom_term (other (to_next y) s x (λ e. never (subst P (e ∙ binds y) is)))
+  alike_but_at y never x is = other (to_next y) s x (λ e. never (subst P e is))
 
   none_other : (x y : Variable) → P x → IsIn y (variables_of (apply_to s (variable_term x))) → (P y → ⊥) → ⊥
   none_other x y is i never =
@@ -122,7 +115,7 @@ module _ (P : Variable → Type 0) (tells : (x : Variable) → P x ⊎ (P x → 
 
   -- It leaves all other variables.
   alike_left_at : (y : Variable) → (P y → ⊥) → AgreeWithin P (left_at y s) s
-  alike_left_at y never x is = ap atom_term (other (own y) s x (λ e. never (subst P (e ∙ is_own y) is)))
+  alike_left_at y never x is = other (own y) s x (λ e. never (subst P e is))
 
   module _ (idempotent : (t : Term) → apply_to s (apply_to s t) ≡ apply_to s t) where
     left_if_taken : (y : Variable) → (P y → ⊥) → (Leaves s y → ⊥) → Leaves s y
@@ -130,7 +123,7 @@ module _ (P : Variable → Type 0) (tells : (x : Variable) → P x ⊎ (P x → 
         let t = left_at y s in
         let u : Term = variable_term y in
         let v : Term = apply_to s u in
-        let alike : apply_to t v ≡ apply_to s v = agree_term t s v (λ x i. ap atom_term (other (own y) s x (λ e. gone s idempotent y taken u (subst (λ (z : Variable). IsIn z (variables_of v)) (e ∙ is_own y) i)))) in
+        let alike : apply_to t v ≡ apply_to s v = agree_term t s v (λ x i. other (own y) s x (λ e. gone s idempotent y taken u (subst (λ (z : Variable). IsIn z (variables_of v)) e i))) in
         unchanged_atom s y (sym (idempotent u) ∙ sym alike ∙ comes_before t (depends t (alike_left_at y never)) u ∙ leaves_own y s)
 
     pub leaves_others : (y : Variable) → (P y → ⊥) → Leaves s y

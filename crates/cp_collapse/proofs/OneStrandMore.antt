@@ -2,7 +2,8 @@
 -- strand of the block.
 use Rattle.std.proofs.Common.{◌≡◌, ◌⊎◌, inl, inr, ℕ, suc, ◌<◌, ◌≤◌, List, [], ◌∷◌, ◌++◌, Some, length, sym, ap, ◌∙◌, subst, subst₂, arith, eq-or-lt_of_le}
 use Rattle.cp_lists.specs.Lists.{item_at, IsIn}
-use Rattle.cp_model.specs.Term.{Assignment, after, Substitution, variable_term, value_of}
+use Rattle.cp_model.specs.Term.{Assignment, after, variable_term, value_of}
+use Rattle.cp_model.specs.Bindings.{Binding, as_substitution}
 use Rattle.cp_model.specs.Strand.{Role, variables_of_prefix}
 use Rattle.cp_model.specs.Skeleton.{instance, Skeleton}
 use Rattle.cp_lists.proofs.Items.{item_below, item_in_front, item_last, end_cases}
@@ -16,13 +17,13 @@ pub equal_itself : (k : Skeleton) (s : ℕ) (g : Assignment) → EqualAt k s s g
 equal_itself k s g role height terms height' terms' at au x i j =
     let e : Some (instance role height terms) ≡ Some (instance role height' terms') = sym at ∙ au in
     let f : terms ≡ terms' = cc in
-    ap (λ (d : Substitution). value_of (after g d) (variable_term x)) f
+    ap (λ (d : List Binding). value_of (after g (as_substitution d)) (variable_term x)) f
 
 pub equal_at_back : (k : Skeleton) (s t : ℕ) (g : Assignment) → EqualAt k s t g → EqualAt k t s g
 equal_at_back k s t g a role height terms height' terms' at au x i j = sym (a role height' terms' height terms au at x j i)
 
 -- Of two instances.
-pub equal_at_instances : (k : Skeleton) (s t : ℕ) (g : Assignment) (role : Role) (height : ℕ) (terms : Substitution) (height' : ℕ) (terms' : Substitution) →
+pub equal_at_instances : (k : Skeleton) (s t : ℕ) (g : Assignment) (role : Role) (height : ℕ) (terms : List Binding) (height' : ℕ) (terms' : List Binding) →
     item_at k.strands s ≡ Some (instance role height terms) → item_at k.strands t ≡ Some (instance role height' terms') → HaveEqualValues role height terms height' terms' g → EqualAt k s t g
 equal_at_instances k s t g role height terms height' terms' at au a role2 height2 terms2 height3 terms3 at2 au2 =
     let e : Some (instance role height terms) ≡ Some (instance role2 height2 terms2) = sym at ∙ at2 in
@@ -33,9 +34,9 @@ equal_at_instances k s t g role height terms height' terms' at au a role2 height
     let h' : height' ≡ height3 = cc in
     let d' : terms' ≡ terms3 = cc in
     λ x i j.
-    ap (λ (w : Substitution). value_of (after g w) (variable_term x)) (sym d)
+    ap (λ (w : List Binding). value_of (after g (as_substitution w)) (variable_term x)) (sym d)
     ∙ a x (subst₂ (λ (y : Role) (m : ℕ). IsIn x (variables_of_prefix y m)) (sym r) (sym h) i) (subst₂ (λ (y : Role) (m : ℕ). IsIn x (variables_of_prefix y m)) (sym r) (sym h') j)
-    ∙ ap (λ (w : Substitution). value_of (after g w) (variable_term x)) d'
+    ∙ ap (λ (w : List Binding). value_of (after g (as_substitution w)) (variable_term x)) d'
 
 module _ (k : Skeleton) (n : ℕ) (p : List ℕ) (part : IsPartitionOfFirst k n p) where
   -- Alone.

@@ -5,7 +5,7 @@ use Rattle.cp_model.specs.declared.sort.Sort.{Sort}
 use Rattle.cp_model.specs.declared.sort.Sort.TheVariants.{Text as text_sort, Datum as datum_sort, Name as name_sort, Skey as skey_sort, Akey as akey_sort}
 use Rattle.cp_model.proofs.LawTerms.{atom_after, value_after, flag_last}
 use Rattle.cp_model.proofs.LawAgreement.{agree_term}
-use Rattle.cp_unify.specs.Bindings.{Binding, put, put_term, as_substitution}
+use Rattle.cp_unify.specs.Bindings.{Binding, put, put_of_sort, as_substitution}
 use Rattle.cp_unify.specs.Unifiers.{IsBeforeSymmetric, IsBeforePair, IsBefore, AreLaterToEarlier}
 use Rattle.cp_unify.proofs.Free.{free, same_terms}
 use Rattle.cp_collapse.specs.Directed.{BindsLaterToEarlier, IsMostGeneralFor}
@@ -35,16 +35,19 @@ put_keeps {V} P x v f here all n = by (nat_eq n x) refl
     by true q = subst (P n) (sym (ap (λ (b : Bool). if b then v else f n) q)) (subst (λ (m : ℕ). P m v) (sym (eqb-true n x q)) here)
     by false q = subst (P n) (sym (ap (λ (b : Bool). if b then v else f n) q)) (all n)
 
-lowers_more : (x : ℕ) (v : AtomTerm) (s : Substitution) → IsBefore v x → Lowers s → Lowers (put_term x v s)
-lowers_more x (text_variable m) s less l = record { texts = put_keeps IsOrBefore x m s.texts (inr less) l.texts; datums = l.datums; names = l.names; skeys = l.skeys; akeys = l.akeys }
-lowers_more x (datum_variable m) s less l = record { texts = l.texts; datums = put_keeps IsOrBefore x m s.datums (inr less) l.datums; names = l.names; skeys = l.skeys; akeys = l.akeys }
-lowers_more x (name_variable m) s less l = record { texts = l.texts; datums = l.datums; names = put_keeps IsOrBefore x m s.names (inr less) l.names; skeys = l.skeys; akeys = l.akeys }
-lowers_more x (key_term (symmetric_term k)) s less l = record { texts = l.texts; datums = l.datums; names = l.names; skeys = put_keeps IsOrBeforeSymmetric x k s.skeys (inr less) l.skeys; akeys = l.akeys }
-lowers_more x (key_term (asymmetric_term flag k)) s less l = record { texts = l.texts; datums = l.datums; names = l.names; skeys = l.skeys; akeys = put_keeps IsOrBeforePair x (flag, k) s.akeys (inr less) l.akeys }
+lowers_more : (k : Sort) (x : ℕ) (v : Term) (s : Substitution) → IsBefore v x → Lowers s → Lowers (put_of_sort k x v s)
+lowers_more text_sort x (atom_term (text_variable m)) s less l = record { texts = put_keeps IsOrBefore x m s.texts (inr less) l.texts; datums = l.datums; names = l.names; skeys = l.skeys; akeys = l.akeys }
+lowers_more datum_sort x (atom_term (datum_variable m)) s less l = record { texts = l.texts; datums = put_keeps IsOrBefore x m s.datums (inr less) l.datums; names = l.names; skeys = l.skeys; akeys = l.akeys }
+lowers_more name_sort x (atom_term (name_variable m)) s less l = record { texts = l.texts; datums = l.datums; names = put_keeps IsOrBefore x m s.names (inr less) l.names; skeys = l.skeys; akeys = l.akeys }
+lowers_more skey_sort x (atom_term (key_term (symmetric_term k))) s less l = record { texts = l.texts; datums = l.datums; names = l.names; skeys = put_keeps IsOrBeforeSymmetric x k s.skeys (inr less) l.skeys; akeys = l.akeys }
+lowers_more akey_sort x (atom_term (key_term (asymmetric_term flag k))) s less l = record { texts = l.texts; datums = l.datums; names = l.names; skeys = l.skeys; akeys = put_keeps IsOrBeforePair x (flag, k) s.akeys (inr less) l.akeys }
+lowers_more skey_sort x (atom_term (key_term (asymmetric_term flag k))) s less l = l
+lowers_more akey_sort x (atom_term (key_term (symmetric_term k))) s less l = l
+lowers_more _ x _ s less l = l
 
 lowers_by : (bs : List Binding) → AreLaterToEarlier bs → Lowers (as_substitution bs)
 lowers_by [] h = record { texts = λ n. inl refl; datums = λ n. inl refl; names = λ n. inl refl; skeys = λ n. inl refl; akeys = λ n. inl refl }
-lowers_by (b ∷ bs) h = lowers_more b.number b.term (as_substitution bs) h.0 (lowers_by bs h.1)
+lowers_by (b ∷ bs) h = lowers_more b.variable.sort b.variable.number b.term (as_substitution bs) h.0 (lowers_by bs h.1)
 
 lowers : (s : Substitution) → BindsLaterToEarlier s → Lowers s
 lowers s d = subst Lowers (sym d.is_substitution) (lowers_by d.bindings d.later_to_earlier)

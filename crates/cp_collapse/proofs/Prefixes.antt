@@ -2,6 +2,7 @@
 use Rattle.std.proofs.Common.{◌≡◌, ◌⊎◌, inl, inr, ℕ, ◌<◌, ◌≤◌, ◌+◌, Bool, true, false, List, Some, min, length, get_or, refl, sym, ap, ◌∙◌, subst, arith, eq-or-lt_of_le}
 use Rattle.cp_lists.specs.Lists.{item_at, IsIn}
 use Rattle.cp_model.specs.Term.{Term, Assignment, value_of, after, Substitution, variable_term}
+use Rattle.cp_model.specs.Bindings.{as_substitution, bindings_of}
 use Rattle.cp_model.specs.declared.sort.Sort.{Sort}
 use Rattle.cp_model.specs.declared.variable.Variable.{Variable}
 use Rattle.cp_model.specs.Strand.{Role, prefix_of, variables_of_trace, variables_of_prefix}
@@ -9,6 +10,7 @@ use Rattle.cp_model.specs.declared.variable.Declaration.{Declaration}
 use Rattle.cp_model.specs.declared.strand.Event.{Event}
 use Rattle.cp_model.specs.Homomorphism.{substitution_by}
 use Rattle.cp_model.specs.Problem.{declared_sort, IsDeclared}
+use Rattle.cp_model.proofs.DeclaredTerms.{bindings_are}
 use Rattle.cp_model.proofs.LawPrefixes.{variables_of_higher}
 use Rattle.cp_lists.proofs.Items.{item_of_read}
 use Rattle.cp_unify.specs.Bindings.{Binding, Meets}
@@ -53,10 +55,10 @@ closed_lower role first second closed x i = closed x (variables_of_higher role (
 
 -- ---- the loop
 
-module _ (e : Assignment → Type 0) (role : Role) (height : ℕ) (s t : Substitution) where
+module _ (e : Assignment → Type 0) (role : Role) (height : ℕ) (s t : List Binding) where
   -- An assignment gives the variable one value after both substitutions.
   abbrev Agree : Assignment → Variable → Type 0
-  Agree g x = value_of (after g s) (variable_term x) ≡ value_of (after g t) (variable_term x)
+  Agree g x = value_of (after g (as_substitution s)) (variable_term x) ≡ value_of (after g (as_substitution t)) (variable_term x)
 
   -- The fact is true, and two instances agree on the variables of the prefix with smaller numbers than n.
   abbrev pub AgreeBelow : ℕ → Assignment → Type 0
@@ -92,12 +94,12 @@ module _ (e : Assignment → Type 0) (role : Role) (height : ℕ) (s t : Substit
           missing x i e = let q : true ≡ false = sym (in_has_variable (variables_of_prefix role height) y (subst (λ (z : Variable). IsIn z (variables_of_prefix role height)) (sym (only x i e)) i)) ∙ none in cc
 
       -- It does, and its terms are unified, or have no unifier.
-      module _ (there : has_variable (variables_of_prefix role height) y ≡ true) (a b : Term) (first : a ≡ image_of_variable s y) (second : b ≡ image_of_variable t y) where
+      module _ (there : has_variable (variables_of_prefix role height) y ≡ true) (a b : Term) (first : a ≡ image_of_variable (as_substitution s) y) (second : b ≡ image_of_variable (as_substitution t) y) where
         equal : (g : Assignment) → AgreeBelow (n + 1) g → value_of g a ≡ value_of g b
-        equal g f = ap (value_of g) first ∙ terms_equal g s t y (f.1 y (variable_in (variables_of_prefix role height) y there) (omega (arith, number))) ∙ ap (value_of g) (sym second)
+        equal g f = ap (value_of g) first ∙ terms_equal g (as_substitution s) (as_substitution t) y (f.1 y (variable_in (variables_of_prefix role height) y there) (omega (arith, number))) ∙ ap (value_of g) (sym second)
 
         agrees : (g : Assignment) → value_of g a ≡ value_of g b → (x : Variable) → IsIn x (variables_of_prefix role height) → x.number ≡ n → Agree g x
-        agrees g same x i e = subst (Agree g) (only x i e) (equal_terms g s t y (ap (value_of g) (sym first) ∙ same ∙ ap (value_of g) second))
+        agrees g same x i e = subst (Agree g) (only x i e) (equal_terms g (as_substitution s) (as_substitution t) y (ap (value_of g) (sym first) ∙ same ∙ ap (value_of g) second))
 
         pub below_takes : (q : List Binding) → IsMostGeneralUnifier a b r q → IsExactFor (AgreeBelow (n + 1)) q
         below_takes q m =
@@ -118,7 +120,7 @@ module _ (e : Assignment → Type 0) (role : Role) (height : ℕ) (s t : Substit
         so_far
 
 -- At first the given bindings.
-pub given_first : (role : Role) (height : ℕ) (s t : Substitution) (given r : List Binding) → AreSolved given → r ≡ given → IsExactFor (AgreeBelow (λ g. Meets g given) role height s t 0) r
+pub given_first : (role : Role) (height : ℕ) (s t : List Binding) (given r : List Binding) → AreSolved given → r ≡ given → IsExactFor (AgreeBelow (λ g. Meets g given) role height s t 0) r
 given_first role height s t given r solved same =
     below_first (λ g. Meets g given) role height s t r (subst (IsExactFor (λ g. Meets g given)) (sym same) (record { met = solved.1; sound = λ g m. m; general = λ g m. m; later_to_earlier = solved.0 }))
 
@@ -138,5 +140,5 @@ at_declaration role role' height n id ds d es b less is are prefix same numbered
     (subst (λ vs. IsDeclared vs (variable_at d n)) are (declared_there ds n d (variable_at d n) less is refl), test_there role role' height (variable_at d id) (variable_at d n) es b prefix same (ap (variable_at d) numbered) test)
 
 -- The term of a variable in a list.
-pub term_there : (ts us : List Term) (x y : Variable) (t : Term) → us ≡ ts → x ≡ y → t ≡ image_of_variable (substitution_by us) x → t ≡ image_of_variable (substitution_by ts) y
-term_there ts us x y t list is e = e ∙ ap (λ vs. image_of_variable (substitution_by vs) x) list ∙ ap (image_of_variable (substitution_by ts)) is
+pub term_there : (ts us : List Term) (x y : Variable) (t : Term) → us ≡ ts → x ≡ y → t ≡ image_of_variable (substitution_by us) x → t ≡ image_of_variable (as_substitution (bindings_of ts)) y
+term_there ts us x y t list is e = e ∙ ap (λ vs. image_of_variable (substitution_by vs) x) list ∙ ap (image_of_variable (substitution_by ts)) is ∙ sym (ap (λ (r : Substitution). image_of_variable r y) (bindings_are ts))

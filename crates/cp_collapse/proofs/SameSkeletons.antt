@@ -1,7 +1,8 @@
 -- A skeleton that says the same as one over a protocol is one.
-use Rattle.std.proofs.Common.{◌≡◌, ℕ, sym, ◌∙◌, subst}
+use Rattle.std.proofs.Common.{◌≡◌, ℕ, sym, ◌∙◌, subst, List}
 use Rattle.cp_lists.specs.Lists.{IsIn}
-use Rattle.cp_model.specs.Term.{AtomTerm, Substitution, apply_to_atom, AgreeOnTerms}
+use Rattle.cp_model.specs.Term.{AtomTerm, apply_to_atom, AgreeOnTerms}
+use Rattle.cp_model.specs.Bindings.{Binding, as_substitution}
 use Rattle.cp_model.specs.Strand.{Role, Protocol, variables_of_prefix, Applies}
 use Rattle.cp_model.specs.Bundle.{node_at}
 use Rattle.cp_model.specs.declared.node.Node.{Node}
@@ -37,14 +38,14 @@ module _ (k l : Skeleton) (s : SaysTheSame k l) where
   pub same_origins : ((u : UniqueAt) → IsIn u k.assumptions.uniquely_originating → IsOrigin k u) → (u : UniqueAt) → IsIn u l.assumptions.uniquely_originating → IsOrigin l u
   same_origins all u i = same_origin u (all u (subst (λ (a : Assumptions). IsIn u a.uniquely_originating) (sym s.assumptions) i))
 
-  same_given : (a : ℕ) (role : Role) (height : ℕ) (own terms : Substitution) → AgreeOnTerms (variables_of_prefix role height) own terms → GivesAssumptions k a role height own → GivesAssumptions l a role height terms
+  same_given : (a : ℕ) (role : Role) (height : ℕ) (own terms : List Binding) → AgreeOnTerms (variables_of_prefix role height) (as_substitution own) (as_substitution terms) → GivesAssumptions k a role height own → GivesAssumptions l a role height terms
   same_given a role height own terms agree gives =
-      let same : (v : AtomTerm) → Applies role height v → apply_to_atom own v ≡ apply_to_atom terms v = λ v applies. agree_atom own terms v (λ x i. agree x (applies x i)) in
+      let same : (v : AtomTerm) → Applies role height v → apply_to_atom (as_substitution own) v ≡ apply_to_atom (as_substitution terms) v = λ v applies. agree_atom (as_substitution own) (as_substitution terms) v (λ x i. agree x (applies x i)) in
       record {
-        non = λ v inv applies. subst (λ (c : Assumptions). IsIn (apply_to_atom terms v) c.non_originating) s.assumptions (subst (λ (w : AtomTerm). IsIn w k.assumptions.non_originating) (same v applies) (gives.non v inv applies));
-        penetrator_non = λ v inv applies. subst (λ (c : Assumptions). IsIn (apply_to_atom terms v) c.penetrator_non_originating) s.assumptions (subst (λ (w : AtomTerm). IsIn w k.assumptions.penetrator_non_originating) (same v applies) (gives.penetrator_non v inv applies));
+        non = λ v inv applies. subst (λ (c : Assumptions). IsIn (apply_to_atom (as_substitution terms) v) c.non_originating) s.assumptions (subst (λ (w : AtomTerm). IsIn w k.assumptions.non_originating) (same v applies) (gives.non v inv applies));
+        penetrator_non = λ v inv applies. subst (λ (c : Assumptions). IsIn (apply_to_atom (as_substitution terms) v) c.penetrator_non_originating) s.assumptions (subst (λ (w : AtomTerm). IsIn w k.assumptions.penetrator_non_originating) (same v applies) (gives.penetrator_non v inv applies));
         unique = λ v i inv applies.
-            subst (λ (c : Assumptions). IsIn (record { value = apply_to_atom terms v; origin = node_at a i }) c.uniquely_originating) s.assumptions
+            subst (λ (c : Assumptions). IsIn (record { value = apply_to_atom (as_substitution terms) v; origin = node_at a i }) c.uniquely_originating) s.assumptions
             (subst (λ (w : AtomTerm). IsIn (record { value = w; origin = node_at a i }) k.assumptions.uniquely_originating) (same v (applies_at role height v i applies)) (gives.unique v i inv applies));
       }
 

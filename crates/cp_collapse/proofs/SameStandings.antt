@@ -1,8 +1,9 @@
 -- Skeletons that say the same stand alike, so that one of them loses no standing of the other.
-use Rattle.std.proofs.Common.{◌≡◌, ℕ, [], ◌∷◌, Some, map, sym, ap, ◌∙◌, subst, subst₂}
+use Rattle.std.proofs.Common.{◌≡◌, ℕ, [], ◌∷◌, Some, map, sym, ap, ◌∙◌, subst, subst₂, List}
 use Rattle.cp_lists.specs.Lists.{item_at, IsIn, here}
 use Rattle.cp_model.specs.Message.{atom}
-use Rattle.cp_model.specs.Term.{value_of, value_of_atom, Substitution, AgreeOnTerms, variable_term}
+use Rattle.cp_model.specs.Term.{value_of, value_of_atom, AgreeOnTerms, variable_term}
+use Rattle.cp_model.specs.Bindings.{Binding, as_substitution}
 use Rattle.cp_model.specs.Strand.{Role, Protocol, variables_of_prefix}
 use Rattle.cp_model.specs.Bundle.{KeepsUnique, Bundle, Precedes}
 use Rattle.cp_model.specs.declared.node.Node.{Node}
@@ -17,17 +18,17 @@ use Rattle.cp_collapse.proofs.SameFacts.{says_back, same_before}
 use Rattle.cp_model.proofs.LawTerms.{value_after}
 
 -- An instance stands where one with agreeing terms does.
-agreeing_stands : (b : Bundle) (h : Standing) (a : ℕ) (role : Role) (height : ℕ) (s t : Substitution) → AgreeOnTerms (variables_of_prefix role height) s t → StandsOnRegular b h a role height s → StandsOnRegular b h a role height t
+agreeing_stands : (b : Bundle) (h : Standing) (a : ℕ) (role : Role) (height : ℕ) (s t : List Binding) → AgreeOnTerms (variables_of_prefix role height) (as_substitution s) (as_substitution t) → StandsOnRegular b h a role height s → StandsOnRegular b h a role height t
 agreeing_stands b h a role height s t agree st = stands_on_equal b h a role height s t st (λ x i.
-    value_after h.values t (variable_term x)
+    value_after h.values (as_substitution t) (variable_term x)
     ∙ ap (value_of h.values) (sym (agree x i))
-    ∙ sym (value_after h.values s (variable_term x)))
+    ∙ sym (value_after h.values (as_substitution s) (variable_term x)))
 
 module _ (k l : Skeleton) (s : SaysTheSame k l) where
   pub same_image : (h : Standing) (n : Node) → image_of k h n ≡ image_of l h n
   same_image h n = same_image_at s.strands n.strand (h.nodes n.strand) n.index
 
-  instance_stands : (b : Bundle) (h : Standing) → StandsIn k b h → (a : ℕ) (role : Role) (height : ℕ) (terms : Substitution) → item_at l.strands a ≡ Some (instance role height terms) → StandsOnRegular b h a role height terms
+  instance_stands : (b : Bundle) (h : Standing) → StandsIn k b h → (a : ℕ) (role : Role) (height : ℕ) (terms : List Binding) → item_at l.strands a ≡ Some (instance role height terms) → StandsOnRegular b h a role height terms
   instance_stands b h stands a role height terms at =
       let i = instance_at s.strands a role height terms at in
       agreeing_stands b h a role height i.0 terms i.2 (stands.instances a role height i.0 i.1)

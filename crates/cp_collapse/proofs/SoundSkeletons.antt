@@ -4,6 +4,7 @@ use Rattle.std.proofs.lemmas.List.{length-map}
 use Rattle.cp_lists.specs.Lists.{IsIn}
 use Rattle.cp_model.specs.declared.node.Node.{Node}
 use Rattle.cp_model.specs.Term.{Substitution}
+use Rattle.cp_model.specs.Bindings.{Binding}
 use Rattle.cp_model.specs.Strand.{Role, Protocol}
 use Rattle.cp_model.specs.Skeleton.{UniqueAt, FromProblem, Skeleton, Before, IsOrderPair, IsOrigin, GivesAssumptions, IsSkeleton}
 use Rattle.cp_model.specs.declared.node.OrderPair.{OrderPair}
@@ -73,7 +74,7 @@ module _ (m : Skeleton) where
   unlisted_origin : (u : UniqueAt) → IsOrigin (with_listed m) u → IsOrigin m u
   unlisted_origin u o = record { role = o.role; height = o.height; terms = o.terms; on_instance = o.on_instance; sent = o.sent; transmission = o.transmission; carried = o.carried }
 
-  unlisted_gives : (s : ℕ) (role : Role) (height : ℕ) (terms : Substitution) → GivesAssumptions (with_listed m) s role height terms → GivesAssumptions m s role height terms
+  unlisted_gives : (s : ℕ) (role : Role) (height : ℕ) (terms : List Binding) → GivesAssumptions (with_listed m) s role height terms → GivesAssumptions m s role height terms
   unlisted_gives s role height terms g = record {
     non = λ v i applies. ((listed-non m).same _).0 (g.non v i applies);
     penetrator_non = λ v i applies. ((listed-penetrator-non m).same _).0 (g.penetrator_non v i applies);

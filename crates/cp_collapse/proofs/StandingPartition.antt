@@ -2,7 +2,8 @@
 use Rattle.std.proofs.Common.{◌≡◌, ◌≢◌, inl, inr, ℕ, ◌<◌, ◌≤◌, Bool, true, ◌&&◌, nat_eq, List, Option, Some, None, map, length, refl, sym, ap, ◌∙◌, subst, arith, eq-eqb, eqb-true}
 use Rattle.std.proofs.lemmas.List.{length-map}
 use Rattle.cp_lists.specs.Lists.{item_at}
-use Rattle.cp_model.specs.Term.{Assignment, Substitution, variable_term, value_of}
+use Rattle.cp_model.specs.Term.{Assignment, variable_term, value_of}
+use Rattle.cp_model.specs.Bindings.{Binding}
 use Rattle.cp_model.specs.Strand.{Role, Strand, regular}
 use Rattle.cp_model.specs.Bundle.{Bundle}
 use Rattle.cp_model.specs.Skeleton.{SkeletonStrand, instance, listener, Skeleton}
@@ -12,7 +13,7 @@ use Rattle.cp_lists.proofs.Items.{item_of_map, map_of_item, item_below}
 use Rattle.cp_collapse.specs.Partitions.{is_some_instance, AreOfOneRole, IsPartitionByRole, finest, AreTogether, IdentifiesValues}
 use Rattle.cp_collapse.proofs.Lowest.{both, low, low_below, low_with, low_same, low_of_low, numbers_at, at_numbers}
 
-pub instance_of : (o : Option SkeletonStrand) → is_some_instance o ≡ true → (role : Role) × (height : ℕ) × (terms : Substitution) × (o ≡ Some (instance role height terms))
+pub instance_of : (o : Option SkeletonStrand) → is_some_instance o ≡ true → (role : Role) × (height : ℕ) × (terms : List Binding) × (o ≡ Some (instance role height terms))
 instance_of None e = absurd (cc)
 instance_of (Some (listener t)) e = absurd (cc)
 instance_of (Some (instance role height terms)) e = (role, height, terms, refl)
@@ -60,7 +61,7 @@ module _ (k : Skeleton) (h : Standing) where
   partition_length = length-map (finest k) (low together) ∙ numbers_length 0 k.strands
 
   -- Role strands that go to one strand have one entry, and strands with one entry go to one strand.
-  pub one_entry : (s t : ℕ) (role : Role) (height : ℕ) (terms : Substitution) (role' : Role) (height' : ℕ) (terms' : Substitution) →
+  pub one_entry : (s t : ℕ) (role : Role) (height : ℕ) (terms : List Binding) (role' : Role) (height' : ℕ) (terms' : List Binding) →
       item_at k.strands s ≡ Some (instance role height terms) → item_at k.strands t ≡ Some (instance role' height' terms') →
       (h.nodes s).strand ≡ (h.nodes t).strand → low together s ≡ low together t
   one_entry s t role height terms role' height' terms' at au e = low_same together back then s t (are_together s t (ap is_some_instance at) (ap is_some_instance au) e)
@@ -121,7 +122,7 @@ module _ (k : Skeleton) (h : Standing) where
   pub apart_if_finest : partition ≡ finest k → StandsApart k h
   apart_if_finest fine s t role height terms role' height' terms' at au e = sym (alone s role height terms at) ∙ one_entry s t role height terms role' height' terms' at au e ∙ alone t role' height' terms' au
     where
-      alone : (s : ℕ) (role : Role) (height : ℕ) (terms : Substitution) → item_at k.strands s ≡ Some (instance role height terms) → low together s ≡ s
+      alone : (s : ℕ) (role : Role) (height : ℕ) (terms : List Binding) → item_at k.strands s ≡ Some (instance role height terms) → low together s ≡ s
       alone s role height terms at =
           let l = item_below k.strands s (instance role height terms) at in
           let e : Some (low together s) ≡ Some s = sym (partition_at s l) ∙ ap (λ (p : List ℕ). item_at p s) fine ∙ numbers_at 0 k.strands s l ∙ ap Some (omega arith) in

@@ -1,16 +1,14 @@
 -- The tallest of a block by heights, and the merged strands as the program keeps them.
-use Rattle.std.proofs.Common.{◌≡◌, ◌≢◌, ℕ, suc, ◌<◌, ◌≤◌, ◌+◌, List, [], ◌∷◌, ◌++◌, Some, map, length, sym, ap, ◌∙◌, subst, arith}
-use Rattle.std.proofs.lemmas.List.{map-append}
+use Rattle.std.proofs.Common.{◌≡◌, ◌≢◌, ℕ, suc, ◌<◌, ◌≤◌, ◌+◌, List, [], ◌∷◌, ◌++◌, Some, length, sym, ap, ◌∙◌, subst, arith}
 use native.Mathlib.Decide.{ℕ_discrete}
 use Rattle.cp_lists.specs.Lists.{item_at}
 use Rattle.cp_model.specs.Strand.{Role}
 use Rattle.cp_model.specs.Term.{Substitution}
+use Rattle.cp_model.specs.Bindings.{Binding}
 use Rattle.cp_model.specs.Skeleton.{SkeletonStrand, instance, Skeleton}
-use Rattle.cp_lists.proofs.Items.{item_below, item_there, map_of_item}
+use Rattle.cp_lists.proofs.Items.{item_below, item_there}
 use Rattle.cp_theory.specs.Normal.{strand_under}
-use Rattle.cp_skel.specs.DeclaredPrefixes.{HasDeclaredPrefixes}
-use Rattle.cp_strand.specs.View.{strand_view}
-use Rattle.cp_model.specs.Data.{StrandData as Strand}
+use Rattle.cp_model.specs.Declares.{HasDeclaredPrefixes}
 use Rattle.cp_collapse.specs.SameSkeletons.{IsSameStrand, AreSameStrands, no_strands, same_strands}
 use Rattle.cp_collapse.specs.MergedStrands.{height_of, IsAsTall, IsTallestTo, AreMergedTo, AreMergedAlike, IsUnder}
 use Rattle.cp_collapse.specs.Partitions.{AreOfOneRole, IsPartitionByRole}
@@ -29,7 +27,7 @@ module _ (k : Skeleton) (p : List ℕ) (part : IsPartitionByRole k p) (l : ℕ) 
   alike_both i t e f ne = both_alike i t e f ne (ℕ_discrete i l) (ℕ_discrete t l)
 
   module _ (i t : ℕ) (so_far : IsTallestTo k p l i t) where
-    as_tall : height_of (item_at k.strands i) ≤ height_of (item_at k.strands t) → (role : Role) (height : ℕ) (terms : Substitution) → item_at p i ≡ Some l → item_at k.strands i ≡ Some (instance role height terms) → Dec (i ≡ t) → IsAsTall k t role height
+    as_tall : height_of (item_at k.strands i) ≤ height_of (item_at k.strands t) → (role : Role) (height : ℕ) (terms : List Binding) → item_at p i ≡ Some l → item_at k.strands i ≡ Some (instance role height terms) → Dec (i ≡ t) → IsAsTall k t role height
     as_tall le role height terms own at (yes same) = record { own_height = height; own_terms = terms; on_instance = ap (item_at k.strands) (sym same) ∙ at; at_least = omega arith }
     as_tall le role height terms own at (no ne) =
         let a = alike_both i t own so_far.in_block ne in
@@ -63,10 +61,10 @@ same_more no_strands e = same_strands e no_strands
 same_more (same_strands f more) e = same_strands f (same_more more e)
 
 module _ (k : Skeleton) (p : List ℕ) (f : Substitution) where
-  pub none_alike : (new : List Strand) → new ≡ [] → AreMergedAlike k p f 0 new
+  pub none_alike : (new : List SkeletonStrand) → new ≡ [] → AreMergedAlike k p f 0 new
   none_alike new e = subst (AreMergedAlike k p f 0) (sym e) (record { exact = []; merged = none_merged k p f; alike = no_strands })
 
-  module _ (n : ℕ) (old : List Strand) (so_far : AreMergedAlike k p f n old) where
+  module _ (n : ℕ) (old : List SkeletonStrand) (so_far : AreMergedAlike k p f n old) where
     other : n < length p → (item_at p n ≡ Some n → ⊥) → (l : ℕ) × (item_at p n ≡ Some l) × (l ≢ n)
     other less none = let r = item_there p n less in (r.0, r.1, λ e. none (r.1 ∙ ap Some e))
 
@@ -76,14 +74,14 @@ module _ (k : Skeleton) (p : List ℕ) (f : Substitution) where
         let r = other less none in
         record { exact = so_far.exact; merged = subst (λ (m : ℕ). AreMergedTo k p f m so_far.exact) next (passes_on k p f n so_far.exact so_far.merged r.0 r.1 r.2); alike = so_far.alike }
 
-    pub alike_puts : (ss : List Strand) → k.strands ≡ map strand_view ss → HasDeclaredPrefixes k → (t : ℕ) (new : List Strand) (st : Strand) → item_at p n ≡ Some n → IsTallestTo k p n (length p) t → IsUnder ss t f st → new ≡ old ++ (st ∷ []) → AreMergedAlike k p f (n + 1) new
+    pub alike_puts : (ss : List SkeletonStrand) → k.strands ≡ ss → HasDeclaredPrefixes k → (t : ℕ) (new : List SkeletonStrand) (st : SkeletonStrand) → item_at p n ≡ Some n → IsTallestTo k p n (length p) t → IsUnder ss t f st → new ≡ old ++ (st ∷ []) → AreMergedAlike k p f (n + 1) new
     alike_puts ss views declared t new st own tall u put =
         let next : suc n ≡ n + 1 = omega arith in
-        let at : item_at k.strands t ≡ Some (strand_view u.strand) = ap (λ (xs : List SkeletonStrand). item_at xs t) views ∙ map_of_item strand_view ss t u.strand u.was_there in
-        let same : IsSameStrand (strand_under f (strand_view u.strand)) (strand_view st) =
-        subst (IsSameStrand (strand_under f (strand_view u.strand))) (sym u.changed) (same_under f (strand_view u.strand) (λ role height terms e. declared t role height terms (at ∙ ap Some e))) in
+        let at : item_at k.strands t ≡ Some u.strand = ap (λ (xs : List SkeletonStrand). item_at xs t) views ∙ u.was_there in
+        let same : IsSameStrand (strand_under f u.strand) st =
+        subst (IsSameStrand (strand_under f u.strand)) (sym u.changed) (same_under f u.strand (λ role height terms e. declared t role height terms (at ∙ ap Some e))) in
         record {
-          exact = so_far.exact ++ (strand_under f (strand_view u.strand) ∷ []);
-          merged = subst (λ (m : ℕ). AreMergedTo k p f m (so_far.exact ++ (strand_under f (strand_view u.strand) ∷ []))) next (puts_next k p f n so_far.exact so_far.merged t (strand_view u.strand) own tall at);
-          alike = subst (AreSameStrands (so_far.exact ++ (strand_under f (strand_view u.strand) ∷ []))) (sym (ap (map strand_view) put ∙ map-append strand_view old (st ∷ []))) (same_more so_far.alike same);
+          exact = so_far.exact ++ (strand_under f u.strand ∷ []);
+          merged = subst (λ (m : ℕ). AreMergedTo k p f m (so_far.exact ++ (strand_under f u.strand ∷ []))) next (puts_next k p f n so_far.exact so_far.merged t u.strand own tall at);
+          alike = subst (AreSameStrands (so_far.exact ++ (strand_under f u.strand ∷ []))) (sym put) (same_more so_far.alike same);
         }

@@ -2,6 +2,7 @@
 use Rattle.std.proofs.Common.{◌≡◌, ℕ, List, [], ◌∷◌, ◌++◌, Some, map, refl, sym, ap, ◌∙◌, subst, ⊎_elim}
 use Rattle.cp_lists.specs.Lists.{item_at, IsIn, here, there}
 use Rattle.cp_model.specs.Term.{AtomTerm, Term, variables_of_atom, variables_of, after, Substitution, apply_to_atom, apply_to, composed, variable_term, value_of}
+use Rattle.cp_model.specs.Bindings.{Binding, as_substitution}
 use Rattle.cp_model.specs.declared.variable.Variable.{Variable}
 use Rattle.cp_model.specs.Strand.{payload, event_map, Role, prefix_of, variables_of_trace, variables_of_prefix}
 use Rattle.cp_model.specs.declared.variable.Declaration.{Declaration}
@@ -13,7 +14,9 @@ use Rattle.cp_model.specs.PointOfView.{HasDeclaredVariables}
 use Rattle.cp_lists.proofs.Members.{in_append, in_append_left, in_append_right, from_map}
 use Rattle.cp_model.proofs.LawTerms.{value_after, term_composed}
 use Rattle.cp_model.proofs.LawAgreement.{agree_term}
+use Rattle.cp_model.proofs.DeclaredTerms.{by_bindings}
 use Rattle.cp_model.proofs.OccurringVariables.{in_trace_under, in_strands, in_atoms, in_uniques, strand_with, atom_with, unique_with}
+use Rattle.cp_theory.specs.Normal.{terms_under}
 use Rattle.cp_theory.proofs.Under.{trace_under}
 use Rattle.cp_unify.proofs.Free.{free}
 use Rattle.cp_collapse.specs.SameSkeletons.{same_instance}
@@ -73,12 +76,12 @@ module _ (variables : List Declaration) (k : Skeleton) (h : HasDeclaredVariables
       assumption_declared x (in_append_right (variables_of_atoms a.non_originating ++ variables_of_atoms a.penetrator_non_originating) (in_uniques a.uniquely_originating u x i j))
 
   -- Its substitutions depend on what they give declared variables.
-  instance_alike : (s t : Substitution) → AgreeOnDeclared variables s t → (n : ℕ) (role : Role) (height : ℕ) (terms : Substitution) → item_at k.strands n ≡ Some (instance role height terms) →
-      (x : Variable) → IsIn x (variables_of_prefix role height) → apply_to (composed terms s) (variable_term x) ≡ apply_to (composed terms t) (variable_term x)
+  instance_alike : (s t : Substitution) → AgreeOnDeclared variables s t → (n : ℕ) (role : Role) (height : ℕ) (terms : List Binding) → item_at k.strands n ≡ Some (instance role height terms) →
+      (x : Variable) → IsIn x (variables_of_prefix role height) → apply_to (composed (as_substitution terms) s) (variable_term x) ≡ apply_to (composed (as_substitution terms) t) (variable_term x)
   instance_alike s t agree n role height terms at x i =
-      term_composed terms s (variable_term x)
-      ∙ agree_term s t (apply_to terms (variable_term x)) (λ y j. agree y (strand_declared n (instance role height terms) at y (in_trace_under terms (prefix_of role height) x y i j)))
-      ∙ sym (term_composed terms t (variable_term x))
+      term_composed (as_substitution terms) s (variable_term x)
+      ∙ agree_term s t (apply_to (as_substitution terms) (variable_term x)) (λ y j. agree y (strand_declared n (instance role height terms) at y (in_trace_under (as_substitution terms) (prefix_of role height) x y i j)))
+      ∙ sym (term_composed (as_substitution terms) t (variable_term x))
 
 -- ---- collapses
 
@@ -98,9 +101,9 @@ module _ (variables : List Declaration) (k : Skeleton) (h : HasDeclaredVariables
   identifies_too t agree n m role height terms height' terms' at au together x i j =
       let one = instance_alike variables k h t f agree n role height terms at x i in
       let other = instance_alike variables k h t f agree m role height' terms' au x j in
-      value_composed t terms x
+      value_composed t (as_substitution terms) x
       ∙ ap (value_of free) (one ∙ collapsed.most_general.identifies n m role height terms height' terms' at au together x i j ∙ sym other)
-      ∙ sym (value_composed t terms' x)
+      ∙ sym (value_composed t (as_substitution terms') x)
 
   keeps : KeepsDeclared variables f
   keeps = no_new variables (IdentifiesValues k p) f identifies_too collapsed.most_general.general
@@ -118,7 +121,7 @@ module _ (variables : List Declaration) (k : Skeleton) (h : HasDeclaredVariables
   comes : (place : ℕ) (st : SkeletonStrand) → item_at l.strands place ≡ Some st → ComesFrom st
   comes =
       strand_comes k l p part collapsed ComesFrom
-      (λ n role height terms to at agree. (n, instance role height terms, at, sym (same_trace (same_instance {role = role} {height = height} agree)) ∙ trace_under f (instance role height terms ∷ []) 0))
+      (λ n role height terms to at agree. (n, instance role height terms, at, sym (same_trace (same_instance {role = role} {height = height} {terms = terms_under f role height terms} {terms' = to} (λ x i. by_bindings (composed (as_substitution terms) f) (variables_of_prefix role height) x i ∙ agree x i))) ∙ trace_under f (instance role height terms ∷ []) 0))
       (λ n t at. (n, listener t, at, refl))
 
   strands_declared : (x : Variable) → IsIn x (variables_of_strands l.strands) → IsDeclared variables x

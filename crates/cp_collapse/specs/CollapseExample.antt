@@ -1,6 +1,7 @@
 -- An example: two strands of one role with different variables, and the skeleton that identifying them gives.
-use Rattle.std.specs.Prelude.{[], ◌∷◌, ◌+◌, ◌==◌, if◌then◌else◌}
-use Rattle.cp_model.specs.Term.{Substitution, composed}
+use Rattle.std.specs.Prelude.{List, [], ◌∷◌, ◌==◌, if◌then◌else◌}
+use Rattle.cp_model.specs.Term.{text_variable, atom_term, Substitution}
+use Rattle.cp_model.specs.Bindings.{Binding, bindings_of}
 use Rattle.cp_model.specs.Identity.{unchanged}
 use Rattle.cp_model.specs.Skeleton.{instance, Assumptions, FromProblem, Skeleton}
 use Rattle.cp_model.specs.Problem.{variable_terms}
@@ -11,13 +12,18 @@ abbrev pub no_assumptions : Assumptions
 no_assumptions = record { non_originating = []; penetrator_non_originating = []; uniquely_originating = [] }
 
 -- The second repeater's variables have numbers from 2 on.
-abbrev pub other_texts : Substitution
-other_texts = record unchanged { texts = λ n. n + 2 }
+abbrev pub other_texts : List Binding
+other_texts = bindings_of (variable_terms 2 repeater.variables)
+
+-- Its variables, where both heard one text.
+abbrev pub one_heard : List Binding
+one_heard = bindings_of (atom_term (text_variable 2) ∷ atom_term (text_variable 1) ∷ [])
 
 -- A repeater who has heard a text, and one who has also said a text.
 abbrev pub two_repeaters : Skeleton
 two_repeaters = record {
-  strands = instance repeater 1 unchanged ∷ instance repeater 2 other_texts ∷ [];
+  variables = said ∷ heard_declaration ∷ said ∷ heard_declaration ∷ [];
+  strands = instance repeater 1 [] ∷ instance repeater 2 other_texts ∷ [];
   pairs = [];
   assumptions = no_assumptions;
   from_problem = record { strands = 0 ∷ 1 ∷ []; values = variable_terms 0 (said ∷ heard_declaration ∷ said ∷ heard_declaration ∷ []); assumptions = no_assumptions; pairs = [] };
@@ -34,7 +40,8 @@ to_one_strand f = record { strands = 0 ∷ 0 ∷ []; values = f.values; assumpti
 -- They are one, at the first's place, and as far as the second.
 abbrev pub one_repeater : Skeleton
 one_repeater = record {
-  strands = instance repeater 2 (composed other_texts same_heard) ∷ [];
+  variables = two_repeaters.variables;
+  strands = instance repeater 2 one_heard ∷ [];
   pairs = [];
   assumptions = no_assumptions;
   from_problem = to_one_strand (from_problem_under same_heard two_repeaters.from_problem);

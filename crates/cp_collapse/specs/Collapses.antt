@@ -2,6 +2,7 @@
 use Rattle.std.specs.Prelude.{◌≡◌, ◌≢◌, ◌↔◌, ◌⊎◌, ◌≤◌, ◌<◌, ℕ, List, [], ◌∷◌, Some, map, length}
 use Rattle.cp_lists.specs.Lists.{item_at, IsIn}
 use Rattle.cp_model.specs.Term.{Term, Assignment, value_of, after, Substitution, apply_to, apply_to_atom}
+use Rattle.cp_model.specs.Bindings.{Binding}
 use Rattle.cp_model.specs.Strand.{Role}
 use Rattle.cp_model.specs.Bundle.{Bundle}
 use Rattle.cp_model.specs.declared.node.Node.{Node}
@@ -60,7 +61,7 @@ LiesOnOne p q = place_in p q.earlier.strand ≡ place_in p q.later.strand
 -- Strand number s of k is an instance of the role, of this height, in the block at this place.
 pub record HasInstance (k : Skeleton) (p : List ℕ) (place : ℕ) (role : Role) (height : ℕ) : Type 0 where
   pub strand : ℕ
-  pub terms : Substitution
+  pub terms : List Binding
   pub at_place : place_in p strand ≡ place
   pub on_instance : item_at k.strands strand ≡ Some (instance role height terms)
 
@@ -72,8 +73,8 @@ pub record IsCollapsed (k : Skeleton) (p : List ℕ) (l : Skeleton) : Type 0 whe
   pub unifier : Substitution
   pub most_general : IsMostGeneralOn k p unifier
   pub count : length l.strands ≡ block_count p
-  pub instances : (s : ℕ) (role : Role) (height : ℕ) (terms : Substitution) → item_at k.strands s ≡ Some (instance role height terms) → GoesToInstance l (onto_blocks p unifier) s role height terms
-  pub tallest : (place : ℕ) (role : Role) (height : ℕ) (terms : Substitution) → item_at l.strands place ≡ Some (instance role height terms) → HasInstance k p place role height
+  pub instances : (s : ℕ) (role : Role) (height : ℕ) (terms : List Binding) → item_at k.strands s ≡ Some (instance role height terms) → GoesToInstance l (onto_blocks p unifier) s role height terms
+  pub tallest : (place : ℕ) (role : Role) (height : ℕ) (terms : List Binding) → item_at l.strands place ≡ Some (instance role height terms) → HasInstance k p place role height
   pub listeners : (s : ℕ) (t : Term) → item_at k.strands s ≡ Some (listener t) → item_at l.strands (place_in p s) ≡ Some (listener (apply_to unifier t))
   pub pairs : ArePairsIn p k.pairs l.pairs
   pub forward : (q : OrderPair) → IsIn q k.pairs → LiesOnOne p q → q.earlier.index < q.later.index

@@ -1,7 +1,7 @@
 -- The partitions of the first strands of a skeleton, and those of one strand more.
 use Rattle.std.specs.Prelude.{◌≡◌, ◌≢◌, ◌⊎◌, ◌≤◌, ◌<◌, ℕ, List, [], ◌∷◌, ◌++◌, Some, length}
 use Rattle.cp_lists.specs.Lists.{item_at, IsIn}
-use Rattle.cp_model.specs.Term.{Assignment, after, Substitution}
+use Rattle.cp_model.specs.Term.{Assignment, after}
 use Rattle.cp_model.specs.Strand.{Role}
 use Rattle.cp_model.specs.Skeleton.{instance, Skeleton}
 use Rattle.cp_unify.specs.Bindings.{Binding, Meets, as_substitution}
@@ -56,7 +56,7 @@ pub record IsExactFor (fact : Assignment → Type 0) (r : List Binding) : Type 0
 
 -- An assignment gives two strands equal values, where they are instances of one role.
 abbrev pub EqualAt : Skeleton → ℕ → ℕ → Assignment → Type 0
-EqualAt k s t g = (role : Role) (height : ℕ) (terms : Substitution) (height' : ℕ) (terms' : Substitution) →
+EqualAt k s t g = (role : Role) (height : ℕ) (terms : List Binding) (height' : ℕ) (terms' : List Binding) →
     item_at k.strands s ≡ Some (instance role height terms) → item_at k.strands t ≡ Some (instance role height' terms') → HaveEqualValues role height terms height' terms' g
 
 -- An assignment gives the strands of each block equal values, and strand n and each strand before number i of the block whose

@@ -1,12 +1,11 @@
 -- Merging the strands of each block: the tallest of a block, and the merged strands in the order of their places.
-use Rattle.std.specs.Prelude.{◌≡◌, ◌≤◌, ◌<◌, ◌⊎◌, ℕ, List, [], ◌∷◌, ◌++◌, Option, Some, None, map, length}
+use Rattle.std.specs.Prelude.{◌≡◌, ◌≤◌, ◌<◌, ◌⊎◌, ℕ, List, [], ◌∷◌, ◌++◌, Option, Some, None, length}
 use Rattle.cp_lists.specs.Lists.{item_at, IsIn}
 use Rattle.cp_model.specs.Term.{Substitution}
+use Rattle.cp_model.specs.Bindings.{Binding}
 use Rattle.cp_model.specs.Strand.{Role}
 use Rattle.cp_model.specs.Skeleton.{SkeletonStrand, instance, listener, Skeleton}
 use Rattle.cp_theory.specs.Normal.{strand_under}
-use Rattle.cp_strand.specs.View.{strand_view}
-use Rattle.cp_model.specs.Data.{StrandData as Strand}
 use Rattle.cp_collapse.specs.SameSkeletons.{AreSameStrands}
 use Rattle.cp_collapse.specs.Partitions.{lowest_before}
 use Rattle.cp_collapse.specs.Values.{declared_under}
@@ -14,14 +13,14 @@ use Rattle.cp_collapse.specs.Values.{declared_under}
 -- Strand t is an instance of the role, of this height at least.
 pub record IsAsTall (k : Skeleton) (t : ℕ) (role : Role) (height : ℕ) : Type 0 where
   pub own_height : ℕ
-  pub own_terms : Substitution
+  pub own_terms : List Binding
   pub on_instance : item_at k.strands t ≡ Some (instance role own_height own_terms)
   pub at_least : height ≤ own_height
 
 -- Strand t is in the block whose lowest strand is l, and as tall as each instance of the block before number i.
 pub record IsTallestTo (k : Skeleton) (p : List ℕ) (l i t : ℕ) : Type 0 where
   pub in_block : item_at p t ≡ Some l
-  pub as_tall : (s : ℕ) (role : Role) (height : ℕ) (terms : Substitution) → s < i → item_at p s ≡ Some l → item_at k.strands s ≡ Some (instance role height terms) → IsAsTall k t role height
+  pub as_tall : (s : ℕ) (role : Role) (height : ℕ) (terms : List Binding) → s < i → item_at p s ≡ Some l → item_at k.strands s ≡ Some (instance role height terms) → IsAsTall k t role height
 
 -- At the place of the block whose lowest strand is l there is the tallest of the block, under the substitution.
 pub record IsMergedAt (k : Skeleton) (p : List ℕ) (f : Substitution) (l : ℕ) (strands : List SkeletonStrand) : Type 0 where
@@ -47,13 +46,13 @@ height_of (Some (instance role height terms)) = height
 height_of (Some (listener t)) = 0
 
 -- The strands say the same as the merged ones of the blocks whose lowest strands stand before number n.
-pub record AreMergedAlike (k : Skeleton) (p : List ℕ) (f : Substitution) (n : ℕ) (strands : List Strand) : Type 0 where
+pub record AreMergedAlike (k : Skeleton) (p : List ℕ) (f : Substitution) (n : ℕ) (strands : List SkeletonStrand) : Type 0 where
   pub exact : List SkeletonStrand
   pub merged : AreMergedTo k p f n exact
-  pub alike : AreSameStrands exact (map strand_view strands)
+  pub alike : AreSameStrands exact strands
 
 -- The strand is number t of these under the substitution.
-pub record IsUnder (strands : List Strand) (t : ℕ) (f : Substitution) (result : Strand) : Type 0 where
-  pub strand : Strand
+pub record IsUnder (strands : List SkeletonStrand) (t : ℕ) (f : Substitution) (result : SkeletonStrand) : Type 0 where
+  pub strand : SkeletonStrand
   pub was_there : item_at strands t ≡ Some strand
-  pub changed : strand_view result ≡ declared_under f (strand_view strand)
+  pub changed : result ≡ declared_under f strand

@@ -3,11 +3,11 @@
 use Rattle.std.specs.Prelude.{◌≡◌, ℕ, List, [], ◌∷◌, ◌++◌, map}
 use Rattle.cp_lists.specs.Lists.{IsIn}
 use Rattle.cp_model.specs.Term.{Assignment, after}
-use Rattle.cp_model.specs.Homomorphism.{substitution_by}
+use Rattle.cp_model.specs.Bindings.{bindings_of}
 use Rattle.cp_model.specs.Skeleton.{Skeleton}
 use Rattle.cp_unify.specs.Bindings.{Binding, Meets, as_substitution}
 use Rattle.cp_unify.specs.Unifiers.{AreLaterToEarlier}
-use Rattle.cp_model.specs.Data.{InstanceData}
+use Rattle.cp_strand.specs.View.{InstanceData}
 use Rattle.cp_collapse.specs.Partitions.{HaveEqualValues, IdentifiesValues}
 use Rattle.cp_collapse.specs.Collapses.{IsNeverIdentified}
 use Rattle.cp_collapse.specs.FirstPartitions.{ArePartitionsOfFirst, MayHave, AreExtendedTo, IsExactFor}
@@ -20,7 +20,7 @@ AreSolved r = AreLaterToEarlier r × ((g : Assignment) → Meets (after g (as_su
 
 -- An assignment meets the bindings and gives two instances equal values.
 abbrev pub AlsoEqual : List Binding → InstanceData → InstanceData → Assignment → Type 0
-AlsoEqual given a b g = Meets g given × HaveEqualValues a.role a.height (substitution_by a.values) b.height (substitution_by b.values) g
+AlsoEqual given a b g = Meets g given × HaveEqualValues a.role a.height (bindings_of a.values) b.height (bindings_of b.values) g
 
 -- The fact is true of no assignment.
 abbrev pub IsOfNoAssignment : (Assignment → Type 0) → Type 0

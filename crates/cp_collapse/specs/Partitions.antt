@@ -2,6 +2,7 @@
 use Rattle.std.specs.Prelude.{◌≡◌, ◌≢◌, ◌≤◌, ◌<◌, ◌⊎◌, ◌+◌, ◌==◌, ℕ, zero, suc, List, [], ◌∷◌, Option, Some, None, Bool, true, false, if◌then◌else◌, length}
 use Rattle.cp_lists.specs.Lists.{item_at, IsIn}
 use Rattle.cp_model.specs.Term.{Assignment, after, Substitution, composed, variable_term, value_of, apply_to}
+use Rattle.cp_model.specs.Bindings.{Binding, as_substitution}
 use Rattle.cp_model.specs.declared.variable.Variable.{Variable}
 use Rattle.cp_model.specs.Strand.{Role, variables_of_prefix}
 use Rattle.cp_model.specs.Bundle.{node_at}
@@ -20,10 +21,10 @@ is_some_instance (Some (listener t)) = false
 pub record AreOfOneRole (strands : List SkeletonStrand) (s t : ℕ) : Type 0 where
   pub role : Role
   pub height : ℕ
-  pub terms : Substitution
+  pub terms : List Binding
   pub first : item_at strands s ≡ Some (instance role height terms)
   pub height' : ℕ
-  pub terms' : Substitution
+  pub terms' : List Binding
   pub second : item_at strands t ≡ Some (instance role height' terms')
 
 -- A partition of the strands into blocks of instances of one role, written as the list that gives each strand the lowest
@@ -66,19 +67,19 @@ AreTogether p s t = (l : ℕ) × (item_at p s ≡ Some l) × (item_at p t ≡ So
 -- A substitution identifies the strands of each block: under it two instances of one role in one block have the same term
 -- for each variable that is in both prefixes.
 abbrev pub Identifies : Skeleton → List ℕ → Substitution → Type 0
-Identifies k p f = (s t : ℕ) (role : Role) (height : ℕ) (terms : Substitution) (height' : ℕ) (terms' : Substitution) →
+Identifies k p f = (s t : ℕ) (role : Role) (height : ℕ) (terms : List Binding) (height' : ℕ) (terms' : List Binding) →
     item_at k.strands s ≡ Some (instance role height terms) → item_at k.strands t ≡ Some (instance role height' terms') → AreTogether p s t →
     (x : Variable) → IsIn x (variables_of_prefix role height) → IsIn x (variables_of_prefix role height') →
-    apply_to (composed terms f) (variable_term x) ≡ apply_to (composed terms' f) (variable_term x)
+    apply_to (composed (as_substitution terms) f) (variable_term x) ≡ apply_to (composed (as_substitution terms') f) (variable_term x)
 
 -- An assignment gives two instances of one role equal values: the same value of each variable that is in both prefixes.
-abbrev pub HaveEqualValues : Role → ℕ → Substitution → ℕ → Substitution → Assignment → Type 0
+abbrev pub HaveEqualValues : Role → ℕ → List Binding → ℕ → List Binding → Assignment → Type 0
 HaveEqualValues role height terms height' terms' g =
-    (x : Variable) → IsIn x (variables_of_prefix role height) → IsIn x (variables_of_prefix role height') → value_of (after g terms) (variable_term x) ≡ value_of (after g terms') (variable_term x)
+    (x : Variable) → IsIn x (variables_of_prefix role height) → IsIn x (variables_of_prefix role height') → value_of (after g (as_substitution terms)) (variable_term x) ≡ value_of (after g (as_substitution terms')) (variable_term x)
 
 -- An assignment gives the strands of each block equal values.
 abbrev pub IdentifiesValues : Skeleton → List ℕ → Assignment → Type 0
-IdentifiesValues k p g = (s t : ℕ) (role : Role) (height : ℕ) (terms : Substitution) (height' : ℕ) (terms' : Substitution) →
+IdentifiesValues k p g = (s t : ℕ) (role : Role) (height : ℕ) (terms : List Binding) (height' : ℕ) (terms' : List Binding) →
     item_at k.strands s ≡ Some (instance role height terms) → item_at k.strands t ≡ Some (instance role height' terms') → AreTogether p s t → HaveEqualValues role height terms height' terms' g
 
 -- p is lower than q in lexicographic order.

@@ -1,5 +1,5 @@
 // Tests whether pairs close a cycle.
-ghost use Rattle.std.specs.Prelude.{◌↔◌, map, IsTrue, IfOk};
+ghost use Rattle.std.specs.Prelude.{◌↔◌, IsTrue, IfOk};
 ghost use Rattle.cp_collapse.specs.Property.{Has};
 ghost use Rattle.cp_collapse.specs.Cycles.{StartsPath, ClosesCycleAt};
 

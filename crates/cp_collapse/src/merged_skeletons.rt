@@ -1,15 +1,13 @@
 // The collapses of a skeleton.
-ghost use Rattle.std.specs.Prelude.{◌≡◌, ◌<◌, ◌⊎◌, ◌∷◌, map, IfOk, MatchOption};
+ghost use Rattle.std.specs.Prelude.{◌≡◌, ◌<◌, ◌⊎◌, ◌∷◌, IfOk, MatchOption};
 ghost use Rattle.cp_model.specs.Bundle.{Bundle, IsBundle};
 ghost use Rattle.cp_model.specs.Homomorphism.{IsCompleteList};
 ghost use Rattle.cp_lists.specs.Lists.{IsIn};
-ghost use Rattle.cp_model.specs.Skeleton.{IsSkeleton};
+ghost use Rattle.cp_model.specs.Skeleton.{IsSkeleton, Skeleton};
 ghost use Rattle.cp_model.specs.declared.node.OrderPair.{OrderPair as Pair};
 ghost use Rattle.cp_model.specs.Standing.{Standing, StandsIn, StandsApart};
 ghost use Rattle.cp_model.specs.Strand.{Protocol};
-ghost use Rattle.cp_skel.specs.DeclaredPrefixes.{HasDeclaredPrefixes};
-ghost use Rattle.cp_skel.specs.View.{skeleton_view};
-ghost use Rattle.cp_model.specs.Data.{SkeletonData};
+ghost use Rattle.cp_model.specs.Declares.{HasDeclaredPrefixes};
 ghost use Rattle.cp_skel.specs.Sound.{IsSound};
 ghost use Rattle.cp_collapse.specs.Collapses.{LiesOnOne, IsCollapsed, HasNoCycle, IsImpossible, AreCollapses, StandsThroughCollapse};
 ghost use Rattle.cp_collapse.specs.MergedParts.{parts_view, with_listed};
@@ -35,11 +33,11 @@ pub(crate) struct Parts {
 /// The parts of the skeleton with the strands of each block merged, if no pair comes to lie backward. Once its assumptions are in
 /// report order, it is the collapsed skeleton.
 fn merged(alloc: Global, k: &Skeleton, partial: &Partial) -> Result<Parts, AllocError>
-    requires declared { HasDeclaredPrefixes (skeleton_view k.now) }
-    requires partition { IsPartitionByRole (skeleton_view k.now) partial.now.lowest.items }
-    requires exact { IsExact (skeleton_view k.now) partial.now }
-    requires forward { (q : Pair) → IsIn q (skeleton_view k.now).pairs → LiesOnOne partial.now.lowest.items q → q.earlier.index < q.later.index }
-    ensures { IfOk result (λ m. IsCollapsed (skeleton_view k.now) partial.now.lowest.items (with_listed (parts_view m))) }
+    requires declared { HasDeclaredPrefixes k.now }
+    requires partition { IsPartitionByRole k.now partial.now.lowest.items }
+    requires exact { IsExact k.now partial.now }
+    requires forward { (q : Pair) → IsIn q k.now.pairs → LiesOnOne partial.now.lowest.items q → q.earlier.index < q.later.index }
+    ensures { IfOk result (λ m. IsCollapsed k.now partial.now.lowest.items (with_listed (parts_view k.now.variables m))) }
 {
     let lowest = &partial.lowest;
     let bindings = &partial.bindings;
@@ -62,8 +60,8 @@ fn merged(alloc: Global, k: &Skeleton, partial: &Partial) -> Result<Parts, Alloc
 /// A skeleton of these parts, with the variables of `k` and its assumptions in report order. Its order is closed if that of `k`
 /// is.
 fn of_parts(alloc: Global, k: &Skeleton, parts: Parts) -> Result<Skeleton, AllocError>
-    requires { IsSound (parts_view parts) }
-    ensures skeleton { IfOk result (λ l. skeleton_view l ≡ with_listed (parts_view parts)) }
+    requires { IsSound (parts_view k.now.variables parts) }
+    ensures skeleton { IfOk result (λ l. l ≡ with_listed (parts_view k.now.variables parts)) }
     ensures variables { IfOk result (λ l. l.variables ≡ k.now.variables) }
 {
     let Parts {
@@ -81,12 +79,12 @@ fn of_parts(alloc: Global, k: &Skeleton, parts: Parts) -> Result<Skeleton, Alloc
 
 /// The collapse by a partition; `None` if a pair comes to lie backward or the merged order has a cycle.
 fn collapse(alloc: Global, k: &Skeleton, partial: &Partial) -> Result<Option<Skeleton>, AllocError>
-    requires declared { HasDeclaredPrefixes (skeleton_view k.now) }
-    requires partition { IsPartitionByRole (skeleton_view k.now) partial.now.lowest.items }
-    requires exact { IsExact (skeleton_view k.now) partial.now }
+    requires declared { HasDeclaredPrefixes k.now }
+    requires partition { IsPartitionByRole k.now partial.now.lowest.items }
+    requires exact { IsExact k.now partial.now }
     ensures { IfOk result (λ found. MatchOption found
-        (IsImpossible (skeleton_view k.now) partial.now.lowest.items)
-        (λ l. IsCollapsed (skeleton_view k.now) partial.now.lowest.items (skeleton_view l) × HasNoCycle (skeleton_view l) × (l.variables ≡ k.now.variables))) }
+        (IsImpossible k.now partial.now.lowest.items)
+        (λ l. IsCollapsed k.now partial.now.lowest.items l × HasNoCycle l × (l.variables ≡ k.now.variables))) }
 {
     k.is_sound();
     if some_lies_backward(k.order().pairs(), &partial.lowest) {
@@ -107,11 +105,11 @@ fn collapse(alloc: Global, k: &Skeleton, partial: &Partial) -> Result<Option<Ske
 /// A partition is written as a list that gives for each strand the lowest strand of its block. The collapses come in descending
 /// order of these lists.
 pub fn collapses(alloc: Global, k: &Skeleton) -> Result<Vec<Skeleton>, AllocError>
-    ensures exact { IfOk result (λ ls. AreCollapses (skeleton_view k.now) (map skeleton_view ls.items)) }
-    ensures covers { IfOk result (λ ls. (protocol : Protocol) → IsSkeleton protocol (skeleton_view k.now) → IsCompleteList protocol (skeleton_view k.now) (skeleton_view k.now ∷ map skeleton_view ls.items)) }
-    ensures through { IfOk result (λ ls. (protocol : Protocol) (b : Bundle) (h : Standing) → IsSkeleton protocol (skeleton_view k.now) → IsBundle protocol b → StandsIn (skeleton_view k.now) b h
-        → StandsApart (skeleton_view k.now) h ⊎ StandsThroughCollapse (skeleton_view k.now) (map skeleton_view ls.items) b h) }
-    ensures variables { IfOk result (λ ls. (l : SkeletonData) → IsIn l ls.items → l.variables ≡ k.now.variables) }
+    ensures exact { IfOk result (λ ls. AreCollapses k.now ls.items) }
+    ensures covers { IfOk result (λ ls. (protocol : Protocol) → IsSkeleton protocol k.now → IsCompleteList protocol k.now (k.now ∷ ls.items)) }
+    ensures through { IfOk result (λ ls. (protocol : Protocol) (b : Bundle) (h : Standing) → IsSkeleton protocol k.now → IsBundle protocol b → StandsIn k.now b h
+        → StandsApart k.now h ⊎ StandsThroughCollapse k.now ls.items b h) }
+    ensures variables { IfOk result (λ ls. (l : Skeleton) → IsIn l ls.items → l.variables ≡ k.now.variables) }
 {
     k.is_sound();
     let partials = partitions(alloc, k)?;

@@ -1,10 +1,8 @@
 // The strands of a skeleton after each block is merged into its tallest strand.
-ghost use Rattle.std.specs.Prelude.{◌≡◌, ◌<◌, Some, map, length, IfOk};
+ghost use Rattle.std.specs.Prelude.{◌≡◌, ◌<◌, Some, length, IfOk};
 ghost use Rattle.cp_lists.specs.Lists.{item_at};
 ghost use Rattle.cp_unify.specs.Bindings.{as_substitution};
-ghost use Rattle.cp_skel.specs.DeclaredPrefixes.{HasDeclaredPrefixes};
-ghost use Rattle.cp_strand.specs.View.{strand_view};
-ghost use Rattle.cp_skel.specs.View.{skeleton_view};
+ghost use Rattle.cp_model.specs.Declares.{HasDeclaredPrefixes};
 ghost use Rattle.cp_collapse.specs.MergedStrands.{height_of, IsTallestTo, IsUnder, AreMergedAlike};
 ghost use Rattle.cp_collapse.specs.Partitions.{IsPartitionByRole};
 
@@ -16,7 +14,7 @@ use std::alloc::{AllocError, Global};
 
 /// The height of a strand that is an instance; 0 for a listener.
 fn height_at(strands: &[Strand], number: usize) -> usize
-    ensures { result ≡ height_of (item_at (map strand_view strands.now) number) }
+    ensures { result ≡ height_of (item_at strands.now number) }
 {
     let Some(strand) = strands.get(number) else {
         return 0;
@@ -29,9 +27,9 @@ fn height_at(strands: &[Strand], number: usize) -> usize
 
 /// The tallest strand of a block; of several, the first.
 fn tallest(k: &Skeleton, partial: &Partial, block: usize) -> usize
-    requires partition { IsPartitionByRole (skeleton_view k.now) partial.now.lowest.items }
+    requires partition { IsPartitionByRole k.now partial.now.lowest.items }
     requires own { item_at partial.now.lowest.items block ≡ Some block }
-    ensures { IsTallestTo (skeleton_view k.now) partial.now.lowest.items block (length partial.now.lowest.items) result }
+    ensures { IsTallestTo k.now partial.now.lowest.items block (length partial.now.lowest.items) result }
 {
     let mut tallest = block;
     for strand in 0..partial.lowest.len() {
@@ -65,9 +63,9 @@ pub(crate) fn merged_strands(
     k: &Skeleton,
     partial: &Partial,
 ) -> Result<Vec<Strand>, AllocError>
-    requires declared { HasDeclaredPrefixes (skeleton_view k.now) }
-    requires partition { IsPartitionByRole (skeleton_view k.now) partial.now.lowest.items }
-    ensures { IfOk result (λ v. AreMergedAlike (skeleton_view k.now) partial.now.lowest.items (as_substitution partial.now.bindings.value) (length partial.now.lowest.items) v.items) }
+    requires declared { HasDeclaredPrefixes k.now }
+    requires partition { IsPartitionByRole k.now partial.now.lowest.items }
+    ensures { IfOk result (λ v. AreMergedAlike k.now partial.now.lowest.items (as_substitution partial.now.bindings.value) (length partial.now.lowest.items) v.items) }
 {
     let mut strands = Vec::new(alloc);
     for strand in 0..partial.lowest.len() {

@@ -1,15 +1,14 @@
 // Partitions of a skeleton's strands into blocks of instances of one role, built strand by strand.
-ghost use Rattle.std.specs.Prelude.{◌≡◌, ◌≢◌, ◌↔◌, ◌+◌, ◌<◌, ◌++◌, ◌∷◌, [], ℕ, List, Some, map, option_map, length, IsTrue, IfOk, OnOk, IfSome, IfNone, MatchOption};
+ghost use Rattle.std.specs.Prelude.{◌≡◌, ◌↔◌, ◌+◌, ◌<◌, ◌++◌, ◌∷◌, [], ℕ, List, Some, length, IsTrue, IfOk, OnOk, IfSome, IfNone, MatchOption};
 ghost use Rattle.cp_lists.specs.Lists.{item_at};
 ghost use Rattle.cp_model.specs.Strand.{Role as PlainRole};
-ghost use Rattle.cp_model.specs.Term.{Substitution};
+ghost use Rattle.cp_model.specs.Bindings.{Binding};
 ghost use Rattle.cp_model.specs.Skeleton.{instance, Skeleton as PlainSkeleton};
 ghost use Rattle.cp_unify.specs.Bindings.{Meets};
-ghost use Rattle.cp_skel.specs.DeclaredPrefixes.{HasDeclaredPrefixes};
-ghost use Rattle.cp_strand.specs.View.{instance_as_data, strand_view};
-ghost use Rattle.cp_skel.specs.View.{skeleton_view};
+ghost use Rattle.cp_model.specs.Declares.{HasDeclaredPrefixes};
+ghost use Rattle.cp_strand.specs.View.{instance_view};
 ghost use Rattle.cp_collapse.specs.FirstPartitions.{IsPartitionOfFirst, IsExactFor, EqualAt};
-ghost use Rattle.cp_collapse.specs.Partials.{AreSolved, IsOfNoAssignment, IsExact, lists, ArePartials, ArePartlyExtended, Joins, MayNotJoin};
+ghost use Rattle.cp_collapse.specs.Partials.{AreSolved, IsOfNoAssignment, IsExact, ArePartials, ArePartlyExtended, Joins, MayNotJoin};
 ghost use Rattle.cp_collapse.specs.Partitions.{AreOfOneRole, IdentifiesValues, AreDescending};
 ghost use Rattle.cp_collapse.specs.Collapses.{IsNeverIdentified};
 
@@ -29,9 +28,9 @@ pub(crate) struct Partial {
 
 /// The role instance on the strand with this number, if it is one.
 pub(crate) fn instance_at(strands: &[Strand], number: usize) -> Option<&Instance>
-    ensures some { IfSome result (λ i. item_at strands.now number ≡ Some (instance_as_data i.now)) }
-    ensures none { IfNone result ((role : PlainRole) (height : ℕ) (terms : Substitution)
-        → item_at (map strand_view strands.now) number ≡ Some (instance role height terms) → ⊥) }
+    ensures some { IfSome result (λ i. item_at strands.now number ≡ Some (instance_view i.now)) }
+    ensures none { IfNone result ((role : PlainRole) (height : ℕ) (terms : List Binding)
+        → item_at strands.now number ≡ Some (instance role height terms) → ⊥) }
 {
     let Some(strand) = strands.get(number) else {
         return None;
@@ -44,7 +43,7 @@ pub(crate) fn instance_at(strands: &[Strand], number: usize) -> Option<&Instance
 
 /// Whether two strands are instances of one role.
 fn are_of_one_role(strands: &[Strand], s: usize, t: usize) -> bool
-    ensures { IsTrue result ↔ AreOfOneRole (map strand_view strands.now) s t }
+    ensures { IsTrue result ↔ AreOfOneRole strands.now s t }
 {
     let Some(first) = instance_at(strands, s) else {
         return false;
@@ -63,12 +62,12 @@ fn unify_strands(
     t: usize,
     given: &Rc<Subst>,
 ) -> Result<Option<Rc<Subst>>, AllocError>
-    requires declared { HasDeclaredPrefixes (skeleton_view k.now) }
-    requires alike { AreOfOneRole (skeleton_view k.now).strands s t }
+    requires declared { HasDeclaredPrefixes k.now }
+    requires alike { AreOfOneRole k.now.strands s t }
     requires solved { AreSolved given.now.value }
     ensures { IfOk result (λ found. MatchOption found
-        (IsOfNoAssignment (λ g. Meets g given.now.value × EqualAt (skeleton_view k.now) s t g))
-        (λ r. IsExactFor (λ g. Meets g given.now.value × EqualAt (skeleton_view k.now) s t g) r.value)) }
+        (IsOfNoAssignment (λ g. Meets g given.now.value × EqualAt k.now s t g))
+        (λ r. IsExactFor (λ g. Meets g given.now.value × EqualAt k.now s t g) r.value)) }
 {
     let Some(first) = instance_at(k.strands(), s) else {
         unreachable!();
@@ -88,14 +87,14 @@ fn unify_block(
     block: usize,
     number: usize,
 ) -> Result<Option<Rc<Subst>>, AllocError>
-    requires declared { HasDeclaredPrefixes (skeleton_view k.now) }
-    requires partition { IsPartitionOfFirst (skeleton_view k.now) number partial.now.lowest.items }
-    requires exact { IsExact (skeleton_view k.now) partial.now }
+    requires declared { HasDeclaredPrefixes k.now }
+    requires partition { IsPartitionOfFirst k.now number partial.now.lowest.items }
+    requires exact { IsExact k.now partial.now }
     requires own { item_at partial.now.lowest.items block ≡ Some block }
-    requires alike { AreOfOneRole (skeleton_view k.now).strands number block }
+    requires alike { AreOfOneRole k.now.strands number block }
     ensures { IfOk result (λ found. MatchOption found
-        (IsNeverIdentified (skeleton_view k.now) (partial.now.lowest.items ++ (block ∷ [])))
-        (λ r. IsExactFor (IdentifiesValues (skeleton_view k.now) (partial.now.lowest.items ++ (block ∷ []))) r.value)) }
+        (IsNeverIdentified k.now (partial.now.lowest.items ++ (block ∷ [])))
+        (λ r. IsExactFor (IdentifiesValues k.now (partial.now.lowest.items ++ (block ∷ []))) r.value)) }
 {
     let mut bindings = partial.bindings.clone()?;
     for strand in 0..partial.lowest.len() {
@@ -148,13 +147,13 @@ fn join(
     block: usize,
     number: usize,
 ) -> Result<Option<Partial>, AllocError>
-    requires declared { HasDeclaredPrefixes (skeleton_view k.now) }
-    requires partition { IsPartitionOfFirst (skeleton_view k.now) number partial.now.lowest.items }
-    requires exact { IsExact (skeleton_view k.now) partial.now }
+    requires declared { HasDeclaredPrefixes k.now }
+    requires partition { IsPartitionOfFirst k.now number partial.now.lowest.items }
+    requires exact { IsExact k.now partial.now }
     requires earlier { block < number }
     ensures { IfOk result (λ found. MatchOption found
-        (MayNotJoin (skeleton_view k.now) number partial.now.lowest.items block)
-        (λ q. Joins (skeleton_view k.now) number partial.now.lowest.items block q)) }
+        (MayNotJoin k.now number partial.now.lowest.items block)
+        (λ q. Joins k.now number partial.now.lowest.items block q)) }
 {
     if !is_in_block(partial, block, block) {
         return Ok(None);
@@ -180,11 +179,11 @@ fn extend(
     number: usize,
     next: &mut Vec<Partial>,
 ) -> Result<(), AllocError>
-    requires declared { HasDeclaredPrefixes (skeleton_view k.now) }
-    requires partition { IsPartitionOfFirst (skeleton_view k.now) number partial.now.lowest.items }
-    requires exact { IsExact (skeleton_view k.now) partial.now }
+    requires declared { HasDeclaredPrefixes k.now }
+    requires partition { IsPartitionOfFirst k.now number partial.now.lowest.items }
+    requires exact { IsExact k.now partial.now }
     ensures { OnOk result ((ps : List (List ℕ)) (i : ℕ) → item_at ps i ≡ Some partial.now.lowest.items → AreDescending ps
-        → ArePartlyExtended (skeleton_view k.now) number ps i (number + 1) next.old.items → ArePartlyExtended (skeleton_view k.now) number ps i 0 next.new.items) }
+        → ArePartlyExtended k.now number ps i (number + 1) next.old.items → ArePartlyExtended k.now number ps i 0 next.new.items) }
 {
     next.push(alone(alloc, partial, number)?)?;
     for block in (0..number).rev() {
@@ -204,9 +203,9 @@ fn round(
     partials: &[Partial],
     number: usize,
 ) -> Result<Vec<Partial>, AllocError>
-    requires declared { HasDeclaredPrefixes (skeleton_view k.now) }
-    requires partials { ArePartials (skeleton_view k.now) number partials.now }
-    ensures { IfOk result (λ next. ArePartials (skeleton_view k.now) (number + 1) next.items) }
+    requires declared { HasDeclaredPrefixes k.now }
+    requires partials { ArePartials k.now number partials.now }
+    ensures { IfOk result (λ next. ArePartials k.now (number + 1) next.items) }
 {
     let mut next = Vec::new(alloc);
     for partial in partials {
@@ -217,8 +216,8 @@ fn round(
 
 /// The partitions of the strands into blocks of instances of one role whose values can be equal, in descending order.
 pub(crate) fn partitions(alloc: Global, k: &Skeleton) -> Result<Vec<Partial>, AllocError>
-    requires { HasDeclaredPrefixes (skeleton_view k.now) }
-    ensures { IfOk result (λ partials. ArePartials (skeleton_view k.now) (length (skeleton_view k.now).strands) partials.items) }
+    requires { HasDeclaredPrefixes k.now }
+    ensures { IfOk result (λ partials. ArePartials k.now (length k.now.strands) partials.items) }
 {
     let mut partials = Vec::new(alloc);
     partials.push(Partial {

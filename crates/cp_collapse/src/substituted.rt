@@ -3,8 +3,7 @@ ghost use Rattle.std.specs.Prelude.{◌≡◌, ◌↔◌, map, IsTrue, IfOk};
 ghost use Rattle.cp_model.specs.Term.{Substitution, apply_to, apply_to_atom};
 ghost use Rattle.cp_theory.specs.Normal.{unique_under, assumptions_under, from_problem_under, skeleton_under};
 ghost use Rattle.cp_unify.specs.Bindings.{as_substitution};
-ghost use Rattle.cp_strand.specs.View.{instance_as_data, strand_view};
-ghost use Rattle.cp_skel.specs.View.{skeleton_view};
+ghost use Rattle.cp_strand.specs.View.{instance_view};
 ghost use Rattle.cp_collapse.specs.SameSkeletons.{SaysTheSame};
 ghost use Rattle.cp_collapse.specs.Values.{declared_under};
 
@@ -115,8 +114,8 @@ fn with_values(
     instance: &Instance,
     values: Vec<Term>,
 ) -> Result<Strand, AllocError>
-    requires { strand.now ≡ instance_as_data instance.now }
-    ensures { IfOk result (λ t. t ≡ instance_as_data (record instance.now { values = values.items })) }
+    requires { strand.now ≡ instance_view instance.now }
+    ensures { IfOk result (λ t. t ≡ instance_view (record instance.now { values = values.items })) }
 {
     if are_same_terms(&values, instance.values()) {
         return strand.copy();
@@ -132,7 +131,7 @@ fn with_values(
 /// A strand under a substitution: applied to the term of each variable that the role of an instance declares, or to the message
 /// of a listener. If nothing changes in an instance, the strand is shared.
 pub(crate) fn strand_under(alloc: Global, strand: &Strand, s: &Subst) -> Result<Strand, AllocError>
-    ensures { IfOk result (λ t. strand_view t ≡ declared_under (as_substitution s.now) (strand_view strand.now)) }
+    ensures { IfOk result (λ t. t ≡ declared_under (as_substitution s.now) strand.now) }
 {
     match strand.shape() {
         StrandShape::Instance(instance) => {
@@ -145,7 +144,7 @@ pub(crate) fn strand_under(alloc: Global, strand: &Strand, s: &Subst) -> Result<
 }
 
 fn strands_under(alloc: Global, strands: &[Strand], s: &Subst) -> Result<Vec<Strand>, AllocError>
-    ensures { IfOk result (λ v. map strand_view v.items ≡ map (declared_under (as_substitution s.now)) (map strand_view strands.now)) }
+    ensures { IfOk result (λ v. v.items ≡ map (declared_under (as_substitution s.now)) strands.now) }
 {
     let mut changed = Vec::with_capacity(alloc, strands.len())?;
     for strand in strands {
@@ -156,7 +155,7 @@ fn strands_under(alloc: Global, strands: &[Strand], s: &Subst) -> Result<Vec<Str
 
 /// The skeleton under a substitution: it is applied to every term. Strands, nodes and pairs stay where they are.
 pub fn under(alloc: Global, k: &Skeleton, s: &Subst) -> Result<Skeleton, AllocError>
-    ensures same { IfOk result (λ l. SaysTheSame (skeleton_under (as_substitution s.now) (skeleton_view k.now)) (skeleton_view l)) }
+    ensures same { IfOk result (λ l. SaysTheSame (skeleton_under (as_substitution s.now) k.now) l) }
     ensures variables { IfOk result (λ l. l.variables ≡ k.now.variables) }
 {
     k.is_sound();

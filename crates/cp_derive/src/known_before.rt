@@ -4,7 +4,6 @@ ghost use Rattle.cp_model.specs.Derivable.{DerivableAt};
 ghost use Rattle.cp_model.specs.Skeleton.{IsNodeOf};
 ghost use Rattle.cp_model.specs.Term.{Term as Plain};
 ghost use Rattle.cp_skel.specs.Ordered.{IsOrdered};
-ghost use Rattle.cp_skel.specs.View.{skeleton_view};
 ghost use Rattle.cp_derive.specs.Before.{messages_at, transmissions_of, given_by};
 ghost use Rattle.cp_derive.specs.Given.{IsDerivable};
 ghost use Rattle.cp_derive.specs.Places.{AreSamePlaces};
@@ -72,13 +71,13 @@ pub(crate) fn known_before_at(
     node: Node,
     known_before: KnownBefore,
 ) -> Result<KnownBefore, AllocError>
-    requires ordered { IsOrdered (skeleton_view k.now) }
-    requires pairs { sorted.now ≡ k.now.order }
-    requires there { IsNodeOf (skeleton_view k.now).strands node }
-    requires all { transmissions.now ≡ transmissions_of (skeleton_view k.now) }
-    requires given { known_before.known ≡ given_by (skeleton_view k.now) known_before.places.items }
-    ensures given { IfOk result (λ f. f.known ≡ given_by (skeleton_view k.now) f.places.items) }
-    ensures at_node { IfOk result (λ f. (t : Plain) → DerivableAt (skeleton_view k.now) node t ↔ IsDerivable f.known t) }
+    requires ordered { IsOrdered k.now }
+    requires pairs { sorted.now ≡ k.now.pairs }
+    requires there { IsNodeOf k.now.strands node }
+    requires all { transmissions.now ≡ transmissions_of k.now }
+    requires given { known_before.known ≡ given_by k.now known_before.places.items }
+    ensures given { IfOk result (λ f. f.known ≡ given_by k.now f.places.items) }
+    ensures at_node { IfOk result (λ f. (t : Plain) → DerivableAt k.now node t ↔ IsDerivable f.known t) }
 {
     let places = places_before(alloc, sorted, transmissions, node)?;
     moved(alloc, transmissions, known_before, places)

@@ -1,7 +1,6 @@
 // Receptions whose messages are not derivable.
 ghost use Rattle.std.specs.Prelude.{◌≡◌, ◌<◌, length, IfOk};
 ghost use Rattle.cp_skel.specs.Ordered.{IsOrdered};
-ghost use Rattle.cp_skel.specs.View.{skeleton_view};
 ghost use Rattle.cp_derive.specs.Before.{transmissions_of, given_by};
 ghost use Rattle.cp_skel.specs.Events.{events_of};
 ghost use Rattle.cp_derive.specs.Picked.{AreEventsAmong, Picks};
@@ -23,13 +22,13 @@ fn unrealised_among(
     occurrences: &[LocatedEvent],
     mut known_before: KnownBefore,
 ) -> Result<(Vec<Node>, KnownBefore), AllocError>
-    requires ordered { IsOrdered (skeleton_view k.now) }
-    requires pairs { sorted.now ≡ k.now.order }
-    requires all { transmissions.now ≡ transmissions_of (skeleton_view k.now) }
-    requires among { AreEventsAmong occurrences.now (events_of (skeleton_view k.now)) }
-    requires given { known_before.known ≡ given_by (skeleton_view k.now) known_before.places.items }
-    ensures picks { IfOk result (λ r. Picks (skeleton_view k.now) occurrences.now r.0.items) }
-    ensures given { IfOk result (λ r. r.1.known ≡ given_by (skeleton_view k.now) r.1.places.items) }
+    requires ordered { IsOrdered k.now }
+    requires pairs { sorted.now ≡ k.now.pairs }
+    requires all { transmissions.now ≡ transmissions_of k.now }
+    requires among { AreEventsAmong occurrences.now (events_of k.now) }
+    requires given { known_before.known ≡ given_by k.now known_before.places.items }
+    ensures picks { IfOk result (λ r. Picks k.now occurrences.now r.0.items) }
+    ensures given { IfOk result (λ r. r.1.known ≡ given_by k.now r.1.places.items) }
 {
     let mut nodes = Vec::new(alloc);
     for occurrence in occurrences {
@@ -96,12 +95,12 @@ fn unrealised_by_strand(
     occurrences: &[LocatedEvent],
     mut known_before: KnownBefore,
 ) -> Result<Vec<Node>, AllocError>
-    requires ordered { IsOrdered (skeleton_view k.now) }
-    requires pairs { sorted.now ≡ k.now.order }
-    requires all { transmissions.now ≡ transmissions_of (skeleton_view k.now) }
-    requires listed { occurrences.now ≡ events_of (skeleton_view k.now) }
-    requires given { known_before.known ≡ given_by (skeleton_view k.now) known_before.places.items }
-    ensures { IfOk result (λ nodes. ListsUnrealised (skeleton_view k.now) nodes.items) }
+    requires ordered { IsOrdered k.now }
+    requires pairs { sorted.now ≡ k.now.pairs }
+    requires all { transmissions.now ≡ transmissions_of k.now }
+    requires listed { occurrences.now ≡ events_of k.now }
+    requires given { known_before.known ≡ given_by k.now known_before.places.items }
+    ensures { IfOk result (λ nodes. ListsUnrealised k.now nodes.items) }
 {
     let in_order = are_in_order(k.order().pairs());
     let mut nodes = Vec::new(alloc);
@@ -120,7 +119,7 @@ fn unrealised_by_strand(
 
 /// The receptions, listeners' included, whose messages are not derivable there, by strand, then by index.
 pub fn unrealised(alloc: Global, k: &Skeleton) -> Result<Vec<Node>, AllocError>
-    ensures listed { IfOk result (λ nodes. ListsUnrealised (skeleton_view k.now) nodes.items) }
+    ensures listed { IfOk result (λ nodes. ListsUnrealised k.now nodes.items) }
 {
     k.is_sound();
     let occurrences = k.events(alloc)?;

@@ -1,7 +1,8 @@
 -- Widening: the pattern that an added-strand child of a test gives.
 use Rattle.std.specs.Prelude.{◌≡◌, ◌⊎◌, ◌↔◌, ◌<◌, ℕ, suc, List, [], ◌∷◌, ◌++◌, length, Some}
 use Rattle.cp_lists.specs.Lists.{item_at, IsIn}
-use Rattle.cp_model.specs.Term.{KeyTerm, key_term, inverse_term, variables_of_key, Term, enc_term, variables_of, Substitution}
+use Rattle.cp_model.specs.Term.{KeyTerm, key_term, inverse_term, variables_of_key, Term, enc_term, variables_of}
+use Rattle.cp_model.specs.Bindings.{Binding}
 use Rattle.cp_model.specs.declared.variable.Variable.{Variable}
 use Rattle.cp_model.specs.SortNumbers.{sort_number}
 use Rattle.cp_model.specs.Strand.{Role}
@@ -29,7 +30,7 @@ pub record BindsNothing (k l : Skeleton) : Type 0 where
 pub record EndsBySending (k l : Skeleton) (message : Term) : Type 0 where
   pub role : Role
   pub index : ℕ
-  pub terms : Substitution
+  pub terms : List Binding
   pub last : item_at l.strands (length k.strands) ≡ Some (instance role (suc index) terms)
   pub sends : term_event_at l.strands (node_at (length k.strands) index) ≡ Some (send message)
 

@@ -7,7 +7,6 @@ ghost use Rattle.cp_model.specs.Pattern.{IsPattern};
 ghost use Rattle.cp_model.specs.Term.{Term as Plain};
 ghost use Rattle.cp_theory.specs.Critical.{IsTest};
 ghost use Rattle.cp_theory.specs.Guards.{Guards};
-ghost use Rattle.cp_skel.specs.View.{skeleton_view};
 ghost use Rattle.cp_escape.specs.ClosedEncryptions.{AreClosedBefore};
 ghost use Rattle.cp_escape.specs.Escape.{whole_pattern, IsEscape};
 ghost use Rattle.cp_escape.specs.Sent.{CarriesBefore};
@@ -27,9 +26,9 @@ fn closed_before(
     known: &Known,
     critical: &Term,
 ) -> Result<Vec<Term>, AllocError>
-    requires test { IsTest (skeleton_view k.now) node critical.now }
-    requires given { (t : Plain) → IsDerivable known.now t ↔ DerivableAt (skeleton_view k.now) node t }
-    ensures { IfOk result (λ es. AreClosedBefore (skeleton_view k.now) node critical.now es.items) }
+    requires test { IsTest k.now node critical.now }
+    requires given { (t : Plain) → IsDerivable known.now t ↔ DerivableAt k.now node t }
+    ensures { IfOk result (λ es. AreClosedBefore k.now node critical.now es.items) }
 {
     let mut encryptions = Vec::new(alloc);
     let leading = Predecessors::new(alloc, k.order().pairs(), node)?;
@@ -69,10 +68,10 @@ pub fn escape(
     node: Node,
     critical: &Term,
 ) -> Result<Vec<Pattern>, AllocError>
-    requires test { IsTest (skeleton_view k.now) node critical.now }
-    ensures exact { IfOk result (λ ps. IsEscape (skeleton_view k.now) node critical.now ps.items) }
-    ensures guards { IfOk result (λ ps. Guards ps.items (skeleton_view k.now) node critical.now) }
-    ensures empty { IfOk result (λ ps. (ps.items ≡ []) ↔ (CarriesBefore (skeleton_view k.now) node critical.now → ⊥)) }
+    requires test { IsTest k.now node critical.now }
+    ensures exact { IfOk result (λ ps. IsEscape k.now node critical.now ps.items) }
+    ensures guards { IfOk result (λ ps. Guards ps.items k.now node critical.now) }
+    ensures empty { IfOk result (λ ps. (ps.items ≡ []) ↔ (CarriesBefore k.now node critical.now → ⊥)) }
 {
     let known = known(alloc, k, node)?;
     let encryptions = closed_before(alloc, k, node, &known, critical)?;

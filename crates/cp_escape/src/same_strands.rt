@@ -1,10 +1,10 @@
 // Compares strands of two skeletons.
-ghost use Rattle.std.specs.Prelude.{◌≡◌, ◌↔◌, map, IsTrue, IfOk};
+ghost use Rattle.std.specs.Prelude.{◌≡◌, ◌↔◌, IsTrue, IfOk};
 ghost use Rattle.cp_collapse.specs.SameSkeletons.{IsSameStrand, AreSameStrands};
 ghost use Rattle.cp_model.specs.Homomorphism.{substitution_by};
 ghost use Rattle.cp_model.specs.Strand.{variables_of_trace};
 ghost use Rattle.cp_model.specs.Term.{AgreeOnTerms, apply_to};
-ghost use Rattle.cp_strand.specs.View.{instance_view, strand_view};
+ghost use Rattle.cp_strand.specs.View.{instance_view};
 
 use cp_collapse::are_same_terms;
 use cp_skel::{Event, Instance, Strand, StrandShape, applied, is_same_role, prefix_of};
@@ -56,7 +56,7 @@ fn is_same_instance(alloc: Global, a: &Instance, b: &Instance) -> Result<bool, A
 
 /// Whether two strands say the same.
 fn is_same_strand(alloc: Global, a: &Strand, b: &Strand) -> Result<bool, AllocError>
-    ensures { IfOk result (λ answer. IsTrue answer ↔ IsSameStrand (strand_view a.now) (strand_view b.now)) }
+    ensures { IfOk result (λ answer. IsTrue answer ↔ IsSameStrand a.now b.now) }
 {
     match (a.shape(), b.shape()) {
         (StrandShape::Instance(first), StrandShape::Instance(second)) => {
@@ -73,7 +73,7 @@ pub(crate) fn are_same_strands(
     a: &[Strand],
     b: &[Strand],
 ) -> Result<bool, AllocError>
-    ensures { IfOk result (λ answer. IsTrue answer ↔ AreSameStrands (map strand_view a.now) (map strand_view b.now)) }
+    ensures { IfOk result (λ answer. IsTrue answer ↔ AreSameStrands a.now b.now) }
 {
     if a.len() != b.len() {
         return Ok(false);

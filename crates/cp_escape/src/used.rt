@@ -2,12 +2,11 @@
 ghost use Rattle.std.specs.Prelude.{◌≡◌, ◌++◌, [], ◌∷◌, IfOk, OnOk};
 ghost use Rattle.cp_theory.specs.Normal.{variables_of_terms};
 ghost use Rattle.cp_theory.specs.Critical.{used_variables};
-ghost use Rattle.cp_model.specs.Problem.{variables_of_atoms, variables_of_uniques, variables_of_strands, variables_of_assumptions};
+ghost use Rattle.cp_model.specs.Problem.{variables_of_atoms, variables_of_uniques, variables_of_strands};
 ghost use Rattle.cp_model.specs.SortNumbers.{sort_number};
 ghost use Rattle.cp_model.specs.Strand.{variables_of_trace};
 ghost use Rattle.cp_model.specs.Term.{variables_of};
 ghost use Rattle.cp_model.specs.declared.sort.Sort.TheVariants.{Name as name_sort};
-ghost use Rattle.cp_skel.specs.View.{skeleton_view};
 ghost use Rattle.cp_escape.specs.UsedVariables.{variable_before, PutsNew};
 ghost use Rattle.cp_escape.specs.WidenedPattern.{AreNewVariables};
 
@@ -27,7 +26,7 @@ fn add_use(term: &Term, uses: &mut Vec<Event>) -> Result<(), AllocError>
 
 /// Appends the messages of the skeleton's strands.
 fn add_messages(alloc: Global, k: &Skeleton, uses: &mut Vec<Event>) -> Result<(), AllocError>
-    ensures { OnOk result (variables_of_trace uses.new.items ≡ variables_of_trace uses.old.items ++ variables_of_strands (skeleton_view k.now).strands) }
+    ensures { OnOk result (variables_of_trace uses.new.items ≡ variables_of_trace uses.old.items ++ variables_of_strands k.now.strands) }
 {
     let occurrences = k.events(alloc)?;
     for occurrence in &occurrences {
@@ -68,7 +67,7 @@ fn add_terms(terms: &[Term], uses: &mut Vec<Event>) -> Result<(), AllocError>
 
 /// The terms of the skeleton's strands, of its assumptions and of its map from the problem, as events.
 fn uses_of(alloc: Global, k: &Skeleton) -> Result<Vec<Event>, AllocError>
-    ensures { IfOk result (λ uses. variables_of_trace uses.items ≡ used_variables (skeleton_view k.now)) }
+    ensures { IfOk result (λ uses. variables_of_trace uses.items ≡ used_variables k.now) }
 {
     let assumptions = k.assumptions();
     let mut uses = Vec::new(alloc);
@@ -153,7 +152,7 @@ fn put_all_new(uses: &[Event], term: &Term, new: &mut Vec<Variable>) -> Result<(
 /// The variables of the term that the skeleton does not use, in ascending order of their numbers; those with one number in the
 /// order of their sorts.
 pub(crate) fn new_variables(alloc: Global, k: &Skeleton, term: &Term) -> Result<Locals, AllocError>
-    ensures { IfOk result (AreNewVariables (skeleton_view k.now) term.now) }
+    ensures { IfOk result (AreNewVariables k.now term.now) }
 {
     let uses = uses_of(alloc, k)?;
     let mut new = Vec::new(alloc);

@@ -1,9 +1,8 @@
 // The pattern that a child with an added strand contributes.
-ghost use Rattle.std.specs.Prelude.{◌≡◌, ◌↔◌, ◌++◌, ◌∷◌, [], map, length, IsTrue, IfOk, IfSome, IfNone};
+ghost use Rattle.std.specs.Prelude.{◌↔◌, [], IsTrue, IfOk, IfSome, IfNone};
 ghost use Rattle.cp_theory.specs.Above.{encryptions_above};
 ghost use Rattle.cp_model.specs.Term.{Term as PlainTerm};
 ghost use Rattle.cp_model.specs.Tree.{Pattern as Plain};
-ghost use Rattle.cp_skel.specs.View.{skeleton_view};
 ghost use Rattle.cp_escape.specs.Escape.{IsFirstWith};
 ghost use Rattle.cp_escape.specs.WidenedPattern.{BindsNothing, EndsBySending, StaysClosed, WidensBy};
 
@@ -18,7 +17,7 @@ use std::alloc::{AllocError, Global};
 /// Whether the child binds no variable of the skeleton: it has one strand more, and says the same of the other strands and of the
 /// problem.
 fn binds_nothing(alloc: Global, k: &Skeleton, child: &Skeleton) -> Result<bool, AllocError>
-    ensures { IfOk result (λ answer. IsTrue answer ↔ BindsNothing (skeleton_view k.now) (skeleton_view child.now)) }
+    ensures { IfOk result (λ answer. IsTrue answer ↔ BindsNothing k.now child.now) }
 {
     let Some((_, old)) = child.strands().split_last() else {
         return Ok(false);
@@ -35,8 +34,8 @@ fn binds_nothing(alloc: Global, k: &Skeleton, child: &Skeleton) -> Result<bool, 
 
 /// The message of the child's last strand, if that is an added one that ends with a transmission.
 fn last_sent(alloc: Global, k: &Skeleton, child: &Skeleton) -> Result<Option<Term>, AllocError>
-    ensures some { IfOk result (λ answer. IfSome answer (λ t. EndsBySending (skeleton_view k.now) (skeleton_view child.now) t)) }
-    ensures none { IfOk result (λ answer. IfNone answer ((t : PlainTerm) → EndsBySending (skeleton_view k.now) (skeleton_view child.now) t → ⊥)) }
+    ensures some { IfOk result (λ answer. IfSome answer (λ t. EndsBySending k.now child.now t)) }
+    ensures none { IfOk result (λ answer. IfNone answer ((t : PlainTerm) → EndsBySending k.now child.now t → ⊥)) }
 {
     let Some(strand) = child.strands().get(k.strands().len()) else {
         return Ok(None);
@@ -57,7 +56,7 @@ fn last_sent(alloc: Global, k: &Skeleton, child: &Skeleton) -> Result<Option<Ter
 
 /// Whether an encryption stays closed wherever the skeleton stands.
 fn stays_closed(alloc: Global, k: &Skeleton, term: &Term) -> Result<bool, AllocError>
-    ensures { IfOk result (λ answer. IsTrue answer ↔ StaysClosed (skeleton_view k.now) term.now) }
+    ensures { IfOk result (λ answer. IsTrue answer ↔ StaysClosed k.now term.now) }
 {
     let Shape::Encryption(_, key) = term.shape() else {
         return Ok(false);
@@ -75,8 +74,8 @@ fn outermost_staying(
     message: &Term,
     path: &Path,
 ) -> Result<Option<Term>, AllocError>
-    ensures some { IfOk result (λ answer. IfSome answer (λ e. IsFirstWith (StaysClosed (skeleton_view k.now)) (encryptions_above message.now path.now) e)) }
-    ensures none { IfOk result (λ answer. IfNone answer ((e : PlainTerm) → IsFirstWith (StaysClosed (skeleton_view k.now)) (encryptions_above message.now path.now) e → ⊥)) }
+    ensures some { IfOk result (λ answer. IfSome answer (λ e. IsFirstWith (StaysClosed k.now) (encryptions_above message.now path.now) e)) }
+    ensures none { IfOk result (λ answer. IfNone answer ((e : PlainTerm) → IsFirstWith (StaysClosed k.now) (encryptions_above message.now path.now) e → ⊥)) }
 {
     let encryptions = encryptions_above(alloc, message, path.as_slice())?;
     for encryption in &encryptions {
@@ -100,8 +99,8 @@ pub fn widen(
     child: &Skeleton,
     path: &Path,
 ) -> Result<Option<Pattern>, AllocError>
-    ensures some { IfOk result (λ answer. IfSome answer (λ p. WidensBy (skeleton_view k.now) (skeleton_view child.now) path.now p)) }
-    ensures none { IfOk result (λ answer. IfNone answer ((p : Plain) → WidensBy (skeleton_view k.now) (skeleton_view child.now) path.now p → ⊥)) }
+    ensures some { IfOk result (λ answer. IfSome answer (λ p. WidensBy k.now child.now path.now p)) }
+    ensures none { IfOk result (λ answer. IfNone answer ((p : Plain) → WidensBy k.now child.now path.now p → ⊥)) }
 {
     if !binds_nothing(alloc, k, child)? {
         return Ok(None);

@@ -1,7 +1,8 @@
 -- Tables of variables that grow.
 use Rattle.std.proofs.Common.{◌≡◌, ℕ, zero, suc, ◌+◌, List, [], ◌∷◌, ◌++◌, length, take, slice_get, Some, refl, sym, ap, ◌∙◌, add-one}
 use Rattle.cp_model.specs.declared.variable.Declaration.{Declaration}
-use Rattle.cp_model.specs.Data.{roots, sorts, SkeletonData}
+use Rattle.cp_model.specs.Skeleton.{Skeleton}
+use Rattle.cp_model.specs.Data.{roots, sorts}
 use Rattle.cp_model.specs.declared.sort.Sort.{Sort}
 
 next_at : (vs : List Declaration) (n : ℕ) (root : List ℕ) (sort : Sort) → slice_get (roots vs) n ≡ Some root → slice_get (sorts vs) n ≡ Some sort → take n vs ++ record { identifier = root; sort = sort } ∷ [] ≡ take (suc n) vs
@@ -19,10 +20,10 @@ pub first_declared : (vs more : List Declaration) → take (length vs) (vs ++ mo
 first_declared [] more = refl
 first_declared (v ∷ vs) more = ap (λ ws. v ∷ ws) (first_declared vs more)
 
-pub one_more : (k : SkeletonData) (vs : List Declaration) (n : ℕ) (old new : SkeletonData) (id : ℕ) (root : List ℕ) (sort : Sort) → old ≡ record k { variables = take n vs } → id ≡ n → slice_get (roots vs) id ≡ Some root → slice_get (sorts vs) id ≡ Some sort
+pub one_more : (k : Skeleton) (vs : List Declaration) (n : ℕ) (old new : Skeleton) (id : ℕ) (root : List ℕ) (sort : Sort) → old ≡ record k { variables = take n vs } → id ≡ n → slice_get (roots vs) id ≡ Some root → slice_get (sorts vs) id ≡ Some sort
     → new ≡ record old { variables = old.variables ++ record { identifier = root; sort = sort } ∷ [] } → new ≡ record k { variables = take (n + 1) vs }
 one_more k vs n old new id root sort before is e f grows =
     let e' : slice_get (roots vs) n ≡ Some root = rw is at e in
     let f' : slice_get (sorts vs) n ≡ Some sort = rw is at f in
-    let grown : new ≡ record k { variables = take n vs ++ record { identifier = root; sort = sort } ∷ [] } = grows ∙ ap (λ (o : SkeletonData). record o { variables = o.variables ++ record { identifier = root; sort = sort } ∷ [] }) before in
+    let grown : new ≡ record k { variables = take n vs ++ record { identifier = root; sort = sort } ∷ [] } = grows ∙ ap (λ (o : Skeleton). record o { variables = o.variables ++ record { identifier = root; sort = sort } ∷ [] }) before in
     grown ∙ ap (λ ws. record k { variables = ws }) (next_declared vs n root sort e' f')

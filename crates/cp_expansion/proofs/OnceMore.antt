@@ -1,6 +1,5 @@
 -- What is asked for as patterns are added, one after the other.
-use Rattle.std.proofs.Common.{◌≡◌, ℕ, ◌<◌, List, [], ◌∷◌, ◌++◌, length, map, Option, Some, None, Result, Ok, Err, IfOk, refl, sym, ap, subst, ◌∙◌}
-use Rattle.std.proofs.lemmas.List.{length-map}
+use Rattle.std.proofs.Common.{◌≡◌, ℕ, ◌<◌, List, [], ◌∷◌, ◌++◌, length, Option, Some, None, Result, Ok, Err, IfOk, refl, sym, ap, subst, ◌∙◌}
 use Rattle.cp_lists.specs.Lists.{item_at, IsIn}
 use Rattle.cp_lists.proofs.Items.{item_below, item_still, at_place}
 use Rattle.cp_model.specs.Term.{Term}
@@ -12,26 +11,23 @@ use Rattle.cp_model.specs.Skeleton.{Skeleton}
 use Rattle.cp_model.specs.Problem.{declared_sort, IsDeclared}
 use Rattle.cp_model.specs.PointOfView.{HasDeclaredVariables}
 use Rattle.cp_model.specs.Tree.{Pattern}
-use Rattle.cp_model.specs.Data.{SkeletonData}
-use Rattle.cp_skel.specs.View.{skeleton_view}
-use Rattle.cp_cohort.specs.CoveringChildren.{Child}
-use Rattle.cp_cohort.specs.Cohort.{GuardedTest}
+use Rattle.cp_cohort.specs.declared.child.Child.{Child}
+use Rattle.cp_cohort.specs.Cohort.{GuardedTest, guarded_test_of}
 use Rattle.cp_cohort.specs.Way.{DeclaresMore}
-use Rattle.cp_cohort.specs.Views.{guarded_test_of, child_view}
-use Rattle.cp_cohort.specs.declared.child.Child as program
 use Rattle.cp_expansion.specs.Expansion.{asked_under, AreWidened}
 use Rattle.cp_expansion.specs.Widened.{IsGiven}
+use Rattle.cp_expansion.proofs.Tables.{declared_in_table}
 
 -- ---- the child that widens
 
-pub place_below : (k : Skeleton) (cs : List program.Child) (place : ℕ) (p : Pattern) → IsGiven k (map child_view cs) place p → place < length cs
-place_below k cs place p g = rw (length-map cs child_view) at (item_below (map child_view cs) place g.child g.at)
+pub place_below : (k : Skeleton) (cs : List Child) (place : ℕ) (p : Pattern) → IsGiven k cs place p → place < length cs
+place_below k cs place p g = item_below cs place g.child g.at
 
-pub given_child : (k : Skeleton) (cs : List program.Child) (place : ℕ) (p : Pattern) (c : program.Child) → (g : IsGiven k (map child_view cs) place p) → item_at (map child_view cs) place ≡ Some (child_view c) → g.child ≡ child_view c
-given_child k cs place p c g at = let e : Some g.child ≡ Some (child_view c) = sym g.at ∙ at in cc
+pub given_child : (k : Skeleton) (cs : List Child) (place : ℕ) (p : Pattern) (c : Child) → (g : IsGiven k cs place p) → item_at cs place ≡ Some c → g.child ≡ c
+given_child k cs place p c g at = let e : Some g.child ≡ Some c = sym g.at ∙ at in cc
 
-pub listed_child : (k : Skeleton) (cs : List program.Child) (place : ℕ) (p : Pattern) → (g : IsGiven k (map child_view cs) place p) → IsIn g.child (map child_view cs)
-listed_child k cs place p g = at_place (map child_view cs) place g.child g.at
+pub listed_child : (k : Skeleton) (cs : List Child) (place : ℕ) (p : Pattern) → (g : IsGiven k cs place p) → IsIn g.child cs
+listed_child k cs place p g = at_place cs place g.child g.at
 
 -- ---- tables
 
@@ -51,34 +47,32 @@ declared_more ds es k m h = record {
 -- ---- the next test
 
 -- One pattern more, and the table of the child that gives it.
-pub record IsNext (k grown : SkeletonData) (old new : List Pattern) (cs : List program.Child) (place : ℕ) (p : Pattern) (child : program.Child) : Type 0 where
-  pub given : IsGiven (skeleton_view k) (map child_view cs) place p
-  pub read : item_at (map child_view cs) place ≡ Some (child_view child)
-  pub sound : (c : Child) → IsIn c (map child_view cs) → DeclaresMore k.variables c.variables
+pub record IsNext (k grown : Skeleton) (old new : List Pattern) (cs : List Child) (place : ℕ) (p : Pattern) (child : Child) : Type 0 where
+  pub given : IsGiven k cs place p
+  pub read : item_at cs place ≡ Some child
+  pub sound : (c : Child) → IsIn c cs → DeclaresMore k.variables c.skeleton.variables
   pub grew : grown ≡ record k { variables = child.skeleton.variables }
   pub pushed : new ≡ old ++ p ∷ []
 
-pub grown_skeleton : (k grown : SkeletonData) (vs : List Declaration) → grown ≡ record k { variables = vs } → skeleton_view k ≡ skeleton_view grown
-grown_skeleton k grown vs grew = sym (ap skeleton_view grew)
-
-pub grown_declared : (k grown : SkeletonData) (old new : List Pattern) (cs : List program.Child) (place : ℕ) (p : Pattern) (child : program.Child) → IsNext k grown old new cs place p child → HasDeclaredVariables k.variables (skeleton_view k)
-    → HasDeclaredVariables grown.variables (skeleton_view grown)
+pub grown_declared : (k grown : Skeleton) (old new : List Pattern) (cs : List Child) (place : ℕ) (p : Pattern) (child : Child) → IsNext k grown old new cs place p child → HasDeclaredVariables k.variables k
+    → HasDeclaredVariables grown.variables grown
 grown_declared k grown old new cs place p child n h =
-    let is : n.given.child ≡ child_view child = given_child (skeleton_view k) cs place p child n.given n.read in
-    let more : DeclaresMore k.variables child.skeleton.variables = subst (λ (c : Child). DeclaresMore k.variables c.variables) is (n.sound n.given.child (listed_child (skeleton_view k) cs place p n.given)) in
-    subst (λ (s : SkeletonData). HasDeclaredVariables s.variables (skeleton_view s)) (sym n.grew) (declared_more k.variables child.skeleton.variables (skeleton_view k) more h)
+    let is : n.given.child ≡ child = given_child k cs place p child n.given n.read in
+    let more : DeclaresMore k.variables child.skeleton.variables = subst (λ (c : Child). DeclaresMore k.variables c.skeleton.variables) is (n.sound n.given.child (listed_child k cs place p n.given)) in
+    subst (λ (s : Skeleton). HasDeclaredVariables s.variables s) (sym n.grew)
+    (declared_in_table k (record k { variables = child.skeleton.variables }) refl child.skeleton.variables (declared_more k.variables child.skeleton.variables k more h))
 
-pub table_behind : (k : SkeletonData) (cs : List program.Child) (place : ℕ) (p : Pattern) (child : program.Child) (vs : List Declaration) → (g : IsGiven (skeleton_view k) (map child_view cs) place p) → item_at (map child_view cs) place ≡ Some (child_view child)
-    → ((c : Child) → IsIn c (map child_view cs) → DeclaresMore k.variables c.variables) → vs ≡ child.skeleton.variables → (rest : List Declaration) × (vs ≡ k.variables ++ rest)
+pub table_behind : (k : Skeleton) (cs : List Child) (place : ℕ) (p : Pattern) (child : Child) (vs : List Declaration) → (g : IsGiven k cs place p) → item_at cs place ≡ Some child
+    → ((c : Child) → IsIn c cs → DeclaresMore k.variables c.skeleton.variables) → vs ≡ child.skeleton.variables → (rest : List Declaration) × (vs ≡ k.variables ++ rest)
 table_behind k cs place p child vs g at sound is =
-    let same : g.child ≡ child_view child = given_child (skeleton_view k) cs place p child g at in
-    let more : DeclaresMore k.variables child.skeleton.variables = subst (λ (c : Child). DeclaresMore k.variables c.variables) same (sound g.child (listed_child (skeleton_view k) cs place p g)) in
+    let same : g.child ≡ child = given_child k cs place p child g at in
+    let more : DeclaresMore k.variables child.skeleton.variables = subst (λ (c : Child). DeclaresMore k.variables c.skeleton.variables) same (sound g.child (listed_child k cs place p g)) in
     (more.more, is ∙ more.behind)
 
-pub next_test : (k grown : SkeletonData) (n : Node) (c : Term) (old new : List Pattern) (p : Pattern) (child : program.Child) (g : Child) → g ≡ child_view child → grown ≡ record k { variables = child.skeleton.variables } → new ≡ old ++ p ∷ []
+pub next_test : (k grown : Skeleton) (n : Node) (c : Term) (old new : List Pattern) (p : Pattern) (child : Child) (g : Child) → g ≡ child → grown ≡ record k { variables = child.skeleton.variables } → new ≡ old ++ p ∷ []
     → guarded_test_of grown n c new ≡ asked_under (guarded_test_of k n c old) g p
 next_test k grown n c old new p child g is grew pushed =
-    ap (λ (s : SkeletonData). guarded_test_of s n c new) grew
+    ap (λ (s : Skeleton). guarded_test_of s n c new) grew
     ∙ ap (λ (ps : List Pattern). guarded_test_of (record k { variables = child.skeleton.variables }) n c ps) pushed
     ∙ ap (λ (d : Child). asked_under (guarded_test_of k n c old) d p) (sym is)
 
@@ -86,7 +80,3 @@ pub if_widened : {A E : Type 0} (protocol : Protocol) (first next : GuardedTest)
     → IfOk r (λ a. AreWidened protocol next (last a) (children a)) → IfOk r (λ a. AreWidened protocol first (last a) (children a))
 if_widened protocol first next last children (Ok a) on h = on (last a) (children a) h
 if_widened protocol first next last children (Err e) on h = tt
-
-pub if_same : {A E : Type 0} {B : Type 0} (f : A → B) (b c : B) (r : Result A E) → b ≡ c → IfOk r (λ a. f a ≡ b) → IfOk r (λ a. f a ≡ c)
-if_same f b c (Ok a) e h = h ∙ e
-if_same f b c (Err x) e h = tt

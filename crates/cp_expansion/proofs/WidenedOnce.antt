@@ -3,7 +3,7 @@ use Rattle.std.proofs.Common.{◌≡◌, ℕ, zero, suc, ◌<◌, ◌≤◌, Lis
 use Rattle.cp_lists.specs.Lists.{item_at, IsIn}
 use Rattle.cp_model.specs.Strand.{Protocol}
 use Rattle.cp_model.specs.Tree.{Pattern}
-use Rattle.cp_cohort.specs.CoveringChildren.{Child}
+use Rattle.cp_cohort.specs.declared.child.Child.{Child}
 use Rattle.cp_cohort.specs.Cohort.{GuardedTest, IsCohort}
 use Rattle.cp_escape.specs.Escape.{IsFirstWith, in_front, further}
 use Rattle.cp_expansion.specs.Expansion.{IsWidening, asked_under, AreWidened, has_most, none_widens, one_widens}

@@ -2,12 +2,12 @@
 use Rattle.std.specs.Prelude.{◌≡◌, ◌<◌, ◌≤◌, ℕ, List, [], ◌∷◌, ◌++◌, length}
 use Rattle.cp_lists.specs.Lists.{IsIn}
 use Rattle.cp_model.specs.Strand.{Protocol}
-use Rattle.cp_model.specs.declared.variable.Declaration.{Declaration}
 use Rattle.cp_model.specs.Skeleton.{Skeleton}
 use Rattle.cp_model.specs.Tree.{Pattern, Test}
 use Rattle.cp_model.specs.declared.tree.Operation.TheVariants.{AddedStrand as by_added_strand}
-use Rattle.cp_cohort.specs.CoveringChildren.{Child}
-use Rattle.cp_cohort.specs.Cohort.{GuardedTest, IsCohort}
+use Rattle.cp_skel.specs.Tables.{DiffersInTable}
+use Rattle.cp_cohort.specs.declared.child.Child.{Child}
+use Rattle.cp_cohort.specs.Cohort.{GuardedTest, guarded_test_of, IsCohort}
 use Rattle.cp_escape.specs.Escape.{IsFirstWith, IsEscape}
 use Rattle.cp_escape.specs.WidenedPattern.{WidensBy}
 use Rattle.cp_expansion.specs.ChosenTest.{IsTestOf}
@@ -21,7 +21,7 @@ pub record IsWidening (q : GuardedTest) (c : Child) : Type 0 where
 
 -- The test under one pattern more, where the variables of the child from which that comes are declared.
 abbrev pub asked_under : GuardedTest → Child → Pattern → GuardedTest
-asked_under q c p = record q { variables = c.variables; patterns = q.patterns ++ p ∷ [] }
+asked_under q c p = record q { skeleton = record q.skeleton { variables = c.skeleton.variables }; patterns = q.patterns ++ p ∷ [] }
 
 -- The most patterns of a set that is widened is one less.
 abbrev pub most_patterns : ℕ
@@ -36,20 +36,21 @@ pub data AreWidened (protocol : Protocol) : GuardedTest → GuardedTest → List
   one_widens : {q last : GuardedTest} {before children : List Child} {c : Child} → length q.patterns < most_patterns → IsCohort protocol q before → IsFirstWith (IsWidening q) before c → (w : IsWidening q c)
       → AreWidened protocol (asked_under q c w.pattern) last children → AreWidened protocol q last children
 
--- A test with the patterns under which its children are made; the variables are those of the skeleton with those of the locals.
+-- A test with the patterns under which its children are made, and the skeleton, which declares the locals of the patterns too.
 pub record Expansion : Type 0 where
   pub test : Test
-  pub variables : List Declaration
+  pub skeleton : Skeleton
   pub patterns : List Pattern
   pub children : List Child
 
--- The test that is asked of a skeleton first: under the patterns of the escape set.
-abbrev pub guarded_test_about : List Declaration → Skeleton → Test → List Pattern → GuardedTest
-guarded_test_about variables k t ps = record { variables = variables; skeleton = k; node = t.node; critical = t.critical; patterns = ps }
+-- The test of a skeleton under these patterns.
+abbrev pub guarded_test_about : Skeleton → Test → List Pattern → GuardedTest
+guarded_test_about k t ps = guarded_test_of k t.node t.critical ps
 
--- The expansion of the skeleton, which has these variables.
-pub record IsExpansionOf (protocol : Protocol) (variables : List Declaration) (k : Skeleton) (e : Expansion) : Type 0 where
+-- The expansion of the skeleton: its test is asked first under the patterns of the escape set. Nothing but variables is added.
+pub record IsExpansionOf (protocol : Protocol) (k : Skeleton) (e : Expansion) : Type 0 where
   pub test : IsTestOf k e.test.node e.test.critical
   pub escape : List Pattern
   pub is_escape : IsEscape k e.test.node e.test.critical escape
-  pub widened : AreWidened protocol (guarded_test_about variables k e.test escape) (guarded_test_about e.variables k e.test e.patterns) e.children
+  pub widened : AreWidened protocol (guarded_test_about k e.test escape) (guarded_test_about e.skeleton e.test e.patterns) e.children
+  pub table : DiffersInTable k e.skeleton

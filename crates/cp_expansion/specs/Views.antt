@@ -1,8 +1,6 @@
 -- What expansions of the program stand for.
-use Rattle.std.specs.Prelude.{map}
 use Rattle.cp_model.specs.Tree.{Test}
-use Rattle.cp_cohort.specs.Cohort.{GuardedTest}
-use Rattle.cp_cohort.specs.Views.{guarded_test_of, child_view}
+use Rattle.cp_cohort.specs.Cohort.{GuardedTest, guarded_test_of}
 use Rattle.cp_expansion.specs.declared.expansion.Expansion as program
 use Rattle.cp_expansion.specs.Expansion.{Expansion}
 
@@ -11,5 +9,5 @@ abbrev pub last_test : Test → program.Expansion → GuardedTest
 last_test t e = guarded_test_of e.skeleton t.node t.critical e.patterns.items
 
 -- The expansion by this test.
-abbrev pub expansion_view : Test → program.Expansion → Expansion
-expansion_view t e = record { test = t; variables = e.skeleton.variables; patterns = e.patterns.items; children = map child_view e.children.items }
+abbrev pub expansion_by : Test → program.Expansion → Expansion
+expansion_by t e = record { test = t; skeleton = e.skeleton; patterns = e.patterns.items; children = e.children.items }

@@ -1,13 +1,11 @@
 -- Which child widens a set of patterns, as the program finds it.
-use Rattle.std.specs.Prelude.{◌≡◌, ◌<◌, ℕ, List, Option, Some, None, map}
+use Rattle.std.specs.Prelude.{◌≡◌, ◌<◌, ℕ, List, Option, Some, None}
 use Rattle.cp_lists.specs.Lists.{item_at, IsIn}
 use Rattle.cp_model.specs.Skeleton.{Skeleton}
 use Rattle.cp_model.specs.Tree.{Pattern}
 use Rattle.cp_model.specs.declared.tree.Operation.TheVariants.{AddedStrand as by_added_strand}
-use Rattle.cp_cohort.specs.CoveringChildren.{Child}
+use Rattle.cp_cohort.specs.declared.child.Child.{Child}
 use Rattle.cp_escape.specs.WidenedPattern.{WidensBy}
-use Rattle.cp_cohort.specs.Views.{child_view}
-use Rattle.cp_cohort.specs.declared.child.Child as children
 use Rattle.cp_expansion.specs.declared.widening_child.Widening.{Widening}
 
 -- The child, with which a strand was added, gives this pattern.
@@ -24,6 +22,6 @@ pub record IsGiven (k : Skeleton) (cs : List Child) (place : ℕ) (p : Pattern) 
   pub first : (i : ℕ) (c : Child) (q : Pattern) → i < place → item_at cs i ≡ Some c → GivesPattern k c q → ⊥
 
 -- The first of the children that gives a pattern, with the pattern; none where none gives one.
-abbrev pub FindsWidening : Skeleton → List children.Child → Option Widening → Type 0
-FindsWidening k cs None = (c : Child) (q : Pattern) → IsIn c (map child_view cs) → GivesPattern k c q → ⊥
-FindsWidening k cs (Some w) = IsGiven k (map child_view cs) w.child w.pattern
+abbrev pub FindsWidening : Skeleton → List Child → Option Widening → Type 0
+FindsWidening k cs None = (c : Child) (q : Pattern) → IsIn c cs → GivesPattern k c q → ⊥
+FindsWidening k cs (Some w) = IsGiven k cs w.child w.pattern

@@ -1,6 +1,5 @@
 // The test of an unrealised skeleton.
 ghost use Rattle.std.specs.Prelude.{◌≡◌, ◌↔◌, [], IfOk, IsNone, IfSome};
-ghost use Rattle.cp_skel.specs.View.{skeleton_view};
 ghost use Rattle.cp_derive.specs.Unrealised.{ListsUnrealised};
 ghost use Rattle.cp_expansion.specs.ChosenNode.{listens_at, chosen};
 ghost use Rattle.cp_expansion.specs.ChosenTest.{IsTestOf};
@@ -11,7 +10,7 @@ use std::alloc::{AllocError, Global};
 
 /// Whether the node is on a listener.
 fn is_on_listener(k: &Skeleton, node: Node) -> bool
-    ensures { result ≡ listens_at (skeleton_view k.now) node }
+    ensures { result ≡ listens_at k.now node }
 {
     match k.strands().get(node.strand) {
         Some(strand) => match strand.shape() {
@@ -24,7 +23,7 @@ fn is_on_listener(k: &Skeleton, node: Node) -> bool
 
 /// The last of the nodes that is on a listener; if none is, the first node.
 fn chosen(k: &Skeleton, nodes: &[Node]) -> Option<Node>
-    ensures { result ≡ chosen (skeleton_view k.now) nodes.now }
+    ensures { result ≡ chosen k.now nodes.now }
 {
     let mut chosen = nodes.first().copied();
     for node in nodes {
@@ -40,8 +39,8 @@ fn chosen(k: &Skeleton, nodes: &[Node]) -> Option<Node>
 /// is none, the unrealised node of the lowest strand, and there of the lowest index. The term is the first component of the
 /// message received there that is not derivable. `None` exactly if no reception is unrealised.
 pub fn test_of(alloc: Global, k: &Skeleton, unrealised: &[Node]) -> Result<Option<Test>, AllocError>
-    requires listed { ListsUnrealised (skeleton_view k.now) unrealised.now }
-    ensures test { IfOk result (λ t. IfSome t (λ t. IsTestOf (skeleton_view k.now) t.node t.critical)) }
+    requires listed { ListsUnrealised k.now unrealised.now }
+    ensures test { IfOk result (λ t. IfSome t (λ t. IsTestOf k.now t.node t.critical)) }
     ensures none { IfOk result (λ t. IsNone t ↔ (unrealised.now ≡ [])) }
 {
     let Some(node) = chosen(k, unrealised) else {

@@ -1,16 +1,16 @@
 // Expansions of unrealised skeletons.
-ghost use Rattle.std.specs.Prelude.{◌≡◌, List, map, IfOk};
+ghost use Rattle.std.specs.Prelude.{IfOk};
 ghost use Rattle.cp_lists.specs.Lists.{IsIn};
 ghost use Rattle.cp_theory.specs.Critical.{IsTest};
 ghost use Rattle.cp_theory.specs.Guards.{Guards};
 ghost use Rattle.cp_model.specs.Skeleton.{IsSkeleton};
 ghost use Rattle.cp_model.specs.PointOfView.{HasDeclaredVariables};
-ghost use Rattle.cp_skel.specs.View.{skeleton_view};
-ghost use Rattle.cp_cohort.specs.CoveringChildren.{Child as PlainChild};
-ghost use Rattle.cp_cohort.specs.Views.{child_view, guarded_test_of};
+ghost use Rattle.cp_cohort.specs.declared.child.Child.{Child as PlainChild};
+ghost use Rattle.cp_cohort.specs.Cohort.{guarded_test_of};
+ghost use Rattle.cp_skel.specs.Tables.{DiffersInTable};
 ghost use Rattle.cp_expansion.specs.Expansion.{AreWidened, IsExpansionOf};
 ghost use Rattle.cp_expansion.specs.ChosenTest.{IsTestOf};
-ghost use Rattle.cp_expansion.specs.Views.{last_test, expansion_view};
+ghost use Rattle.cp_expansion.specs.Views.{last_test, expansion_by};
 
 use crate::variable_tables::with_variables;
 use crate::widening_child::first_widening;
@@ -41,13 +41,13 @@ fn widened(
     test: &Test,
     mut patterns: Vec<Pattern>,
 ) -> Result<Expansion, AllocError>
-    requires skeleton { IsSkeleton protocol.now (skeleton_view k.now) }
-    requires declared { HasDeclaredVariables k.now.variables (skeleton_view k.now) }
-    requires test { IsTest (skeleton_view k.now) test.now.node test.now.critical }
-    requires guards { Guards patterns.items (skeleton_view k.now) test.now.node test.now.critical }
-    ensures widened { IfOk result (λ e. AreWidened protocol.now (guarded_test_of k.now test.now.node test.now.critical patterns.items) (last_test test.now e) (map child_view e.children.items)) }
-    ensures same { IfOk result (λ e. skeleton_view e.skeleton ≡ skeleton_view k.now) }
-    ensures sound { IfOk result (λ e. (c : PlainChild) → IsIn c (map child_view e.children.items) → IsSkeleton protocol.now c.skeleton × HasDeclaredVariables c.variables c.skeleton) }
+    requires skeleton { IsSkeleton protocol.now k.now }
+    requires declared { HasDeclaredVariables k.now.variables k.now }
+    requires test { IsTest k.now test.now.node test.now.critical }
+    requires guards { Guards patterns.items k.now test.now.node test.now.critical }
+    ensures widened { IfOk result (λ e. AreWidened protocol.now (guarded_test_of k.now test.now.node test.now.critical patterns.items) (last_test test.now e) e.children.items) }
+    ensures table { IfOk result (λ e. DiffersInTable k.now e.skeleton) }
+    ensures sound { IfOk result (λ e. (c : PlainChild) → IsIn c e.children.items → IsSkeleton protocol.now c.skeleton × HasDeclaredVariables c.skeleton.variables c.skeleton) }
 {
     widening_keeps_guards();
     let children = cohort(alloc, protocol, k, test.node, &test.critical, &patterns)?;
@@ -82,12 +82,12 @@ pub fn expand(
     k: &Skeleton,
     test: &Test,
 ) -> Result<Expansion, AllocError>
-    requires skeleton { IsSkeleton protocol.now (skeleton_view k.now) }
-    requires declared { HasDeclaredVariables k.now.variables (skeleton_view k.now) }
-    requires test { IsTestOf (skeleton_view k.now) test.now.node test.now.critical }
-    ensures exact { IfOk result (λ e. IsExpansionOf protocol.now k.now.variables (skeleton_view k.now) (expansion_view test.now e)) }
-    ensures same { IfOk result (λ e. skeleton_view e.skeleton ≡ skeleton_view k.now) }
-    ensures sound { IfOk result (λ e. (c : PlainChild) → IsIn c (map child_view e.children.items) → IsSkeleton protocol.now c.skeleton × HasDeclaredVariables c.variables c.skeleton) }
+    requires skeleton { IsSkeleton protocol.now k.now }
+    requires declared { HasDeclaredVariables k.now.variables k.now }
+    requires test { IsTestOf k.now test.now.node test.now.critical }
+    ensures exact { IfOk result (λ e. IsExpansionOf protocol.now k.now (expansion_by test.now e)) }
+    ensures table { IfOk result (λ e. DiffersInTable k.now e.skeleton) }
+    ensures sound { IfOk result (λ e. (c : PlainChild) → IsIn c e.children.items → IsSkeleton protocol.now c.skeleton × HasDeclaredVariables c.skeleton.variables c.skeleton) }
 {
     let patterns = escape(alloc, k, test.node, &test.critical)?;
     widened(alloc, protocol, k, test, patterns)

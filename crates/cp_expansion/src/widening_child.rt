@@ -1,8 +1,6 @@
 // Finds the first child that widens a set of patterns.
 ghost use Rattle.std.specs.Prelude.{IfOk, IfNone, IfSome};
-ghost use Rattle.cp_skel.specs.View.{skeleton_view};
 ghost use Rattle.cp_model.specs.Tree.{Pattern as PlainPattern};
-ghost use Rattle.cp_cohort.specs.Views.{child_view};
 ghost use Rattle.cp_expansion.specs.Widened.{GivesPattern, FindsWidening};
 
 use cp_cohort::Child;
@@ -20,8 +18,8 @@ pub(crate) struct Widening {
 
 /// The pattern that a child gives, if the child adds a strand and gives one.
 fn pattern_of(alloc: Global, k: &Skeleton, child: &Child) -> Result<Option<Pattern>, AllocError>
-    ensures some { IfOk result (λ p. IfSome p (λ p. GivesPattern (skeleton_view k.now) (child_view child.now) p)) }
-    ensures none { IfOk result (λ p. IfNone p ((q : PlainPattern) → GivesPattern (skeleton_view k.now) (child_view child.now) q → ⊥)) }
+    ensures some { IfOk result (λ p. IfSome p (λ p. GivesPattern k.now child.now p)) }
+    ensures none { IfOk result (λ p. IfNone p ((q : PlainPattern) → GivesPattern k.now child.now q → ⊥)) }
 {
     match child.operation {
         Operation::AddedStrand(_) => widen(alloc, k, &child.skeleton, &child.path),
@@ -35,7 +33,7 @@ pub(crate) fn first_widening(
     k: &Skeleton,
     children: &[Child],
 ) -> Result<Option<Widening>, AllocError>
-    ensures { IfOk result (FindsWidening (skeleton_view k.now) children.now) }
+    ensures { IfOk result (FindsWidening k.now children.now) }
 {
     for (number, child) in children.iter().enumerate() {
         if let Some(pattern) = pattern_of(alloc, k, child)? {

@@ -8,6 +8,7 @@ use Rattle.cp_lists.specs.Lists.{item_at, IsIn}
 use Rattle.cp_lists.proofs.Members.{drop_read}
 use Rattle.cp_lists.proofs.Items.{map_of_item}
 use Rattle.cp_model.specs.Term.{Term, Substitution, tag_term, atom_term, pair_term, enc_term, text_variable, datum_variable, name_variable, key_term, symmetric_term, asymmetric_term, skey_variable, ltk_term, akey_variable, pubk_term, apply_to, composed, AgreeOnTerms, variable_term}
+use Rattle.cp_model.specs.Bindings.{Binding, as_substitution}
 use Rattle.cp_model.specs.declared.variable.Variable.{Variable}
 use Rattle.cp_model.specs.Strand.{Role, variables_of_trace, variables_of_prefix}
 use Rattle.cp_model.specs.declared.strand.Event.{Event}
@@ -206,7 +207,7 @@ weight_of_next {A} t lists i next l at n m given is e =
 
 -- It is an instance of a role.
 abbrev pub IsRoleStrand : SkeletonStrand → Type 0
-IsRoleStrand st = (role : Role) × ((height : ℕ) × ((terms : Substitution) × (st ≡ instance role height terms)))
+IsRoleStrand st = (role : Role) × ((height : ℕ) × ((terms : List Binding) × (st ≡ instance role height terms)))
 
 sums_of_strands : (w : Slot → ℕ) (ss : List SkeletonStrand) → sum_of w (strung (map strand_slots ss)) ≡ sum_of (λ s. sum_of w (strand_slots s)) ss
 sums_of_strands w [] = refl
@@ -272,15 +273,15 @@ module _ (f : SkeletonMap) where
 
         strand_more : (i : ℕ) (st : SkeletonStrand) → item_at a.strands i ≡ Some st → GoesToMore own IsRoleStrand (map theirs b.strands) (f.strands i) st
         strand_more i (listener t) at = inl none
-        strand_more i (instance role height s) at =
-            let g = emb.homomorphism.instances i role height s at in
+        strand_more i (instance role height terms) at =
+            let g = emb.homomorphism.instances i role height terms at in
             inr (
-              (role, (height, (s, refl))),
+              (role, (height, (terms, refl))),
               (
                 theirs (instance role g.to_height g.to_terms),
                 map_of_item theirs b.strands (f.strands i) (instance role g.to_height g.to_terms) g.on_instance,
-                grows (sum_of u (strand_slots (instance role height s))) (sum_of w (strand_slots (instance role g.to_height g.to_terms)))
-                    (declared_more (text_number 1 role.name) (variables_of_prefix role height) (variables_of_prefix role g.to_height) s g.to_terms
+                grows (sum_of u (strand_slots (instance role height terms))) (sum_of w (strand_slots (instance role g.to_height g.to_terms)))
+                    (declared_more (text_number 1 role.name) (variables_of_prefix role height) (variables_of_prefix role g.to_height) (as_substitution terms) (as_substitution g.to_terms)
                     (variables_of_higher role height g.to_height g.at_least) g.equal_terms 0 role.variables),
               ),
             )

@@ -6,7 +6,7 @@ use Rattle.std.specs.Prelude.{Decides}
 use Rattle.std.proofs.lemmas.Slice.Eq.{slice_eq-Decides}
 use Rattle.cp_lists.proofs.Items.{there_or_none}
 use Rattle.cp_lists.specs.Lists.{item_at, IsIn, here, there}
-use Rattle.cp_model.specs.Term.{Substitution}
+use Rattle.cp_model.specs.Bindings.{Binding}
 use Rattle.cp_model.specs.Strand.{Role}
 use Rattle.cp_model.specs.Skeleton.{SkeletonStrand, instance, listener, Skeleton}
 use Rattle.cp_model.specs.Homomorphism.{SkeletonMap, IsEmbedding, Embeds}
@@ -65,7 +65,7 @@ first_next n m ms true e = rw e refl
 first_next n m ms false e = rw e refl
 
 module _ (a b : Skeleton) (f : SkeletonMap) (emb : IsEmbedding a b f) where
-  module _ (p : ℕ) (role : Role) (height : ℕ) (terms : Substitution) (at : item_at a.strands p ≡ Some (instance role height terms)) where
+  module _ (p : ℕ) (role : Role) (height : ℕ) (terms : List Binding) (at : item_at a.strands p ≡ Some (instance role height terms)) where
     -- What goes where the instance at p goes is at p.
     only_itself : (q : ℕ) (x : SkeletonStrand) → item_at a.strands q ≡ Some x → f.strands q ≡ f.strands p → q ≡ p
     only_itself q (instance role' height' terms') au e = emb.injective q p role' height' terms' role height terms au at e

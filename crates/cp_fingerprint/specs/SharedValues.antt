@@ -1,9 +1,10 @@
 -- The bucket key: a number that tells how the role strands of a skeleton share values. No embedding makes it smaller.
 use Rattle.std.specs.Prelude.{◌+◌, ◌-◌, ◌*◌, ◌%◌, ◌^◌, ℕ, suc, Bool, true, List, [], ◌∷◌, ◌++◌, min, map, if◌then◌else◌, Vec}
 use Rattle.cp_model.specs.Term.{skey_variable, ltk_term, pubk_term, symmetric_term, asymmetric_term, text_variable, datum_variable, name_variable, key_term, Term, tag_term, atom_term, pair_term, enc_term, Substitution, apply_to, variable_term}
+use Rattle.cp_model.specs.Bindings.{as_substitution}
 use Rattle.cp_model.specs.declared.sort.Sort.TheVariants.{Text as text_sort, Datum as datum_sort, Name as name_sort, Skey as skey_sort}
 use Rattle.cp_model.specs.declared.variable.Variable.{Variable}
-use Rattle.cp_model.specs.Strand.{variables_of_trace, variables_of_prefix}
+use Rattle.cp_model.specs.Strand.{Role, variables_of_trace, variables_of_prefix}
 use Rattle.cp_model.specs.declared.strand.Event.{Event}
 use Rattle.cp_model.specs.declared.strand.Event.TheVariants.{Receive as recv}
 use Rattle.cp_model.specs.declared.variable.Declaration.{Declaration}
@@ -38,9 +39,13 @@ declared_slots name xs s i (d ∷ ds) = if has_variable xs (declared_variable i 
     then record { weight = place_weight name i; value = apply_to s (variable_term (declared_variable i d)) } ∷ declared_slots name xs s (suc i) ds
     else declared_slots name xs s (suc i) ds
 
+-- The values, under a substitution, of the variables that occur in a prefix of a role.
+abbrev pub prefix_slots : Role → ℕ → Substitution → List Slot
+prefix_slots role height s = declared_slots (text_number 1 role.name) (variables_of_prefix role height) s 0 role.variables
+
 -- The values of the variables that occur in the prefix of a role strand.
 abbrev pub strand_slots : SkeletonStrand → List Slot
-strand_slots (instance role height s) = declared_slots (text_number 1 role.name) (variables_of_prefix role height) s 0 role.variables
+strand_slots (instance role height terms) = prefix_slots role height (as_substitution terms)
 strand_slots (listener t) = []
 
 -- Lists of places, strung together.

@@ -1,6 +1,5 @@
 // Counts role strands by role and height.
-ghost use Rattle.std.specs.Prelude.{◌≡◌, ◌↔◌, ◌++◌, ◌≤◌, map, IsTrue, IfOk, OnOk};
-ghost use Rattle.cp_strand.specs.View.{strand_view};
+ghost use Rattle.std.specs.Prelude.{◌≡◌, ◌↔◌, ◌≤◌, IsTrue, IfOk};
 ghost use Rattle.cp_fingerprint.specs.Heights.{heights_of, is_as_high, count_from, HaveNoMore};
 
 use cp_base::Text;
@@ -16,7 +15,7 @@ pub(crate) struct RoleHeight {
 
 /// The names and heights of the role strands.
 pub(crate) fn heights_of(alloc: Global, strands: &[Strand]) -> Result<Vec<RoleHeight>, AllocError>
-    ensures { IfOk result (λ v. v.items ≡ heights_of (map strand_view strands.now)) }
+    ensures { IfOk result (λ v. v.items ≡ heights_of strands.now) }
 {
     let mut heights = Vec::with_capacity(alloc, strands.len())?;
     for strand in strands {

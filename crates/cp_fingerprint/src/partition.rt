@@ -2,7 +2,6 @@
 ghost use Rattle.std.specs.Prelude.{◌≡◌, ◌↔◌, ◌⊎◌, false, IsTrue, IfOk};
 ghost use Rattle.cp_model.specs.Homomorphism.{Embeds};
 ghost use Rattle.cp_model.specs.Skeleton as model;
-ghost use Rattle.cp_skel.specs.View.{skeleton_view};
 ghost use Rattle.cp_fingerprint.specs.Partition.{entry_of, partition_of, is_whole};
 ghost use Rattle.cp_fingerprint.specs.PartitionNumber.{partition_number};
 
@@ -36,7 +35,7 @@ impl Model for Partition {
 /// The entry for a strand of the problem that maps to this place: if an instance stands there, the first strand of the problem
 /// that maps to the same place; if a listener does, the strand's own number. `None` past the end.
 fn entry(k: &Skeleton, strand: usize, place: usize) -> Option<usize>
-    ensures { result ≡ entry_of (skeleton_view k.now) strand place }
+    ensures { result ≡ entry_of k.now strand place }
 {
     match k.strands().get(place)?.shape() {
         StrandShape::Instance(_) => Some(first_of(k.from_problem().strands(), place)),
@@ -73,7 +72,7 @@ fn is_whole(entries: &[Option<usize>]) -> bool
 impl Partition {
     /// The partition of a skeleton.
     pub(crate) fn of(alloc: Global, k: &Skeleton) -> Result<Partition, AllocError>
-        ensures { IfOk result (λ f. f ≡ partition_of (skeleton_view k.now)) }
+        ensures { IfOk result (λ f. f ≡ partition_of k.now) }
     {
         let mut entries = Vec::new(alloc);
         for (strand, place) in k.from_problem().strands().iter().enumerate() {

@@ -1,8 +1,6 @@
 // A number for how role strands share values. Its sums and products saturate.
-ghost use Rattle.std.specs.Prelude.{◌≡◌, map, IfOk};
+ghost use Rattle.std.specs.Prelude.{◌≡◌, IfOk};
 ghost use Rattle.cp_model.specs.Strand.{variables_of_trace};
-ghost use Rattle.cp_strand.specs.View.{strand_view};
-ghost use Rattle.cp_skel.specs.View.{skeleton_view};
 ghost use Rattle.cp_fingerprint.specs.SharedValues.{lists_of, slots_in, listened, is_heard, heard_weight, weight_from, named_from, value_weight, share_from, squares_from, bucket_key_of};
 
 use crate::slots::{Places, Slot, key_of, places_of};
@@ -12,7 +10,7 @@ use std::alloc::{AllocError, Global};
 
 /// The messages of the listeners.
 fn listened(alloc: Global, strands: &[Strand]) -> Result<Vec<Event>, AllocError>
-    ensures { IfOk result (λ es. es.items ≡ listened (map strand_view strands.now)) }
+    ensures { IfOk result (λ es. es.items ≡ listened strands.now) }
 {
     let mut events = Vec::new(alloc);
     for strand in strands {
@@ -139,7 +137,7 @@ fn bucket_key(alloc: Global, heard: &[Event], places: &Places) -> Result<usize, 
 
 /// The number for how the role strands of a skeleton share values, and on which strands.
 pub(crate) fn bucket_key_of(alloc: Global, k: &Skeleton) -> Result<usize, AllocError>
-    ensures { IfOk result (λ n. n ≡ bucket_key_of (skeleton_view k.now)) }
+    ensures { IfOk result (λ n. n ≡ bucket_key_of k.now) }
 {
     let heard = listened(alloc, k.strands())?;
     let places = places_of(alloc, k)?;

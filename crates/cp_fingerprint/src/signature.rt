@@ -2,7 +2,6 @@
 ghost use Rattle.std.specs.Prelude.{◌≡◌, ◌↔◌, IsTrue, IfOk};
 ghost use Rattle.cp_model.specs.Homomorphism.{Embeds};
 ghost use Rattle.cp_model.specs.Skeleton as model;
-ghost use Rattle.cp_skel.specs.View.{skeleton_view};
 ghost use Rattle.cp_fingerprint.specs.Signatures.{signature_of, MayEmbed};
 ghost use Rattle.cp_fingerprint.specs.Isomorphic.{IsIsomorphic};
 
@@ -37,7 +36,7 @@ impl Model for Signature {
 impl Signature {
     /// The signature of a skeleton.
     pub fn of(alloc: Global, k: &Skeleton) -> Result<Signature, AllocError>
-        ensures exact { IfOk result (λ f. f ≡ signature_of (skeleton_view k.now)) }
+        ensures exact { IfOk result (λ f. f ≡ signature_of k.now) }
     {
         Ok(Signature {
             partition: Partition::of(alloc, k)?,

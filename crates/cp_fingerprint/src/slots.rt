@@ -1,9 +1,8 @@
 // The values that role strands share, each with the weight of its place.
 ghost use Rattle.std.specs.Prelude.{◌≡◌, ◌↔◌, map, IsTrue, IfOk};
-ghost use Rattle.cp_strand.specs.View.{instance_view, strand_view};
-ghost use Rattle.cp_skel.specs.View.{skeleton_view};
+ghost use Rattle.cp_model.specs.Homomorphism.{substitution_by};
 ghost use Rattle.cp_fingerprint.specs.Slots.{slot_key};
-ghost use Rattle.cp_fingerprint.specs.SharedValues.{text_number, place_weight, value_slots, strand_slots, lists_of};
+ghost use Rattle.cp_fingerprint.specs.SharedValues.{text_number, place_weight, value_slots, prefix_slots, strand_slots, lists_of};
 
 use cp_skel::{Instance, Skeleton, Strand, StrandShape, occurs, prefix_of, value_of_variable};
 use cp_term::{Shape, Term, VarId};
@@ -119,7 +118,7 @@ fn value_slots(alloc: Global, values: &[Term]) -> Result<Vec<Slot>, AllocError>
 
 /// The values of the variables that occur in an instance's prefix.
 fn instance_slots(alloc: Global, instance: &Instance) -> Result<Vec<Slot>, AllocError>
-    ensures { IfOk result (λ v. v.items ≡ strand_slots (instance_view instance.now)) }
+    ensures { IfOk result (λ v. v.items ≡ prefix_slots instance.now.role instance.now.height (substitution_by instance.now.values)) }
 {
     let name = text_number(instance.role().name().as_bytes());
     let prefix = prefix_of(instance.role(), instance.height());
@@ -138,7 +137,7 @@ fn instance_slots(alloc: Global, instance: &Instance) -> Result<Vec<Slot>, Alloc
 
 /// The values of a strand's variables. A listener has none.
 fn strand_slots(alloc: Global, strand: &Strand) -> Result<Vec<Slot>, AllocError>
-    ensures { IfOk result (λ v. v.items ≡ strand_slots (strand_view strand.now)) }
+    ensures { IfOk result (λ v. v.items ≡ strand_slots strand.now) }
 {
     match strand.shape() {
         StrandShape::Instance(instance) => instance_slots(alloc, instance),
@@ -148,7 +147,7 @@ fn strand_slots(alloc: Global, strand: &Strand) -> Result<Vec<Slot>, AllocError>
 
 /// For each strand the values of its variables.
 fn strands_slots(alloc: Global, strands: &[Strand]) -> Result<Vec<Vec<Slot>>, AllocError>
-    ensures { IfOk result (λ v. lists_of v.items ≡ map strand_slots (map strand_view strands.now)) }
+    ensures { IfOk result (λ v. lists_of v.items ≡ map strand_slots strands.now) }
 {
     let mut slots = Vec::with_capacity(alloc, strands.len())?;
     for strand in strands {
@@ -159,8 +158,8 @@ fn strands_slots(alloc: Global, strands: &[Strand]) -> Result<Vec<Vec<Slot>>, Al
 
 /// The values of the problem's variables, and for each strand those of its variables.
 pub fn places_of(alloc: Global, k: &Skeleton) -> Result<Places, AllocError>
-    ensures values { IfOk result (λ p. p.values.items ≡ value_slots 0 (skeleton_view k.now).from_problem.values) }
-    ensures strands { IfOk result (λ p. lists_of p.strands.items ≡ map strand_slots (skeleton_view k.now).strands) }
+    ensures values { IfOk result (λ p. p.values.items ≡ value_slots 0 k.now.from_problem.values) }
+    ensures strands { IfOk result (λ p. lists_of p.strands.items ≡ map strand_slots k.now.strands) }
 {
     Ok(Places {
         values: value_slots(alloc, k.from_problem().values())?,

@@ -3,6 +3,7 @@ use Rattle.std.proofs.Common.{◌≡◌, ◌↔◌, ◌⊎◌, inl, inr, List, s
 use Rattle.std.specs.Prelude.{Some}
 use Rattle.cp_lists.specs.Lists.{IsIn, one_step, more_steps}
 use Rattle.cp_model.specs.Term.{AtomTerm, Term}
+use Rattle.cp_model.specs.declared.variable.Declaration.{Declaration}
 use Rattle.cp_model.specs.declared.strand.Event.TheVariants.{Send as send}
 use Rattle.cp_model.specs.declared.node.Node.{Node}
 use Rattle.cp_model.specs.declared.node.OrderPair.{OrderPair}
@@ -25,10 +26,10 @@ pub record AssumeTheSame (a b : Assumptions) : Type 0 where
 pub assume_the_same : (a : Assumptions) → AssumeTheSame a a
 assume_the_same a = record { non = λ v. (λ i. i, λ i. i); penetrator_non = λ v. (λ i. i, λ i. i); unique = λ u. (λ i. i, λ i. i) }
 
-module _ (k : Skeleton) (pairs : List OrderPair) (assumed : Assumptions) (from : FromProblem) (alike : AssumeTheSame assumed k.assumptions) where
+module _ (k : Skeleton) (variables : List Declaration) (pairs : List OrderPair) (assumed : Assumptions) (from : FromProblem) (alike : AssumeTheSame assumed k.assumptions) where
   -- the same strands, and the same is assumed
   abbrev other : Skeleton
-  other = record { strands = k.strands; pairs = pairs; assumptions = assumed; from_problem = from }
+  other = record { variables = variables; strands = k.strands; pairs = pairs; assumptions = assumed; from_problem = from }
 
   -- ---- what is derivable
 
@@ -109,22 +110,22 @@ module _ (a : Skeleton) (f : IsFit a) where
   abbrev FitLike : Skeleton → Type 0
   FitLike b = ((x y : Node) → Before a x y → Before b x y) → ((n : Node) → Before b n n → ⊥) → IsFit b
 
-  fit_literal : (pairs : List OrderPair) (from : FromProblem) → FitLike (record { strands = a.strands; pairs = pairs; assumptions = a.assumptions; from_problem = from })
-  fit_literal pairs from more no_cycle =
-      let b : Skeleton = record { strands = a.strands; pairs = pairs; assumptions = a.assumptions; from_problem = from } in
+  fit_literal : (variables : List Declaration) (pairs : List OrderPair) (from : FromProblem) → FitLike (record { variables = variables; strands = a.strands; pairs = pairs; assumptions = a.assumptions; from_problem = from })
+  fit_literal variables pairs from more no_cycle =
+      let b : Skeleton = record { variables = variables; strands = a.strands; pairs = pairs; assumptions = a.assumptions; from_problem = from } in
       let itself = assume_the_same a.assumptions in
-      let before : (p : OrderPair) → IsAddedPair b p → Before b p.earlier p.later = λ p h. more p.earlier p.later (f.normal.ordered p (was_added a pairs a.assumptions from itself p h)) in
+      let before : (p : OrderPair) → IsAddedPair b p → Before b p.earlier p.later = λ p h. more p.earlier p.later (f.normal.ordered p (was_added a variables pairs a.assumptions from itself p h)) in
       record {
-        normal = normal a pairs a.assumptions from itself f.normal (closes_none b before no_cycle) before;
-        realised = λ n t e. derivable a pairs a.assumptions from itself n (λ m s sent h. more m n h) t (f.realised n t e);
+        normal = normal a variables pairs a.assumptions from itself f.normal (closes_none b before no_cycle) before;
+        realised = λ n t e. derivable a variables pairs a.assumptions from itself n (λ m s sent h. more m n h) t (f.realised n t e);
       }
 
   pub respelled : (b : Skeleton) (strands : List SkeletonStrand) (assumed : Assumptions) → b.strands ≡ strands → b.assumptions ≡ assumed →
-      b ≡ record { strands = strands; pairs = b.pairs; assumptions = assumed; from_problem = b.from_problem }
-  respelled b strands assumed s m = λ i. record { strands = s i; pairs = b.pairs; assumptions = m i; from_problem = b.from_problem }
+      b ≡ record { variables = b.variables; strands = strands; pairs = b.pairs; assumptions = assumed; from_problem = b.from_problem }
+  respelled b strands assumed s m = λ i. record { variables = b.variables; strands = s i; pairs = b.pairs; assumptions = m i; from_problem = b.from_problem }
 
   fit_too : (b : Skeleton) → b.strands ≡ a.strands → b.assumptions ≡ a.assumptions → FitLike b
-  fit_too b s m = subst FitLike (sym (respelled b a.strands a.assumptions s m)) (fit_literal b.pairs b.from_problem)
+  fit_too b s m = subst FitLike (sym (respelled b a.strands a.assumptions s m)) (fit_literal b.variables b.pairs b.from_problem)
 
 pub fit_alike : (a b : Skeleton) → b.strands ≡ a.strands → b.assumptions ≡ a.assumptions → ((x y : Node) → Before a x y → Before b x y) → ((n : Node) → Before b n n → ⊥) → IsFit a → IsFit b
 fit_alike a b s m more no_cycle f = fit_too a f b s m more no_cycle
@@ -132,12 +133,12 @@ fit_alike a b s m more no_cycle f = fit_too a f b s m more no_cycle
 -- ---- the same with its assumptions in the order of a report
 
 -- The order depends on strands and pairs alone.
-module _ (strands : List SkeletonStrand) (pairs : List OrderPair) (a b : Assumptions) (f g : FromProblem) where
-  step_alike : {x y : Node} → OrderStep (record { strands = strands; pairs = pairs; assumptions = a; from_problem = f }) x y → OrderStep (record { strands = strands; pairs = pairs; assumptions = b; from_problem = g }) x y
+module _ (variables : List Declaration) (strands : List SkeletonStrand) (pairs : List OrderPair) (a b : Assumptions) (f g : FromProblem) where
+  step_alike : {x y : Node} → OrderStep (record { variables = variables; strands = strands; pairs = pairs; assumptions = a; from_problem = f }) x y → OrderStep (record { variables = variables; strands = strands; pairs = pairs; assumptions = b; from_problem = g }) x y
   step_alike (along_strand_of e) = along_strand_of e
   step_alike (along_pair m) = along_pair m
 
-  pub way_alike : {x y : Node} → Before (record { strands = strands; pairs = pairs; assumptions = a; from_problem = f }) x y → Before (record { strands = strands; pairs = pairs; assumptions = b; from_problem = g }) x y
+  pub way_alike : {x y : Node} → Before (record { variables = variables; strands = strands; pairs = pairs; assumptions = a; from_problem = f }) x y → Before (record { variables = variables; strands = strands; pairs = pairs; assumptions = b; from_problem = g }) x y
   way_alike (one_step s) = one_step (step_alike s)
   way_alike (more_steps s r) = more_steps (step_alike s) (way_alike r)
 
@@ -150,27 +151,27 @@ module _ (k : Skeleton) where
     where
       to : IsIn p k.pairs ⊎ IsAddedPair (in_report_order k) p → IsIn p k.pairs ⊎ IsAddedPair k p
       to (inl i) = inl i
-      to (inr a) = inr (was_added k k.pairs (listed k) k.from_problem listed_alike p a)
+      to (inr a) = inr (was_added k k.variables k.pairs (listed k) k.from_problem listed_alike p a)
 
       from : IsIn p k.pairs ⊎ IsAddedPair k p → IsIn p k.pairs ⊎ IsAddedPair (in_report_order k) p
       from (inl i) = inl i
-      from (inr a) = inr (is_added k k.pairs (listed k) k.from_problem listed_alike p a)
+      from (inr a) = inr (is_added k k.variables k.pairs (listed k) k.from_problem listed_alike p a)
 
   closes_too : ClosesCycle (in_report_order k) → ClosesCycle k
   closes_too c = record {
     pairs = c.pairs;
     normal = normal_alike c.pairs c.normal;
     node = c.node;
-    cycle = way_alike k.strands c.pairs (listed k) k.assumptions k.from_problem k.from_problem c.cycle;
+    cycle = way_alike k.variables k.strands c.pairs (listed k) k.assumptions k.from_problem k.from_problem c.cycle;
   }
 
   still : {x y : Node} → Before k x y → Before (in_report_order k) x y
-  still = way_alike k.strands k.pairs k.assumptions (listed k) k.from_problem k.from_problem
+  still = way_alike k.variables k.strands k.pairs k.assumptions (listed k) k.from_problem k.from_problem
 
   pub fit_listed : IsFit k → IsFit (in_report_order k)
   fit_listed f = record {
     normal =
-        normal k k.pairs (listed k) k.from_problem listed_alike f.normal (λ c. f.normal.consistent (inr (inr (inr (closes_too c)))))
-        (λ p a. still (f.normal.ordered p (was_added k k.pairs (listed k) k.from_problem listed_alike p a)));
-    realised = λ n t e. derivable k k.pairs (listed k) k.from_problem listed_alike n (λ m s sent b. still b) t (f.realised n t e);
+        normal k k.variables k.pairs (listed k) k.from_problem listed_alike f.normal (λ c. f.normal.consistent (inr (inr (inr (closes_too c)))))
+        (λ p a. still (f.normal.ordered p (was_added k k.variables k.pairs (listed k) k.from_problem listed_alike p a)));
+    realised = λ n t e. derivable k k.variables k.pairs (listed k) k.from_problem listed_alike n (λ m s sent b. still b) t (f.realised n t e);
   }

@@ -4,8 +4,6 @@ use Rattle.cp_lists.specs.Lists.{one_step, more_steps}
 use Rattle.cp_model.specs.Skeleton.{Skeleton, OrderStep, along_strand_of, along_pair, Before, IsOrderPair}
 use Rattle.cp_model.specs.declared.node.Node.{Node}
 use Rattle.cp_model.specs.declared.node.OrderPair.{OrderPair}
-use Rattle.cp_model.specs.Data.{SkeletonData}
-use Rattle.cp_skel.specs.View.{skeleton_view}
 use Rattle.cp_skel.specs.Ordered.{IsOrdered, ordered_by}
 use Rattle.cp_skel.specs.Sound.{IsSound}
 use Rattle.cp_skel.proofs.SoundSkeletons.{sound_ordered, reordered_sound}
@@ -53,25 +51,25 @@ module _ (k : Skeleton) (sound : IsSound k) (ps : List OrderPair) (lists : Lists
 
 -- ---- as the program makes it
 
-pub sound_by : (k : SkeletonData) (ps order : List OrderPair) → IsSound (skeleton_view k) → ListsOrder (skeleton_view k) ps → order ≡ ps → IsSound (ordered_by (skeleton_view k) order)
-sound_by k ps order sound lists same = subst (λ qs. IsSound (ordered_by (skeleton_view k) qs)) (sym same) (whole_sound (skeleton_view k) sound ps lists)
+pub sound_by : (k : Skeleton) (ps order : List OrderPair) → IsSound k → ListsOrder k ps → order ≡ ps → IsSound (ordered_by k order)
+sound_by k ps order sound lists same = subst (λ qs. IsSound (ordered_by k qs)) (sym same) (whole_sound k sound ps lists)
 
 -- The skeleton, and the same with all pairs of its order.
-pub record HasAllPairs (k h : SkeletonData) : Type 0 where
-  pub same : h ≡ record k { order = h.order }
-  pub before : (x y : Node) → Before (skeleton_view h) x y ↔ Before (skeleton_view k) x y
-  pub lists : ListsOrder (skeleton_view h) h.order
+pub record HasAllPairs (k h : Skeleton) : Type 0 where
+  pub same : h ≡ record k { pairs = h.pairs }
+  pub before : (x y : Node) → Before h x y ↔ Before k x y
+  pub lists : ListsOrder h h.pairs
 
-module _ (k h : SkeletonData) (ps order : List OrderPair) (sound : IsSound (skeleton_view k)) (lists : ListsOrder (skeleton_view k) ps) (same : order ≡ ps) (made : h ≡ record k { order = order }) where
-  order_is : h.order ≡ order
-  order_is = ap (λ (d : SkeletonData). d.order) made
+module _ (k h : Skeleton) (ps order : List OrderPair) (sound : IsSound k) (lists : ListsOrder k ps) (same : order ≡ ps) (made : h ≡ record k { pairs = order }) where
+  order_is : h.pairs ≡ order
+  order_is = ap (λ (d : Skeleton). d.pairs) made
 
-  to_whole : skeleton_view h ≡ ordered_by (skeleton_view k) ps
-  to_whole = ap skeleton_view made ∙ ap (ordered_by (skeleton_view k)) same
+  to_whole : h ≡ ordered_by k ps
+  to_whole = made ∙ ap (ordered_by k) same
 
   pub made_whole : HasAllPairs k h
   made_whole = record {
-    same = made ∙ ap (λ (qs : List OrderPair). record k { order = qs }) (sym order_is);
-    before = λ x y. subst (λ (z : Skeleton). Before z x y ↔ Before (skeleton_view k) x y) (sym to_whole) (whole_before (skeleton_view k) sound ps lists x y);
-    lists = subst (ListsOrder (skeleton_view h)) (sym (order_is ∙ same)) (subst (λ (z : Skeleton). ListsOrder z ps) (sym to_whole) (whole_lists (skeleton_view k) sound ps lists));
+    same = made ∙ ap (λ (qs : List OrderPair). record k { pairs = qs }) (sym order_is);
+    before = λ x y. subst (λ (z : Skeleton). Before z x y ↔ Before k x y) (sym to_whole) (whole_before k sound ps lists x y);
+    lists = subst (ListsOrder h) (sym (order_is ∙ same)) (subst (λ (z : Skeleton). ListsOrder z ps) (sym to_whole) (whole_lists k sound ps lists));
   }

@@ -84,7 +84,7 @@ left_of d (p ∷ ps) = left_next d p ps (on_or_not d p) (left_of d ps)
 
 module _ (k : Skeleton) (ps : List OrderPair) (ordered : IsOrdered k) (back : (x y : Node) → Before (ordered_by k ps) x y → Before k x y) (d : ℕ) (g : Skeleton) (deletes : Deletes d (ordered_by k ps) g) where
   abbrev made : Skeleton
-  made = record { strands = g.strands; pairs = (left_of d k.pairs).pairs ++ bridges d k.pairs k.pairs; assumptions = g.assumptions; from_problem = g.from_problem }
+  made = record { variables = g.variables; strands = g.strands; pairs = (left_of d k.pairs).pairs ++ bridges d k.pairs k.pairs; assumptions = g.assumptions; from_problem = g.from_problem }
 
   without : IsWithoutStrand d k.pairs made.pairs
   without = record { left = (left_of d k.pairs).pairs; leaves_out = (left_of d k.pairs).leaves_out; all = refl }
@@ -99,6 +99,7 @@ module _ (k : Skeleton) (ps : List OrderPair) (ordered : IsOrdered k) (back : (x
   made_deletes = record {
     within = deletes.within;
     no_image = deletes.no_image;
+    variables = deletes.variables;
     strands = deletes.strands;
     pairs = made_ordered.order_pairs;
     order = made_keeps;

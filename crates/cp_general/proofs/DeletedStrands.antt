@@ -4,6 +4,7 @@ use Rattle.cp_lists.specs.Lists.{item_at, IsIn}
 use Rattle.cp_lists.proofs.Members.{in_append_left}
 use Rattle.cp_lists.proofs.Mapped.{map_same, map_then, map_alike}
 use Rattle.cp_model.specs.Term.{AtomTerm, Term, apply_to, variable_term}
+use Rattle.cp_model.specs.Bindings.{as_substitution}
 use Rattle.cp_model.specs.declared.variable.Variable.{Variable}
 use Rattle.cp_model.specs.Identity.{unchanged}
 use Rattle.cp_model.specs.Strand.{Protocol}
@@ -85,7 +86,7 @@ module _ (d : ℕ) (k h : Skeleton) (del : Deletes d k h) where
       to_terms = terms;
       on_instance = strand_was s (instance role height terms) at;
       at_least = le_refl height;
-      equal_terms = λ x i. term_composed terms unchanged (variable_term x) ∙ term_unchanged (apply_to terms (variable_term x));
+      equal_terms = λ x i. term_composed (as_substitution terms) unchanged (variable_term x) ∙ term_unchanged (apply_to (as_substitution terms) (variable_term x));
     };
     listeners = λ s t at. strand_was s (listener t) at ∙ ap (λ (u : Term). Some (listener u)) (sym (term_unchanged t));
     ordered = before_was;

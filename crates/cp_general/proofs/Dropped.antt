@@ -218,7 +218,7 @@ module _ (k : Skeleton) (sound : IsSound k) (lists : ListsOrder k k.pairs) (p : 
 
   added_still : IsFit k → (q : OrderPair) → IsAddedPair less q → Before less q.earlier q.later
   added_still f q h =
-      let a : IsAddedPair k q = was_added k kept k.assumptions k.from_problem (assume_the_same k.assumptions) q h in
+      let a : IsAddedPair k q = was_added k k.variables kept k.assumptions k.from_problem (assume_the_same k.assumptions) q h in
       one_step (along_pair (still q ((lists.each q).1 (added_of_order q a (f.normal.ordered q a))) (λ e. may.not_added (subst (IsAddedPair k) e a))))
 
   realised_still : IsFit k → DerivableAt less p.later received → (n : Node) (t : Term) → term_event_at k.strands n ≡ Some (recv t) → DerivableAt less n t
@@ -230,13 +230,13 @@ module _ (k : Skeleton) (sound : IsSound k) (lists : ListsOrder k k.pairs) (p : 
           let same : received ≡ t = cc in
           subst (λ (z : Node). DerivableAt less z t) (sym s) (subst (DerivableAt less p.later) same d)
       of (inr h) =
-          derivable k kept k.assumptions k.from_problem (assume_the_same k.assumptions) n
+          derivable k k.variables kept k.assumptions k.from_problem (assume_the_same k.assumptions) n
           (λ m s sent b. sent_still m n s t sent e (λ q. h (ap (λ (r : OrderPair). r.later) q)) b) t (f.realised n t e)
 
   less_fit : IsFit k → DerivableAt less p.later received → IsFit less
   less_fit f d = record {
     normal =
-        normal k kept k.assumptions k.from_problem (assume_the_same k.assumptions) f.normal (closes_none less (added_still f) less_ordered.no_cycle) (added_still f);
+        normal k k.variables kept k.assumptions k.from_problem (assume_the_same k.assumptions) f.normal (closes_none less (added_still f) less_ordered.no_cycle) (added_still f);
     realised = realised_still f d;
   }
 
@@ -254,7 +254,7 @@ module _ (k : Skeleton) (sound : IsSound k) (lists : ListsOrder k k.pairs) (p : 
 
     must_derive : IsFit (ordered_by k hs) → DerivableAt less p.later received
     must_derive f =
-        derivable (ordered_by k hs) kept k.assumptions k.from_problem (assume_the_same k.assumptions) p.later (λ m s sent b. within m p.later b) received
+        derivable (ordered_by k hs) k.variables kept k.assumptions k.from_problem (assume_the_same k.assumptions) p.later (λ m s sent b. within m p.later b) received
         (f.realised p.later received may.covering.of_order.pair.reception)
 
   pub never_keeps : (Keeps → ⊥) → NeverDrops p k

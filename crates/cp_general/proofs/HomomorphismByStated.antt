@@ -2,7 +2,8 @@
 -- that the problem states itself, and of those that its strands' roles give.
 use Rattle.std.proofs.Common.{◌≡◌, ℕ, ◌+◌, List, Some, refl, sym, ap, ◌∙◌, subst, ⊎_elim, lt_of_lt_of_le, arith}
 use Rattle.cp_lists.specs.Lists.{item_at, IsIn}
-use Rattle.cp_model.specs.Term.{AtomTerm, Term, Substitution, apply_to, apply_to_atom, composed}
+use Rattle.cp_model.specs.Term.{AtomTerm, Term, apply_to, apply_to_atom, composed}
+use Rattle.cp_model.specs.Bindings.{Binding, as_substitution}
 use Rattle.cp_model.specs.Strand.{Role, Protocol, Applies}
 use Rattle.cp_model.specs.declared.variable.Declaration.{Declaration}
 use Rattle.cp_model.specs.Bundle.{node_at}
@@ -20,15 +21,15 @@ use Rattle.cp_general.proofs.GivenByStrands.{IsGivenByOne, GivesAtom, non_given_
 
 -- ---- where instances go, what they give goes too
 
-module _ (protocol : Protocol) (g : Skeleton) (sk : IsSkeleton protocol g) (f : SkeletonMap) (s : ℕ) (role : Role) (height : ℕ) (terms : Substitution) (goes : GoesToInstance g f s role height terms) where
+module _ (protocol : Protocol) (g : Skeleton) (sk : IsSkeleton protocol g) (f : SkeletonMap) (s : ℕ) (role : Role) (height : ℕ) (terms : List Binding) (goes : GoesToInstance g f s role height terms) where
   higher : (v : AtomTerm) → Applies role height v → Applies role goes.to_height v
   higher v applies x i = variables_of_higher role height goes.to_height goes.at_least x (applies x i)
 
-  image_is : (v : AtomTerm) → Applies role height v → apply_to_atom goes.to_terms v ≡ apply_to_atom f.terms (apply_to_atom terms v)
-  image_is v applies = sym (agree_atom (composed terms f.terms) goes.to_terms v (λ x i. goes.equal_terms x (applies x i))) ∙ atom_composed terms f.terms v
+  image_is : (v : AtomTerm) → Applies role height v → apply_to_atom (as_substitution goes.to_terms) v ≡ apply_to_atom f.terms (apply_to_atom (as_substitution terms) v)
+  image_is v applies = sym (agree_atom (composed (as_substitution terms) f.terms) (as_substitution goes.to_terms) v (λ x i. goes.equal_terms x (applies x i))) ∙ atom_composed (as_substitution terms) f.terms v
 
   -- where the instance stands now gives all that its role states, what it gave goes to one of these
-  atom_goes : (stated listed : List AtomTerm) → ((v : AtomTerm) → IsIn v stated → Applies role goes.to_height v → IsIn (apply_to_atom goes.to_terms v) listed) → (v : AtomTerm) → IsGivenFrom stated role height terms v →
+  atom_goes : (stated listed : List AtomTerm) → ((v : AtomTerm) → IsIn v stated → Applies role goes.to_height v → IsIn (apply_to_atom (as_substitution goes.to_terms) v) listed) → (v : AtomTerm) → IsGivenFrom stated role height terms v →
       IsIn (apply_to_atom f.terms v) listed
   atom_goes stated listed gives v given =
       subst (λ (w : AtomTerm). IsIn w listed) (image_is given.atom given.applies ∙ ap (apply_to_atom f.terms) (sym given.same)) (gives given.atom given.listed (higher given.atom given.applies))
@@ -39,7 +40,7 @@ module _ (protocol : Protocol) (g : Skeleton) (sk : IsSkeleton protocol g) (f : 
 
   unique_goes : (u : UniqueAt) → IsOriginFrom role.uniquely_originating role height terms s u → IsIn (image u) g.assumptions.uniquely_originating
   unique_goes u given =
-      let e : apply_to_atom goes.to_terms given.atom ≡ apply_to_atom f.terms (apply_to_atom terms given.atom) = image_is given.atom (applies_at role height given.atom given.index given.applies) in
+      let e : apply_to_atom (as_substitution goes.to_terms) given.atom ≡ apply_to_atom f.terms (apply_to_atom (as_substitution terms) given.atom) = image_is given.atom (applies_at role height given.atom given.index given.applies) in
       subst (λ (w : UniqueAt). IsIn (image w) g.assumptions.uniquely_originating) (sym given.same)
       (subst (λ (w : AtomTerm). IsIn (record { value = w; origin = node_at (f.strands s) given.index }) g.assumptions.uniquely_originating) e
       ((sk.given (f.strands s) role goes.to_height goes.to_terms goes.on_instance).unique given.atom given.index given.listed (given.applies.0, lt_of_lt_of_le given.applies.1 goes.at_least)))
@@ -47,13 +48,13 @@ module _ (protocol : Protocol) (g : Skeleton) (sk : IsSkeleton protocol g) (f : 
 -- ---- the homomorphism
 
 module _ (protocol : Protocol) (variables : List Declaration) (problem g : Skeleton) (own : IsPointOfView variables problem) (sk : IsSkeleton protocol g) (stated : KeepsStated problem g)
-    (instances : (s : ℕ) (role : Role) (height : ℕ) (terms : Substitution) → item_at problem.strands s ≡ Some (instance role height terms) → GoesToInstance g (map_from_problem g) s role height terms) where
+    (instances : (s : ℕ) (role : Role) (height : ℕ) (terms : List Binding) → item_at problem.strands s ≡ Some (instance role height terms) → GoesToInstance g (map_from_problem g) s role height terms) where
   abbrev f : SkeletonMap
   f = map_from_problem g
 
   -- an assumption that the problem states itself is there, and so is one that a strand gives
   atom_there : (stated : Role → List AtomTerm) (listed : List AtomTerm)
-      → ((s : ℕ) (role : Role) (height : ℕ) (terms : Substitution) → item_at g.strands s ≡ Some (instance role height terms) → (w : AtomTerm) → IsIn w (stated role) → Applies role height w → IsIn (apply_to_atom terms w) listed)
+      → ((s : ℕ) (role : Role) (height : ℕ) (terms : List Binding) → item_at g.strands s ≡ Some (instance role height terms) → (w : AtomTerm) → IsIn w (stated role) → Applies role height w → IsIn (apply_to_atom (as_substitution terms) w) listed)
       → (v : AtomTerm) → IsGivenByOne (GivesAtom stated v) problem.strands → IsIn (apply_to_atom f.terms v) listed
   atom_there stated listed gives v r =
       let goes = instances r.strand r.role r.height r.terms r.on_instance in

@@ -2,8 +2,8 @@
 use Rattle.std.proofs.Common.{◌≡◌, ◌≢◌, ◌<◌, ◌+◌, ℕ, zero, suc, List, [], ◌∷◌, Some, refl, sym, ap, ◌∙◌, subst, ⊎_elim, le_refl, arith}
 use Rattle.cp_lists.specs.Lists.{item_at, IsIn, here, there, one_step, more_steps}
 use Rattle.cp_lists.proofs.Members.{not_in_none, of_each}
-use Rattle.cp_model.specs.Term.{Term, Substitution}
-use Rattle.cp_model.specs.Identity.{unchanged}
+use Rattle.cp_model.specs.Term.{Term}
+use Rattle.cp_model.specs.Bindings.{Binding}
 use Rattle.cp_model.specs.Strand.{Role, IsHeight}
 use Rattle.cp_model.specs.declared.strand.Event.TheVariants.{Send as send, Receive as recv}
 use Rattle.cp_model.specs.Bundle.{node_at}
@@ -88,14 +88,14 @@ fit pairs each = record { normal = is_normal [] pairs each; realised = all_deriv
 of_problem : (others : List SkeletonStrand) (pairs : List OrderPair) → IsOrderPair (heard_with others pairs) (sent_by 1)
 of_problem others pairs = record { sent = text; received = text; transmission = refl; reception = refl; between_strands = λ e. absurd (omega arith) }
 
-module _ (P : ℕ → Role → ℕ → Substitution → Type 0) (first : P 1 sender 1 unchanged) (second : P 2 sender 1 unchanged) where
-  each_instance : (s : ℕ) (role : Role) (height : ℕ) (terms : Substitution) → item_at sent_twice.strands s ≡ Some (instance role height terms) → P s role height terms
+module _ (P : ℕ → Role → ℕ → List Binding → Type 0) (first : P 1 sender 1 []) (second : P 2 sender 1 []) where
+  each_instance : (s : ℕ) (role : Role) (height : ℕ) (terms : List Binding) → item_at sent_twice.strands s ≡ Some (instance role height terms) → P s role height terms
   each_instance zero role height terms e = absurd (cc)
   each_instance (suc zero) role height terms e = same_instance (P 1) e first
   each_instance (suc (suc zero)) role height terms e = same_instance (P 2) e second
   each_instance (suc (suc (suc s))) role height terms e = absurd (cc)
 
-gives : (s : ℕ) → GivesAssumptions sent_twice s sender 1 unchanged
+gives : (s : ℕ) → GivesAssumptions sent_twice s sender 1 []
 gives s = record { non = λ v i a. absurd (not_in_none i); penetrator_non = λ v i a. absurd (not_in_none i); unique = λ v n i a. absurd (not_in_none i) }
 
 pub is_skeleton : IsSkeleton protocol sent_twice
@@ -165,6 +165,7 @@ deleted : Deletes 2 sent_twice sent_once
 deleted = record {
   within = omega arith;
   no_image = λ i. of_each (λ (n : ℕ). n ≡ 2 → ⊥) (λ e. absurd (omega arith)) (λ j. of_each (λ (n : ℕ). n ≡ 2 → ⊥) (λ e. absurd (omega arith)) (λ l. absurd (not_in_none l)) j) i refl;
+  variables = refl;
   strands = refl;
   pairs = λ p i. of_each (IsOrderPair sent_once) (of_problem [] (sent_by 1 ∷ [])) (λ j. absurd (not_in_none j)) i;
   order = λ x y nx ny. (before_with x y nx ny, λ before. still_before before nx);

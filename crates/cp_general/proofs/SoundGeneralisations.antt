@@ -1,5 +1,5 @@
 -- What a skeleton generalises to is sound where the skeleton is, it is fit, it embeds in the skeleton, and no step applies to it.
-use Rattle.std.proofs.Common.{ℕ, List}
+use Rattle.std.proofs.Common.{◌≡◌, ℕ, List, ap, ◌∙◌}
 use Rattle.cp_model.specs.Strand.{Protocol}
 use Rattle.cp_model.specs.declared.variable.Declaration.{Declaration}
 use Rattle.cp_model.specs.declared.node.OrderPair.{OrderPair}
@@ -76,6 +76,11 @@ module _ (variables : List Declaration) where
   are_declared r it =
       way_keeps (HasDeclaredVariables variables) (λ h declared. declared_listed h variables declared) (λ d k h del declared. deleted_declared d k h del variables declared)
       (λ p k h drop declared. dropped_declared p k h drop variables declared) r it
+
+  -- A generalisation declares what the skeleton does.
+  pub same_table : {k g : Skeleton} → GeneralisesTo k g → k.variables ≡ variables → g.variables ≡ variables
+  same_table r it =
+      way_keeps (λ (x : Skeleton). x.variables ≡ variables) (λ h is. is) (λ d k h del is. del.variables ∙ is) (λ p k h drop is. ap (λ (x : Skeleton). x.variables) drop.same ∙ is) r it
 
 -- ---- the way from the problem
 

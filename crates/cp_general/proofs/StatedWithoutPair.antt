@@ -5,7 +5,8 @@ use native.Mathlib.Decide.{ℕ_discrete, dec_lt}
 use Rattle.cp_lists.specs.Lists.{item_at, IsIn, one_step, more_steps}
 use Rattle.cp_lists.proofs.Items.{map_of_item}
 use Rattle.cp_lists.proofs.Reached.{steps_append}
-use Rattle.cp_model.specs.Term.{Term, Substitution, apply_to}
+use Rattle.cp_model.specs.Term.{Term, apply_to}
+use Rattle.cp_model.specs.Bindings.{Binding}
 use Rattle.cp_model.specs.Strand.{event_map, Role, Protocol}
 use Rattle.cp_model.specs.declared.strand.Event.{Event}
 use Rattle.cp_model.specs.declared.variable.Declaration.{Declaration}
@@ -111,7 +112,7 @@ module _ (protocol : Protocol) (variables : List Declaration) (problem k h : Ske
     before_goes (one_step s) = step_goes s
     before_goes (more_steps s r) = steps_append (step_goes s) (before_goes r)
 
-    instance_goes : (s : ℕ) (role : Role) (height : ℕ) (terms : Substitution) → item_at problem.strands s ≡ Some (instance role height terms) → GoesToInstance left f s role height terms
+    instance_goes : (s : ℕ) (role : Role) (height : ℕ) (terms : List Binding) → item_at problem.strands s ≡ Some (instance role height terms) → GoesToInstance left f s role height terms
     instance_goes s role height terms at =
         let g = carries.homomorphism.instances s role height terms at in
         record { to_height = g.to_height; to_terms = g.to_terms; on_instance = g.on_instance; at_least = g.at_least; equal_terms = g.equal_terms }

@@ -5,6 +5,7 @@ use Rattle.cp_lists.specs.Lists.{item_at, IsIn}
 use Rattle.cp_lists.proofs.Items.{item_below, map_of_item}
 use Rattle.cp_lists.proofs.Mapped.{map_then, map_alike}
 use Rattle.cp_model.specs.Term.{AtomTerm, Term, Substitution, apply_to, apply_to_atom, composed, AgreeOnTerms}
+use Rattle.cp_model.specs.Bindings.{Binding, as_substitution}
 use Rattle.cp_model.specs.Strand.{Role, Protocol, variables_of_prefix}
 use Rattle.cp_model.specs.declared.variable.Declaration.{Declaration}
 use Rattle.cp_model.specs.Bundle.{node_at}
@@ -114,7 +115,7 @@ module _ (protocol : Protocol) (variables : List Declaration) (problem k h : Ske
 
   -- ---- the homomorphism
 
-  instance_goes : (s : ℕ) (role : Role) (height : ℕ) (terms : Substitution) → item_at problem.strands s ≡ Some (instance role height terms) → GoesToInstance h last s role height terms
+  instance_goes : (s : ℕ) (role : Role) (height : ℕ) (terms : List Binding) → item_at problem.strands s ≡ Some (instance role height terms) → GoesToInstance h last s role height terms
   instance_goes s role height terms at =
       let g = carries.homomorphism.instances s role height terms at in
       let below : s < length problem.strands = item_below problem.strands s (instance role height terms) at in
@@ -123,7 +124,7 @@ module _ (protocol : Protocol) (variables : List Declaration) (problem k h : Ske
         to_terms = g.to_terms;
         on_instance = ap (item_at h.strands) (goes s below) ∙ strand_stays d k h del (first.strands s) (instance role g.to_height g.to_terms) (off s below) g.on_instance;
         at_least = g.at_least;
-        equal_terms = subst (λ (t : Substitution). AgreeOnTerms (variables_of_prefix role height) (composed terms t) g.to_terms) same_terms g.equal_terms;
+        equal_terms = subst (λ (t : Substitution). AgreeOnTerms (variables_of_prefix role height) (composed (as_substitution terms) t) (as_substitution g.to_terms)) same_terms g.equal_terms;
       }
 
   listener_goes : (s : ℕ) (t : Term) → item_at problem.strands s ≡ Some (listener t) → item_at h.strands (last.strands s) ≡ Some (listener (apply_to last.terms t))

@@ -2,7 +2,6 @@
 use Rattle.std.specs.Prelude.{ℕ, List, [], ◌∷◌}
 use Rattle.cp_model.specs.Term.{text_variable, Term, atom_term}
 use Rattle.cp_model.specs.declared.sort.Sort.TheVariants.{Text as text_sort}
-use Rattle.cp_model.specs.Identity.{unchanged}
 use Rattle.cp_model.specs.Strand.{Role, Protocol}
 use Rattle.cp_model.specs.declared.strand.Event.TheVariants.{Send as send}
 use Rattle.cp_model.specs.Bundle.{node_at}
@@ -30,7 +29,7 @@ abbrev pub no_assumptions : Assumptions
 no_assumptions = record { non_originating = []; penetrator_non_originating = []; uniquely_originating = [] }
 
 abbrev pub sending : SkeletonStrand
-sending = instance sender 1 unchanged
+sending = instance sender 1 []
 
 -- What strand number s sends is before what the listener hears.
 abbrev pub sent_by : ℕ → OrderPair
@@ -39,6 +38,7 @@ sent_by s = record { earlier = node_at s 0; later = node_at 0 0 }
 -- The problem has a listener and a strand that sends the text, in no order; here they are with these other strands and pairs.
 abbrev pub heard_with : List SkeletonStrand → List OrderPair → Skeleton
 heard_with others pairs = record {
+  variables = sender.variables;
   strands = listener text ∷ sending ∷ others;
   pairs = pairs;
   assumptions = no_assumptions;

@@ -10,10 +10,11 @@ use Rattle.cp_derive.specs.Unrealised.{IsListedBefore}
 use Rattle.cp_normal.specs.Findings.{IsAddedPair}
 
 -- h is k without strand number d, which is the image of no strand of the problem. The other strands keep their order, and their
--- nodes the order among them; the assumptions that strand d alone gave are forgotten.
+-- nodes the order among them; the assumptions that strand d alone gave are forgotten. All variables stay declared.
 pub record Deletes (d : ℕ) (k h : Skeleton) : Type 0 where
   pub within : d < length k.strands
   pub no_image : IsIn d k.from_problem.strands → ⊥
+  pub variables : h.variables ≡ k.variables
   pub strands : h.strands ≡ remove k.strands d
   pub pairs : (p : OrderPair) → IsIn p h.pairs → IsOrderPair h p
   pub order : KeepsOrderOfOthers d k h

@@ -1,7 +1,6 @@
 // The step that deletes a strand.
 ghost use Rattle.std.specs.Prelude.{◌≡◌, ◌↔◌, ◌<◌, length, IsTrue, IfOk, IfSome, IfNone};
 ghost use Rattle.cp_lists.specs.Lists.{IsIn};
-ghost use Rattle.cp_skel.specs.View.{skeleton_view};
 ghost use Rattle.cp_general.specs.Steps.{Deletes};
 ghost use Rattle.cp_general.specs.Generalisation.{DeletesNone, StepsTo};
 ghost use Rattle.cp_general.specs.ProgramSteps.{NeverDeletes, LeavesFit};
@@ -24,9 +23,9 @@ fn is_image(strands: &[usize], strand: usize) -> bool
 
 /// The skeleton without a strand that exists and to which no strand of the problem maps.
 fn without_strand(alloc: Global, k: &Skeleton, strand: usize) -> Result<Skeleton, AllocError>
-    requires there_is { strand < length (skeleton_view k.now).strands }
-    requires no_image { IsIn strand (skeleton_view k.now).from_problem.strands → ⊥ }
-    ensures deletes { IfOk result (λ h. Deletes strand (skeleton_view k.now) (skeleton_view h)) }
+    requires there_is { strand < length k.now.strands }
+    requires no_image { IsIn strand k.now.from_problem.strands → ⊥ }
+    ensures deletes { IfOk result (λ h. Deletes strand k.now h) }
     ensures variables { IfOk result (λ h. h.variables ≡ k.now.variables) }
 {
     let mut left = k.copy(alloc)?;
@@ -37,9 +36,9 @@ fn without_strand(alloc: Global, k: &Skeleton, strand: usize) -> Result<Skeleton
 
 /// The skeleton without a strand that exists, if it may be deleted and the rest is fit: normal and realised.
 fn try_deletion(alloc: Global, k: &Skeleton, strand: usize) -> Result<Option<Skeleton>, AllocError>
-    requires { strand < length (skeleton_view k.now).strands }
-    ensures some { IfOk result (λ found. IfSome found (λ h. LeavesFit strand (skeleton_view k.now) (skeleton_view h))) }
-    ensures none { IfOk result (λ found. IfNone found (NeverDeletes strand (skeleton_view k.now))) }
+    requires { strand < length k.now.strands }
+    ensures some { IfOk result (λ found. IfSome found (λ h. LeavesFit strand k.now h)) }
+    ensures none { IfOk result (λ found. IfNone found (NeverDeletes strand k.now)) }
     ensures variables { IfOk result (λ found. IfSome found (λ h. h.variables ≡ k.now.variables)) }
 {
     k.is_sound();
@@ -54,9 +53,9 @@ fn try_deletion(alloc: Global, k: &Skeleton, strand: usize) -> Result<Option<Ske
 /// The step that deletes a strand: of all strands whose deletion leaves a fit skeleton, the one with the highest number. The
 /// result lists its assumptions in report order. `None` if there is no such strand.
 pub(crate) fn first_deletion(alloc: Global, k: &Skeleton) -> Result<Option<Skeleton>, AllocError>
-    ensures some { IfOk result (λ found. IfSome found (λ h. StepsTo (skeleton_view k.now) (skeleton_view h))) }
-    ensures none { IfOk result (λ found. IfNone found (DeletesNone (skeleton_view k.now))) }
-    ensures fewer { IfOk result (λ found. IfSome found (λ h. length (skeleton_view h).strands < length (skeleton_view k.now).strands)) }
+    ensures some { IfOk result (λ found. IfSome found (λ h. StepsTo k.now h)) }
+    ensures none { IfOk result (λ found. IfNone found (DeletesNone k.now)) }
+    ensures fewer { IfOk result (λ found. IfSome found (λ h. length h.strands < length k.now.strands)) }
     ensures variables { IfOk result (λ found. IfSome found (λ h. h.variables ≡ k.now.variables)) }
 {
     let mut rest = k.strands().len();

@@ -10,7 +10,6 @@ ghost use Rattle.cp_model.specs.Skeleton.{IsNodeOf, term_event_at};
 ghost use Rattle.cp_model.specs.Derivable.{DerivableAt};
 ghost use Rattle.cp_skel.specs.Ordered.{ordered_by};
 ghost use Rattle.cp_skel.specs.Sound.{IsSound};
-ghost use Rattle.cp_skel.specs.View.{skeleton_view};
 ghost use Rattle.cp_collapse.specs.Property.{Has};
 ghost use Rattle.cp_normal.specs.Findings.{IsAddedPair};
 ghost use Rattle.cp_normal.specs.OwnPairs.{AllLead};
@@ -89,7 +88,7 @@ fn some_is_in_neither(first: &[OrderPair], second: &[OrderPair], pairs: &[OrderP
 /// Whether one of the skeleton's pairs is neither stated by the problem nor added by a unique value. Only such a pair can be
 /// dropped.
 pub(crate) fn some_may_drop(alloc: Global, k: &Skeleton) -> Result<bool, AllocError>
-    ensures { IfOk result (λ some. IsTrue some ↔ HasFreePair (skeleton_view k.now)) }
+    ensures { IfOk result (λ some. IsTrue some ↔ HasFreePair k.now) }
 {
     let added = added_pairs(alloc, k)?;
     let some = some_is_in_neither(k.from_problem().pairs(), &added, k.order().pairs());
@@ -118,10 +117,10 @@ fn may_drop(
     added: &[OrderPair],
     pair: OrderPair,
 ) -> Result<bool, AllocError>
-    requires lists { ListsOrder (skeleton_view k.now) k.now.order }
-    requires added { (p : Plain) → IsIn p added.now ↔ IsAddedPair (skeleton_view k.now) p }
-    requires listed { IsIn pair k.now.order }
-    ensures { IfOk result (λ may. IsTrue may ↔ MayDrop pair (skeleton_view k.now)) }
+    requires lists { ListsOrder k.now k.now.pairs }
+    requires added { (p : Plain) → IsIn p added.now ↔ IsAddedPair k.now p }
+    requires listed { IsIn pair k.now.pairs }
+    ensures { IfOk result (λ may. IsTrue may ↔ MayDrop pair k.now) }
 {
     k.is_sound();
     if is_among(k.from_problem().pairs(), pair) {
@@ -136,9 +135,9 @@ fn may_drop(
 
 /// The skeleton's order without this pair, if the rest still has the order that the problem states.
 fn order_without(alloc: Global, k: &Skeleton, pair: OrderPair) -> Result<Option<Order>, AllocError>
-    ensures order { IfOk result (λ found. IfSome found (λ o. o ≡ filter (is_other_pair pair) k.now.order)) }
-    ensures keeps { IfOk result (λ found. IfSome found (λ o. AllLead o (skeleton_view k.now).from_problem.pairs)) }
-    ensures none { IfOk result (λ found. IfNone found (AllLead (filter (is_other_pair pair) k.now.order) (skeleton_view k.now).from_problem.pairs → ⊥)) }
+    ensures order { IfOk result (λ found. IfSome found (λ o. o ≡ filter (is_other_pair pair) k.now.pairs)) }
+    ensures keeps { IfOk result (λ found. IfSome found (λ o. AllLead o k.now.from_problem.pairs)) }
+    ensures none { IfOk result (λ found. IfNone found (AllLead (filter (is_other_pair pair) k.now.pairs) k.now.from_problem.pairs → ⊥)) }
 {
     let pairs = others(alloc, k.order().pairs(), pair)?;
     let order = Order::of(pairs);
@@ -148,8 +147,8 @@ fn order_without(alloc: Global, k: &Skeleton, pair: OrderPair) -> Result<Option<
 
 /// Whether the message received at this reception is derivable there.
 fn is_derived(alloc: Global, k: &Skeleton, node: Node) -> Result<bool, AllocError>
-    requires { IsNodeOf (skeleton_view k.now).strands node }
-    ensures { IfOk result (λ derived. (t : Term) → term_event_at (skeleton_view k.now).strands node ≡ Some (recv t) → IsTrue derived ↔ DerivableAt (skeleton_view k.now) node t) }
+    requires { IsNodeOf k.now.strands node }
+    ensures { IfOk result (λ derived. (t : Term) → term_event_at k.now.strands node ≡ Some (recv t) → IsTrue derived ↔ DerivableAt k.now node t) }
 {
     let found = critical(alloc, k, node)?;
     Ok(found.is_none())
@@ -163,13 +162,13 @@ fn derived_in_order(
     order: Order,
     node: Node,
 ) -> Result<Option<Skeleton>, AllocError>
-    requires sound { IsSound (ordered_by (skeleton_view k.now) order) }
-    requires there { IsNodeOf (skeleton_view k.now).strands node }
-    ensures exact { IfOk result (λ found. IfSome found (λ h. h ≡ record (k.now) { order = order })) }
-    ensures derived { IfOk result (λ found. IfSome found (λ _. (t : Term) → term_event_at (skeleton_view k.now).strands node ≡ Some (recv t)
-        → DerivableAt (ordered_by (skeleton_view k.now) order) node t)) }
-    ensures none { IfOk result (λ found. IfNone found ((t : Term) → term_event_at (skeleton_view k.now).strands node ≡ Some (recv t)
-        → DerivableAt (ordered_by (skeleton_view k.now) order) node t → ⊥)) }
+    requires sound { IsSound (ordered_by k.now order) }
+    requires there { IsNodeOf k.now.strands node }
+    ensures exact { IfOk result (λ found. IfSome found (λ h. h ≡ record (k.now) { pairs = order })) }
+    ensures derived { IfOk result (λ found. IfSome found (λ _. (t : Term) → term_event_at k.now.strands node ≡ Some (recv t)
+        → DerivableAt (ordered_by k.now order) node t)) }
+    ensures none { IfOk result (λ found. IfNone found ((t : Term) → term_event_at k.now.strands node ≡ Some (recv t)
+        → DerivableAt (ordered_by k.now order) node t → ⊥)) }
 {
     let less = reordered(alloc, k, order)?;
     let derived = is_derived(alloc, &less, node)?;
@@ -179,11 +178,11 @@ fn derived_in_order(
 /// The skeleton without a pair that may be dropped, if the rest keeps what the problem states and is fit. Only the reception of
 /// that pair needs to be tested.
 fn try_drop(alloc: Global, k: &Skeleton, pair: OrderPair) -> Result<Option<Skeleton>, AllocError>
-    requires lists { ListsOrder (skeleton_view k.now) k.now.order }
-    requires fit { IsFit (skeleton_view k.now) }
-    requires may { MayDrop pair (skeleton_view k.now) }
-    ensures some { IfOk result (λ found. IfSome found (λ h. LeavesFitOrder pair (skeleton_view k.now) (skeleton_view h))) }
-    ensures none { IfOk result (λ found. IfNone found (NeverDrops pair (skeleton_view k.now))) }
+    requires lists { ListsOrder k.now k.now.pairs }
+    requires fit { IsFit k.now }
+    requires may { MayDrop pair k.now }
+    ensures some { IfOk result (λ found. IfSome found (λ h. LeavesFitOrder pair k.now h)) }
+    ensures none { IfOk result (λ found. IfNone found (NeverDrops pair k.now)) }
     ensures variables { IfOk result (λ found. IfSome found (λ h. h.variables ≡ k.now.variables)) }
 {
     k.is_sound();
@@ -196,10 +195,10 @@ fn try_drop(alloc: Global, k: &Skeleton, pair: OrderPair) -> Result<Option<Skele
 /// The step that drops a pair: of all pairs that can be dropped, the lowest. The skeleton must be fit and list all pairs of its
 /// order. `None` if no pair can be dropped so that the rest is fit.
 pub(crate) fn first_drop(alloc: Global, k: &Skeleton) -> Result<Option<Skeleton>, AllocError>
-    requires lists { ListsOrder (skeleton_view k.now) k.now.order }
-    requires fit { IsFit (skeleton_view k.now) }
-    ensures some { IfOk result (λ found. IfSome found (λ h. WeakensFirst (skeleton_view k.now) (skeleton_view h))) }
-    ensures none { IfOk result (λ found. IfNone found (WeakensNone (skeleton_view k.now))) }
+    requires lists { ListsOrder k.now k.now.pairs }
+    requires fit { IsFit k.now }
+    ensures some { IfOk result (λ found. IfSome found (λ h. WeakensFirst k.now h)) }
+    ensures none { IfOk result (λ found. IfNone found (WeakensNone k.now)) }
     ensures variables { IfOk result (λ found. IfSome found (λ h. h.variables ≡ k.now.variables)) }
 {
     let added = added_pairs(alloc, k)?;

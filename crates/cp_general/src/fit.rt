@@ -1,7 +1,6 @@
 // Tests whether a skeleton is fit: normal and realised.
-ghost use Rattle.std.specs.Prelude.{◌≡◌, ◌↔◌, IsTrue, IfOk};
+ghost use Rattle.std.specs.Prelude.{◌↔◌, IsTrue, IfOk};
 ghost use Rattle.cp_model.specs.Realisation.{AllDerivable};
-ghost use Rattle.cp_skel.specs.View.{skeleton_view};
 ghost use Rattle.cp_general.specs.Fit.{IsFit};
 
 use cp_derive::unrealised;
@@ -11,7 +10,7 @@ use std::alloc::{AllocError, Global};
 
 /// Whether all receptions are derivable.
 fn is_realised(alloc: Global, k: &Skeleton) -> Result<bool, AllocError>
-    ensures { IfOk result (λ realised. IsTrue realised ↔ AllDerivable (skeleton_view k.now)) }
+    ensures { IfOk result (λ realised. IsTrue realised ↔ AllDerivable k.now) }
 {
     let nodes = unrealised(alloc, k)?;
     Ok(nodes.is_empty())
@@ -19,7 +18,7 @@ fn is_realised(alloc: Global, k: &Skeleton) -> Result<bool, AllocError>
 
 /// Whether the skeleton is normal, and all its receptions are derivable.
 pub(crate) fn is_fit(alloc: Global, k: &Skeleton) -> Result<bool, AllocError>
-    ensures { IfOk result (λ fit. IsTrue fit ↔ IsFit (skeleton_view k.now)) }
+    ensures { IfOk result (λ fit. IsTrue fit ↔ IsFit k.now) }
 {
     if !is_normal(alloc, k)? {
         return Ok(false);

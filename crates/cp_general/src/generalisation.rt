@@ -2,7 +2,6 @@
 ghost use Rattle.std.specs.Prelude.{◌≡◌, IfOk, OnOk, IfSome, IfNone};
 ghost use Rattle.cp_model.specs.Homomorphism.{Embeds};
 ghost use Rattle.cp_model.specs.Skeleton.{Skeleton as Plain};
-ghost use Rattle.cp_skel.specs.View.{skeleton_view};
 ghost use Rattle.cp_general.specs.Fit.{IsFit};
 ghost use Rattle.cp_general.specs.Generalisation.{DeletesNone, WeakensNone, IsMaximallyGeneral, GeneralisesTo, IsGeneralisationOf};
 ghost use Rattle.cp_general.specs.ListedPairs.{ListsOrder};
@@ -17,8 +16,8 @@ use std::alloc::{AllocError, Global};
 
 /// Deletes strands until none can be deleted.
 fn delete_strands(alloc: Global, k: &mut Skeleton) -> Result<(), AllocError>
-    ensures comes { OnOk result ((first : Plain) → ComesBySteps first (skeleton_view k.old) → ComesBySteps first (skeleton_view k.new)) }
-    ensures last { OnOk result (DeletesNone (skeleton_view k.new)) }
+    ensures comes { OnOk result ((first : Plain) → ComesBySteps first k.old → ComesBySteps first k.new) }
+    ensures last { OnOk result (DeletesNone k.new) }
     ensures variables { OnOk result (k.new.variables ≡ k.old.variables) }
 {
     while let Some(next) = first_deletion(alloc, k)? {
@@ -29,9 +28,9 @@ fn delete_strands(alloc: Global, k: &mut Skeleton) -> Result<(), AllocError>
 
 /// The skeleton after strands are deleted until none can be; `None` if none can be deleted at first.
 fn deleted(alloc: Global, k: &Skeleton) -> Result<Option<Skeleton>, AllocError>
-    ensures some { IfOk result (λ found. IfSome found (λ h. ComesBySteps (skeleton_view k.now) (skeleton_view h))) }
-    ensures last { IfOk result (λ found. IfSome found (λ h. DeletesNone (skeleton_view h))) }
-    ensures none { IfOk result (λ found. IfNone found (DeletesNone (skeleton_view k.now))) }
+    ensures some { IfOk result (λ found. IfSome found (λ h. ComesBySteps k.now h)) }
+    ensures last { IfOk result (λ found. IfSome found (λ h. DeletesNone h)) }
+    ensures none { IfOk result (λ found. IfNone found (DeletesNone k.now)) }
     ensures variables { IfOk result (λ found. IfSome found (λ h. h.variables ≡ k.now.variables)) }
 {
     match first_deletion(alloc, k)? {
@@ -45,9 +44,9 @@ fn deleted(alloc: Global, k: &Skeleton) -> Result<Option<Skeleton>, AllocError>
 
 /// Weakens the order until no pair can be dropped. The skeleton must be fit and list all pairs of its order.
 fn drop_pairs(alloc: Global, k: &mut Skeleton) -> Result<(), AllocError>
-    requires lists { ListsOrder (skeleton_view k.old) k.old.order }
-    requires fit { IsFit (skeleton_view k.old) }
-    ensures leads { OnOk result ((first : Plain) → IsReachedByWeakening first (skeleton_view k.old) → GeneralisesTo first (skeleton_view k.new)) }
+    requires lists { ListsOrder k.old k.old.pairs }
+    requires fit { IsFit k.old }
+    ensures leads { OnOk result ((first : Plain) → IsReachedByWeakening first k.old → GeneralisesTo first k.new) }
     ensures variables { OnOk result (k.new.variables ≡ k.old.variables) }
 {
     while let Some(next) = first_drop(alloc, k)? {
@@ -59,11 +58,11 @@ fn drop_pairs(alloc: Global, k: &mut Skeleton) -> Result<(), AllocError>
 /// The skeleton after pairs are dropped until none can be; `None` if none can be dropped at first. It must be fit and list all
 /// pairs of its order.
 fn dropped_of_all(alloc: Global, all: &Skeleton) -> Result<Option<Skeleton>, AllocError>
-    requires lists { ListsOrder (skeleton_view all.now) all.now.order }
-    requires fit { IsFit (skeleton_view all.now) }
+    requires lists { ListsOrder all.now all.now.pairs }
+    requires fit { IsFit all.now }
     ensures some { IfOk result (λ found. IfSome found (λ g. (k : Plain)
-        → ((h : Plain) → WeakensFirst (skeleton_view all.now) h → IsReachedByWeakening k h) → GeneralisesTo k (skeleton_view g))) }
-    ensures none { IfOk result (λ found. IfNone found (WeakensNone (skeleton_view all.now))) }
+        → ((h : Plain) → WeakensFirst all.now h → IsReachedByWeakening k h) → GeneralisesTo k g)) }
+    ensures none { IfOk result (λ found. IfNone found (WeakensNone all.now)) }
     ensures variables { IfOk result (λ found. IfSome found (λ g. g.variables ≡ all.now.variables)) }
 {
     match first_drop(alloc, all)? {
@@ -78,10 +77,10 @@ fn dropped_of_all(alloc: Global, all: &Skeleton) -> Result<Option<Skeleton>, All
 /// The skeleton after pairs are dropped until none can be; `None` if none can be dropped at first. It must be fit, and no strand
 /// of it may be deletable.
 fn dropped_where_fit(alloc: Global, k: &Skeleton) -> Result<Option<Skeleton>, AllocError>
-    requires none { DeletesNone (skeleton_view k.now) }
-    requires fit { IsFit (skeleton_view k.now) }
-    ensures some { IfOk result (λ found. IfSome found (λ g. GeneralisesTo (skeleton_view k.now) (skeleton_view g))) }
-    ensures none { IfOk result (λ found. IfNone found (WeakensNone (skeleton_view k.now))) }
+    requires none { DeletesNone k.now }
+    requires fit { IsFit k.now }
+    ensures some { IfOk result (λ found. IfSome found (λ g. GeneralisesTo k.now g)) }
+    ensures none { IfOk result (λ found. IfNone found (WeakensNone k.now)) }
     ensures variables { IfOk result (λ found. IfSome found (λ g. g.variables ≡ k.now.variables)) }
 {
     k.is_sound();
@@ -92,9 +91,9 @@ fn dropped_where_fit(alloc: Global, k: &Skeleton) -> Result<Option<Skeleton>, Al
 /// The skeleton after pairs are dropped until none can be; `None` if none can be dropped at first, which is clear at once if the
 /// problem and unique values give all its pairs. No strand may be deletable; dropping pairs keeps it so.
 fn dropped(alloc: Global, k: &Skeleton) -> Result<Option<Skeleton>, AllocError>
-    requires { DeletesNone (skeleton_view k.now) }
-    ensures some { IfOk result (λ found. IfSome found (λ g. GeneralisesTo (skeleton_view k.now) (skeleton_view g))) }
-    ensures none { IfOk result (λ found. IfNone found (WeakensNone (skeleton_view k.now))) }
+    requires { DeletesNone k.now }
+    ensures some { IfOk result (λ found. IfSome found (λ g. GeneralisesTo k.now g)) }
+    ensures none { IfOk result (λ found. IfNone found (WeakensNone k.now)) }
     ensures variables { IfOk result (λ found. IfSome found (λ g. g.variables ≡ k.now.variables)) }
 {
     k.is_sound();
@@ -109,8 +108,8 @@ fn dropped(alloc: Global, k: &Skeleton) -> Result<Option<Skeleton>, AllocError>
 
 /// Weakens the order until no pair can be dropped. No strand may be deletable.
 fn drop_further(alloc: Global, k: &mut Skeleton) -> Result<(), AllocError>
-    requires { DeletesNone (skeleton_view k.old) }
-    ensures leads { OnOk result ((first : Plain) → ComesBySteps first (skeleton_view k.old) → GeneralisesTo first (skeleton_view k.new)) }
+    requires { DeletesNone k.old }
+    ensures leads { OnOk result ((first : Plain) → ComesBySteps first k.old → GeneralisesTo first k.new) }
     ensures variables { OnOk result (k.new.variables ≡ k.old.variables) }
 {
     match dropped(alloc, k)? {
@@ -130,8 +129,8 @@ fn drop_further(alloc: Global, k: &mut Skeleton) -> Result<(), AllocError>
 /// A step is taken if the rest is normal and realised and keeps what the problem states of the order. After each step the first
 /// kind is tried again.
 pub fn generalised(alloc: Global, k: &Skeleton) -> Result<Option<Skeleton>, AllocError>
-    ensures some { IfOk result (λ found. IfSome found (λ g. GeneralisesTo (skeleton_view k.now) (skeleton_view g))) }
-    ensures none { IfOk result (λ found. IfNone found (IsMaximallyGeneral (skeleton_view k.now))) }
+    ensures some { IfOk result (λ found. IfSome found (λ g. GeneralisesTo k.now g)) }
+    ensures none { IfOk result (λ found. IfNone found (IsMaximallyGeneral k.now)) }
     ensures variables { IfOk result (λ found. IfSome found (λ g. g.variables ≡ k.now.variables)) }
 {
     match deleted(alloc, k)? {
@@ -146,10 +145,10 @@ pub fn generalised(alloc: Global, k: &Skeleton) -> Result<Option<Skeleton>, Allo
 /// The generalisation of a skeleton: the result of [`generalised`], or the skeleton itself if no step applies. It embeds in the
 /// skeleton over the problem, and no step applies to it. If the skeleton is normal and realised, so is the generalisation.
 pub fn generalise(alloc: Global, k: &Skeleton) -> Result<Skeleton, AllocError>
-    ensures exact { IfOk result (λ g. IsGeneralisationOf (skeleton_view k.now) (skeleton_view g)) }
-    ensures most_general { IfOk result (λ g. IsMaximallyGeneral (skeleton_view g)) }
-    ensures embeds { IfOk result (λ g. Embeds (skeleton_view g) (skeleton_view k.now)) }
-    ensures fit { IfOk result (λ g. IsFit (skeleton_view k.now) → IsFit (skeleton_view g)) }
+    ensures exact { IfOk result (λ g. IsGeneralisationOf k.now g) }
+    ensures most_general { IfOk result (λ g. IsMaximallyGeneral g) }
+    ensures embeds { IfOk result (λ g. Embeds g k.now) }
+    ensures fit { IfOk result (λ g. IsFit k.now → IsFit g) }
     ensures variables { IfOk result (λ g. g.variables ≡ k.now.variables) }
 {
     match generalised(alloc, k)? {

@@ -4,7 +4,6 @@ ghost use Rattle.cp_model.specs.declared.node.Node.{Node as Plain};
 ghost use Rattle.cp_model.specs.Skeleton.{Before};
 ghost use Rattle.cp_skel.specs.Ordered.{ordered_by};
 ghost use Rattle.cp_skel.specs.Sound.{IsSound};
-ghost use Rattle.cp_skel.specs.View.{skeleton_view};
 ghost use Rattle.cp_general.specs.ListedPairs.{ListsOrder, is_transmission, is_reception, nodes_where, gathered, leads_across, pairs_to_receptions, pairs_between};
 
 use cp_skel::{Event, LocatedEvent, Node, Order, OrderPair, Predecessors, Skeleton, SortedPairs};
@@ -109,7 +108,7 @@ fn pairs_between(
 
 /// All pairs of the skeleton's order from a transmission to a reception of another strand, in ascending order.
 fn pairs_of_order(alloc: Global, k: &Skeleton) -> Result<Vec<OrderPair>, AllocError>
-    ensures { IfOk result (λ ps. ListsOrder (skeleton_view k.now) ps.items) }
+    ensures { IfOk result (λ ps. ListsOrder k.now ps.items) }
 {
     k.is_sound();
     let occurrences = k.events(alloc)?;
@@ -121,8 +120,8 @@ fn pairs_of_order(alloc: Global, k: &Skeleton) -> Result<Vec<OrderPair>, AllocEr
 
 /// The skeleton with another order, with which it must be sound.
 pub(crate) fn reordered(alloc: Global, k: &Skeleton, order: Order) -> Result<Skeleton, AllocError>
-    requires { IsSound (ordered_by (skeleton_view k.now) order) }
-    ensures { IfOk result (λ h. h ≡ record (k.now) { order = order }) }
+    requires { IsSound (ordered_by k.now order) }
+    ensures { IfOk result (λ h. h ≡ record (k.now) { pairs = order }) }
 {
     Ok(Skeleton::new(
         k.variables().copy()?,
@@ -135,9 +134,9 @@ pub(crate) fn reordered(alloc: Global, k: &Skeleton, order: Order) -> Result<Ske
 
 /// The skeleton, listing all pairs of its order.
 pub(crate) fn with_all_pairs(alloc: Global, k: &Skeleton) -> Result<Skeleton, AllocError>
-    ensures same { IfOk result (λ h. h ≡ record (k.now) { order = h.order }) }
-    ensures before { IfOk result (λ h. (x y : Plain) → Before (skeleton_view h) x y ↔ Before (skeleton_view k.now) x y) }
-    ensures lists { IfOk result (λ h. ListsOrder (skeleton_view h) h.order) }
+    ensures same { IfOk result (λ h. h ≡ record (k.now) { pairs = h.pairs }) }
+    ensures before { IfOk result (λ h. (x y : Plain) → Before h x y ↔ Before k.now x y) }
+    ensures lists { IfOk result (λ h. ListsOrder h h.pairs) }
 {
     k.is_sound();
     let pairs = pairs_of_order(alloc, k)?;

@@ -5,7 +5,7 @@ use Rattle.std.proofs.lemmas.List.{drop_all, length-map}
 use Rattle.cp_lists.proofs.Members.{drop_read, suc_in, in_sucs, not_zero}
 use Rattle.cp_lists.specs.Lists.{item_at, IsIn, here, there}
 use Rattle.cp_lists.proofs.Without.{taken_out}
-use Rattle.cp_model.specs.Term.{Substitution}
+use Rattle.cp_model.specs.Bindings.{Binding}
 use Rattle.cp_model.specs.Strand.{Role}
 use Rattle.cp_model.specs.Skeleton.{SkeletonStrand, instance, listener, Skeleton}
 use Rattle.cp_model.specs.Homomorphism.{SkeletonMap, IsEmbedding}
@@ -23,31 +23,31 @@ module _ {A : Type 0} (fact : A → Type 0) where
   one_count (x ∷ xs) m n (inr h) (inr k) = one_count xs m n h.1 k.1
 
 -- The count so far, and that of the items that are left.
-abbrev pub IsCountedTo : {A B : Type 0} → (A → B) → (B → Type 0) → List A → ℕ → ℕ → Type 0
-IsCountedTo view fact xs i count = (n : ℕ) → IsCount fact (map view (drop i xs)) n → IsCount fact (map view xs) (count + n)
+abbrev pub IsCountedTo : {A : Type 0} → (A → Type 0) → List A → ℕ → ℕ → Type 0
+IsCountedTo fact xs i count = (n : ℕ) → IsCount fact (drop i xs) n → IsCount fact xs (count + n)
 
-pub counted_first : {A B : Type 0} (view : A → B) (fact : B → Type 0) (xs : List A) → IsCountedTo view fact xs 0 0
-counted_first view fact xs n h = let e : n ≡ 0 + n = omega arith in subst (IsCount fact (map view xs)) e h
+pub counted_first : {A : Type 0} (fact : A → Type 0) (xs : List A) → IsCountedTo fact xs 0 0
+counted_first fact xs n h = let e : n ≡ 0 + n = omega arith in subst (IsCount fact xs) e h
 
-module _ {A B : Type 0} (view : A → B) (fact : B → Type 0) (xs : List A) (i : ℕ) (x : A) (l : i < length xs) (is_x : x ≡ get_or xs i x) (count : ℕ) (so_far : IsCountedTo view fact xs i count) where
+module _ {A : Type 0} (fact : A → Type 0) (xs : List A) (i : ℕ) (x : A) (l : i < length xs) (is_x : x ≡ get_or xs i x) (count : ℕ) (so_far : IsCountedTo fact xs i count) where
   rest_is : drop i xs ≡ x ∷ drop (i + 1) xs
   rest_is = drop_read xs i x l is_x
 
-  pub counted_one : fact (view x) → IsCountedTo view fact xs (i + 1) (count + 1)
+  pub counted_one : fact x → IsCountedTo fact xs (i + 1) (count + 1)
   counted_one h n k =
-      let g : IsCount fact (map view (x ∷ drop (i + 1) xs)) (suc n) = inl (h, (n, refl, k)) in
+      let g : IsCount fact (x ∷ drop (i + 1) xs) (suc n) = inl (h, (n, refl, k)) in
       let e : count + suc n ≡ (count + 1) + n = omega arith in
-      subst (IsCount fact (map view xs)) e (so_far (suc n) (subst (λ (ys : List A). IsCount fact (map view ys) (suc n)) (sym rest_is) g))
+      subst (IsCount fact xs) e (so_far (suc n) (subst (λ (ys : List A). IsCount fact ys (suc n)) (sym rest_is) g))
 
-  pub counted_none : (fact (view x) → ⊥) → IsCountedTo view fact xs (i + 1) count
+  pub counted_none : (fact x → ⊥) → IsCountedTo fact xs (i + 1) count
   counted_none other n k =
-      let g : IsCount fact (map view (x ∷ drop (i + 1) xs)) n = inr (other, k) in
-      so_far n (subst (λ (ys : List A). IsCount fact (map view ys) n) (sym rest_is) g)
+      let g : IsCount fact (x ∷ drop (i + 1) xs) n = inr (other, k) in
+      so_far n (subst (λ (ys : List A). IsCount fact ys n) (sym rest_is) g)
 
-pub counted_all : {A B : Type 0} (view : A → B) (fact : B → Type 0) (xs : List A) (i count : ℕ) → length xs ≤ i → IsCountedTo view fact xs i count → IsCount fact (map view xs) count
-counted_all {A} view fact xs i count done so_far =
+pub counted_all : {A : Type 0} (fact : A → Type 0) (xs : List A) (i count : ℕ) → length xs ≤ i → IsCountedTo fact xs i count → IsCount fact xs count
+counted_all {A} fact xs i count done so_far =
     let e : count + 0 ≡ count = omega arith in
-    subst (IsCount fact (map view xs)) e (so_far 0 (subst (λ (ys : List A). IsCount fact (map view ys) 0) (sym (drop_all i xs done)) refl))
+    subst (IsCount fact xs) e (so_far 0 (subst (λ (ys : List A). IsCount fact ys 0) (sym (drop_all i xs done)) refl))
 
 -- ---- the places of the items that count
 
@@ -123,10 +123,10 @@ no_more f (n ∷ ns) ms distinct apart goes =
 
 -- ---- roles
 
-pub of_same_role : (role r : Role) (s : SkeletonStrand) (height : ℕ) (terms : Substitution) → s ≡ instance r height terms → r ≡ role → IsOfRole role s
+pub of_same_role : (role r : Role) (s : SkeletonStrand) (height : ℕ) (terms : List Binding) → s ≡ instance r height terms → r ≡ role → IsOfRole role s
 of_same_role role r s height terms is e = record { height = height; terms = terms; is_instance = is ∙ ap (λ (q : Role). instance q height terms) e }
 
-pub role_is_same : (role r : Role) (s : SkeletonStrand) (height : ℕ) (terms : Substitution) → s ≡ instance r height terms → IsOfRole role s → r ≡ role
+pub role_is_same : (role r : Role) (s : SkeletonStrand) (height : ℕ) (terms : List Binding) → s ≡ instance r height terms → IsOfRole role s → r ≡ role
 role_is_same role r s height terms is h = let e : instance r height terms ≡ instance role h.height h.terms = sym is ∙ h.is_instance in cc
 
 module _ (xs ys : List SkeletonStrand) (role : Role) (m n : ℕ) (first : IsCount (IsOfRole role) xs m) (second : IsCount (IsOfRole role) ys n) where

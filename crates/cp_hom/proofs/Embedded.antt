@@ -3,6 +3,7 @@ use Rattle.std.proofs.Common.{◌≡◌, ℕ, ◌<◌, List, length, refl, sym, 
 use Rattle.std.specs.Prelude.{Some}
 use Rattle.cp_lists.specs.Lists.{item_at, IsIn}
 use Rattle.cp_model.specs.Term.{AtomTerm, Term, Substitution, apply_to, apply_to_atom}
+use Rattle.cp_model.specs.Bindings.{Binding, as_substitution}
 use Rattle.cp_model.specs.Strand.{Role, prefix_of}
 use Rattle.cp_model.specs.Bundle.{node_at}
 use Rattle.cp_model.specs.declared.node.Node.{Node}
@@ -34,7 +35,7 @@ strand_taken a b f h s (instance role height terms) at =
         is_from = at;
         is_to = g.on_instance;
         goes = refl;
-        part = (refl, g.at_least, events_made f.terms (prefix_of role height) terms g.to_terms g.equal_terms);
+        part = (refl, g.at_least, events_made f.terms (prefix_of role height) (as_substitution terms) (as_substitution g.to_terms) g.equal_terms);
       },
     )
 strand_taken a b f h s (listener t) at =
@@ -90,14 +91,14 @@ embedding_pairs a b f order other h = pairs_kept a b f order other (record { ins
 part_of : (f : Substitution) (from to st : SkeletonStrand) → from ≡ st → MakesPart f from to → MakesPart f st to
 part_of f from to st e p = subst (λ (x : SkeletonStrand). MakesPart f x to) e p
 
-instance_goes : (b : Skeleton) (f : SkeletonMap) (s image : ℕ) (role : Role) (height : ℕ) (terms : Substitution) (to : SkeletonStrand) → item_at b.strands image ≡ Some to → f.strands s ≡ image →
+instance_goes : (b : Skeleton) (f : SkeletonMap) (s image : ℕ) (role : Role) (height : ℕ) (terms : List Binding) (to : SkeletonStrand) → item_at b.strands image ≡ Some to → f.strands s ≡ image →
     MakesPart f.terms (instance role height terms) to → GoesToInstance b f s role height terms
 instance_goes b f s image role height terms (instance other to_height to_terms) at goes part = record {
   to_height = to_height;
   to_terms = to_terms;
   on_instance = ap (item_at b.strands) goes ∙ at ∙ ap (λ (r : Role). Some (instance r to_height to_terms)) (sym part.0);
   at_least = part.1;
-  equal_terms = events_agreed f.terms (prefix_of role height) terms to_terms part.2;
+  equal_terms = events_agreed f.terms (prefix_of role height) (as_substitution terms) (as_substitution to_terms) part.2;
 }
 instance_goes b f s image role height terms (listener t) at goes part = absurd part
 

@@ -2,7 +2,8 @@
 use Rattle.std.proofs.Common.{◌≡◌, ◌≢◌, ℕ, zero, suc, ◌<◌, ◌≤◌, List, refl, subst₂, arith}
 use Rattle.std.specs.Prelude.{Some}
 use Rattle.cp_lists.specs.Lists.{item_at, IsIn, one_step, more_steps}
-use Rattle.cp_model.specs.Term.{Term, Substitution, apply_to}
+use Rattle.cp_model.specs.Term.{Term, apply_to}
+use Rattle.cp_model.specs.Bindings.{Binding, as_substitution}
 use Rattle.cp_model.specs.Strand.{event_map, Role}
 use Rattle.cp_model.specs.declared.strand.Event.{Event}
 use Rattle.cp_model.specs.declared.strand.Event.TheVariants.{Send as send, Receive as recv}
@@ -24,7 +25,7 @@ both_nodes pairs x y z w e l h = subst₂ (λ (n m : Node). ReachesAlong pairs n
 
 -- Instances go to instances and listeners to listeners.
 pub record StrandsGo (a b : Skeleton) (f : SkeletonMap) : Type 0 where
-  pub instances : (s : ℕ) (role : Role) (height : ℕ) (terms : Substitution) → item_at a.strands s ≡ Some (instance role height terms) → GoesToInstance b f s role height terms
+  pub instances : (s : ℕ) (role : Role) (height : ℕ) (terms : List Binding) → item_at a.strands s ≡ Some (instance role height terms) → GoesToInstance b f s role height terms
   pub listeners : (s : ℕ) (t : Term) → item_at a.strands s ≡ Some (listener t) → item_at b.strands (f.strands s) ≡ Some (listener (apply_to f.terms t))
 
 listener_event : (t u : Term) (i : ℕ) (e : Event Term) → item_at (skeleton_trace (listener t)) i ≡ Some e → (d : Event Term) × (item_at (skeleton_trace (listener u)) i ≡ Some d)
@@ -39,7 +40,7 @@ on_strand a b f go s i (instance role height terms) at e ev =
     let u = event_on_instance a.strands s i role height terms e at ev in
     let l : i < height = u.0 in
     let m : height ≤ g.to_height = g.at_least in
-    (event_map (apply_to g.to_terms) u.1, event_of_higher b.strands (f.strands s) i role g.to_height g.to_terms u.1 g.on_instance (omega arith) u.2)
+    (event_map (apply_to (as_substitution g.to_terms)) u.1, event_of_higher b.strands (f.strands s) i role g.to_height g.to_terms u.1 g.on_instance (omega arith) u.2)
 on_strand a b f go s i (listener t) at e ev =
     let h = listener_event t (apply_to f.terms t) i e (rw at at ev) in
     (h.0, rw (go.listeners s t at) h.1)

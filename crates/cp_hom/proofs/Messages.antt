@@ -7,10 +7,10 @@ use Rattle.cp_model.specs.Term.{Term, Substitution, apply_to}
 use Rattle.cp_model.specs.Strand.{payload, event_map, Role}
 use Rattle.cp_model.specs.declared.strand.Event.{Event}
 use Rattle.cp_model.specs.declared.strand.Event.TheVariants.{Send as send, Receive as recv}
-use Rattle.cp_model.specs.Skeleton.{skeleton_trace}
-use Rattle.cp_model.specs.Homomorphism.{SkeletonMap, substitution_by}
-use Rattle.cp_model.specs.Data.{InstanceData, StrandData}
-use Rattle.cp_strand.specs.View.{instance_as_data, instance_view, strand_view}
+use Rattle.cp_model.specs.Skeleton.{skeleton_trace, SkeletonStrand}
+use Rattle.cp_model.specs.Homomorphism.{SkeletonMap}
+use Rattle.cp_model.specs.Bindings.{as_substitution, bindings_of}
+use Rattle.cp_strand.specs.View.{InstanceData, instance_view}
 use Rattle.cp_hom.specs.PartialMaps.{PartialMap, IsExtended, IsOfNoExtension, FindsMaps}
 use Rattle.cp_hom.specs.Counterparts.{MakesEvents, MakesMessages, MakesPart}
 use Rattle.cp_hom.proofs.Extended.{IsSoFar, finds_like, so_far_next, so_far_never, so_far_all}
@@ -86,32 +86,32 @@ no_longer s t (suc h) (suc height) (e ∷ es) l = let k = no_longer s t h height
 
 -- ---- strands that hold their events
 
-module _ (xs ys : List (Event Term)) (i j : InstanceData) (from to : StrandData) (is_from : instance_as_data i ≡ from) (is_to : instance_as_data j ≡ to)
-    (l : i.height ≤ j.height) (same : i.role ≡ j.role) (are_xs : xs ≡ skeleton_trace (strand_view from)) (are_ys : ys ≡ skeleton_trace (strand_view to)) where
+module _ (xs ys : List (Event Term)) (i j : InstanceData) (from to : SkeletonStrand) (is_from : instance_view i ≡ from) (is_to : instance_view j ≡ to)
+    (l : i.height ≤ j.height) (same : i.role ≡ j.role) (are_xs : xs ≡ skeleton_trace from) (are_ys : ys ≡ skeleton_trace to) where
   first_held : xs ≡ skeleton_trace (instance_view i)
-  first_held = are_xs ∙ ap (λ (d : StrandData). skeleton_trace (strand_view d)) (sym is_from)
+  first_held = are_xs ∙ ap (λ (d : SkeletonStrand). skeleton_trace d) (sym is_from)
 
   others_held : ys ≡ skeleton_trace (instance_view (record j { role = i.role }))
-  others_held = are_ys ∙ ap (λ (d : StrandData). skeleton_trace (strand_view d)) (sym is_to) ∙ ap (λ (r : Role). skeleton_trace (instance_view (record j { role = r }))) (sym same)
+  others_held = are_ys ∙ ap (λ (d : SkeletonStrand). skeleton_trace d) (sym is_to) ∙ ap (λ (r : Role). skeleton_trace (instance_view (record j { role = r }))) (sym same)
 
   pub fewer_held : length xs ≤ length ys
   fewer_held =
       let e : length xs ≡ length (skeleton_trace (instance_view i)) = ap length first_held in
       let d : length ys ≡ length (skeleton_trace (instance_view (record j { role = i.role }))) = ap length others_held in
-      let k = no_longer (apply_to (substitution_by i.values)) (apply_to (substitution_by j.values)) i.height j.height i.role.trace l in
+      let k = no_longer (apply_to (as_substitution (bindings_of i.values))) (apply_to (as_substitution (bindings_of j.values))) i.height j.height i.role.trace l in
       omega (arith, e, d, k)
 
   pub part_by_messages : (given : PartialMap) (answer : Option Partial) → FindsMaps (λ f. MakesMessages f.terms xs ys) given answer →
-      FindsMaps (λ f. MakesPart f.terms (strand_view from) (strand_view to)) given answer
+      FindsMaps (λ f. MakesPart f.terms from to) given answer
   part_by_messages given answer h =
-      subst₂ (λ (d e : StrandData). FindsMaps (λ f. MakesPart f.terms (strand_view d) (strand_view e)) given answer) is_from is_to
+      subst₂ (λ (d e : SkeletonStrand). FindsMaps (λ f. MakesPart f.terms d e) given answer) is_from is_to
       (finds_like (λ f. MakesMessages f.terms xs ys) (λ f. MakesPart f.terms (instance_view i) (instance_view j)) given answer
       (λ f p. (
         same,
         l,
-        by_messages f.terms (substitution_by i.values) (substitution_by j.values) i.height j.height i.role.trace l
+        by_messages f.terms (as_substitution (bindings_of i.values)) (as_substitution (bindings_of j.values)) i.height j.height i.role.trace l
             (subst₂ (λ (us vs : List (Event Term)). MakesMessages f.terms us vs) first_held others_held p),
       ))
       (λ f p. subst₂ (λ (us vs : List (Event Term)). MakesMessages f.terms us vs) (sym first_held) (sym others_held)
-      (as_messages f.terms (substitution_by i.values) (substitution_by j.values) i.height j.height i.role.trace l p.2))
+      (as_messages f.terms (as_substitution (bindings_of i.values)) (as_substitution (bindings_of j.values)) i.height j.height i.role.trace l p.2))
       h)

@@ -2,6 +2,7 @@
 use Rattle.std.specs.Prelude.{◌⊎◌, ◌≡◌, ◌≢◌, ◌<◌, ◌≤◌, ℕ, List, [], ◌∷◌, Some, length, map}
 use Rattle.cp_lists.specs.Lists.{item_at, IsIn}
 use Rattle.cp_model.specs.Term.{AtomTerm, Term, Substitution, apply_to_atom, apply_to}
+use Rattle.cp_model.specs.Bindings.{Binding, as_substitution}
 use Rattle.cp_model.specs.Strand.{payload, Role, prefix_of}
 use Rattle.cp_model.specs.declared.strand.Event.{Event}
 use Rattle.cp_model.specs.Skeleton.{SkeletonStrand, instance, listener, UniqueAt, Skeleton}
@@ -28,10 +29,11 @@ MakesMessages f (x ∷ xs) (y ∷ ys) = (apply_to f (payload x) ≡ payload y) �
 -- The substitution makes a strand a part of another: an instance one of the same role that is no taller, a listener the
 -- same listener.
 abbrev pub MakesPart : Substitution → SkeletonStrand → SkeletonStrand → Type 0
-MakesPart f (instance role height s) (instance role' height' t) = (role ≡ role') × (height ≤ height') × MakesEvents f (prefix_of role height) s t
+MakesPart f (instance role height terms) (instance role' height' terms') =
+    (role ≡ role') × (height ≤ height') × MakesEvents f (prefix_of role height) (as_substitution terms) (as_substitution terms')
 MakesPart f (listener t) (listener u) = apply_to f t ≡ u
-MakesPart f (instance role height s) (listener u) = ⊥
-MakesPart f (listener t) (instance role' height' s) = ⊥
+MakesPart f (instance role height terms) (listener u) = ⊥
+MakesPart f (listener t) (instance role' height' terms') = ⊥
 
 -- Strand number s goes to this number, and becomes a part of the strand there.
 pub record GoesToStrand (xs ys : List SkeletonStrand) (s image : ℕ) (f : SkeletonMap) : Type 0 where
@@ -108,7 +110,7 @@ pub record KeepsProblem (a b : Skeleton) (f : SkeletonMap) : Type 0 where
 pub record IsRoleStrand (strands : List SkeletonStrand) (s : ℕ) : Type 0 where
   pub role : Role
   pub height : ℕ
-  pub terms : Substitution
+  pub terms : List Binding
   pub on_instance : item_at strands s ≡ Some (instance role height terms)
 
 -- Role strand number s goes where an earlier one goes.

@@ -1,7 +1,7 @@
 -- How many strands there are of a role: a role strand needs one of its role to go to.
 use Rattle.std.specs.Prelude.{◌≡◌, ◌≤◌, ◌⊎◌, ℕ, suc, List, [], ◌∷◌}
 use Rattle.cp_lists.specs.Lists.{IsIn}
-use Rattle.cp_model.specs.Term.{Substitution}
+use Rattle.cp_model.specs.Bindings.{Binding}
 use Rattle.cp_model.specs.Strand.{Role}
 use Rattle.cp_model.specs.Skeleton.{SkeletonStrand, instance, listener}
 
@@ -13,7 +13,7 @@ IsCount fact (x ∷ xs) n = (fact x × ((m : ℕ) × (n ≡ suc m) × IsCount fa
 -- The strand is an instance of this role.
 pub record IsOfRole (role : Role) (s : SkeletonStrand) : Type 0 where
   pub height : ℕ
-  pub terms : Substitution
+  pub terms : List Binding
   pub is_instance : s ≡ instance role height terms
 
 -- There are no more strands of this role in the first list than in the second.

@@ -1,7 +1,6 @@
 // Order pairs that a partial map breaks.
 ghost use Rattle.std.specs.Prelude.{◌≡◌, IsTrue, IfOk, IfSome};
 ghost use Rattle.cp_model.specs.Homomorphism.{SkeletonMap, mapped};
-ghost use Rattle.cp_skel.specs.View.{skeleton_view};
 ghost use Rattle.cp_hom.specs.PartialMaps.{Places};
 ghost use Rattle.cp_hom.specs.Counterparts.{IsKeptBy, KeepsPairs};
 
@@ -72,7 +71,7 @@ pub(crate) fn breaks_order(
     item: Item,
     placements: &[Placement],
 ) -> Result<bool, AllocError>
-    ensures { IfOk result (λ breaks. IsTrue breaks → (f : SkeletonMap) → Places f.strands placements.now → KeepsPairs (skeleton_view a.now).pairs (skeleton_view b.now).pairs f → ⊥) }
+    ensures { IfOk result (λ breaks. IsTrue breaks → (f : SkeletonMap) → Places f.strands placements.now → KeepsPairs a.now.pairs b.now.pairs f → ⊥) }
 {
     if item.kind != Kind::Strands {
         return Ok(false);

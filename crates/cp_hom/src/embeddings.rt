@@ -1,7 +1,6 @@
 // Embeddings of skeletons.
 ghost use Rattle.std.specs.Prelude.{◌↔◌, IsTrue, IfOk, IfSome, IfNone};
 ghost use Rattle.cp_model.specs.Homomorphism.{SkeletonMap, IsEmbedding};
-ghost use Rattle.cp_skel.specs.View.{skeleton_view};
 ghost use Rattle.cp_fingerprint.specs.Isomorphic.{IsIsomorphic};
 ghost use Rattle.cp_hom.specs.Maps.{map_view};
 
@@ -15,8 +14,8 @@ use std::alloc::{AllocError, Global};
 
 /// An embedding of `a` in `b` over the problem; `None` exactly if there is none.
 pub fn embed(alloc: Global, a: &Skeleton, b: &Skeleton) -> Result<Option<Map>, AllocError>
-    ensures some { IfOk result (λ found. IfSome found (λ f. IsEmbedding (skeleton_view a.now) (skeleton_view b.now) (map_view f))) }
-    ensures none { IfOk result (λ found. IfNone found ((f : SkeletonMap) → IsEmbedding (skeleton_view a.now) (skeleton_view b.now) f → ⊥)) }
+    ensures some { IfOk result (λ found. IfSome found (λ f. IsEmbedding a.now b.now (map_view f))) }
+    ensures none { IfOk result (λ found. IfNone found ((f : SkeletonMap) → IsEmbedding a.now b.now f → ⊥)) }
 {
     if !have_room(a.strands(), b.strands()) {
         return Ok(None);
@@ -26,8 +25,8 @@ pub fn embed(alloc: Global, a: &Skeleton, b: &Skeleton) -> Result<Option<Map>, A
 
 /// The same without the first test that counts the strands of each role.
 fn embed_by_search(alloc: Global, a: &Skeleton, b: &Skeleton) -> Result<Option<Map>, AllocError>
-    ensures some { IfOk result (λ found. IfSome found (λ f. IsEmbedding (skeleton_view a.now) (skeleton_view b.now) (map_view f))) }
-    ensures none { IfOk result (λ found. IfNone found ((f : SkeletonMap) → IsEmbedding (skeleton_view a.now) (skeleton_view b.now) f → ⊥)) }
+    ensures some { IfOk result (λ found. IfSome found (λ f. IsEmbedding a.now b.now (map_view f))) }
+    ensures none { IfOk result (λ found. IfNone found ((f : SkeletonMap) → IsEmbedding a.now b.now f → ⊥)) }
 {
     let Some(given) = start(alloc, a, b)? else {
         return Ok(None);
@@ -41,7 +40,7 @@ fn embed_by_search(alloc: Global, a: &Skeleton, b: &Skeleton) -> Result<Option<M
 /// Whether each of two skeletons embeds in the other. This omits the first test that counts the strands of each role: callers
 /// mostly pass skeletons whose signatures agree.
 pub fn isomorphic(alloc: Global, a: &Skeleton, b: &Skeleton) -> Result<bool, AllocError>
-    ensures exact { IfOk result (λ same. IsTrue same ↔ IsIsomorphic (skeleton_view a.now) (skeleton_view b.now)) }
+    ensures exact { IfOk result (λ same. IsTrue same ↔ IsIsomorphic a.now b.now) }
 {
     if embed_by_search(alloc, a, b)?.is_none() {
         return Ok(false);

@@ -1,7 +1,6 @@
 // Matches the maps from the problem.
 ghost use Rattle.std.specs.Prelude.{◌≡◌, map, IfOk};
 ghost use Rattle.cp_model.specs.Term.{apply_to};
-ghost use Rattle.cp_skel.specs.View.{skeleton_view};
 ghost use Rattle.cp_hom.specs.PartialMaps.{partial_view, nothing, FindsMaps};
 ghost use Rattle.cp_hom.specs.Counterparts.{KeepsProblem};
 
@@ -59,7 +58,7 @@ pub(crate) fn start(
     a: &Skeleton,
     b: &Skeleton,
 ) -> Result<Option<Partial>, AllocError>
-    ensures { IfOk result (FindsMaps (KeepsProblem (skeleton_view a.now) (skeleton_view b.now)) nothing) }
+    ensures { IfOk result (FindsMaps (KeepsProblem a.now b.now) nothing) }
 {
     let first = a.from_problem();
     let second = b.from_problem();

@@ -1,6 +1,5 @@
 // The parts of a skeleton that an embedding maps to parts of another.
 ghost use Rattle.std.specs.Prelude.{◌≡◌, IfOk, OnOk};
-ghost use Rattle.cp_skel.specs.View.{skeleton_view};
 ghost use Rattle.cp_hom.specs.Counterparts.{item_count, AreItemsOf, AddsItems, AddsAll};
 
 use crate::sharing_strands::shares_all;
@@ -26,7 +25,7 @@ pub(crate) struct Item {
 
 /// The number of items of a kind that a skeleton has.
 pub(crate) fn count(kind: Kind, k: &Skeleton) -> usize
-    ensures { result ≡ item_count kind (skeleton_view k.now) }
+    ensures { result ≡ item_count kind k.now }
 {
     match kind {
         Kind::Strands => k.strands().len(),
@@ -38,7 +37,7 @@ pub(crate) fn count(kind: Kind, k: &Skeleton) -> usize
 
 /// Appends the items of a kind.
 fn add_items(kind: Kind, k: &Skeleton, items: &mut Vec<Item>) -> Result<(), AllocError>
-    ensures { OnOk result (AddsAll kind (skeleton_view k.now) items.old.items items.new.items) }
+    ensures { OnOk result (AddsAll kind k.now items.old.items items.new.items) }
 {
     for index in 0..count(kind, k) {
         items.push(Item { kind, index })?;
@@ -48,7 +47,7 @@ fn add_items(kind: Kind, k: &Skeleton, items: &mut Vec<Item>) -> Result<(), Allo
 
 /// Appends the unique values whose origins are on a strand.
 fn add_uniques_on(strand: usize, k: &Skeleton, items: &mut Vec<Item>) -> Result<(), AllocError>
-    ensures { OnOk result (AddsItems (skeleton_view k.now) items.old.items items.new.items) }
+    ensures { OnOk result (AddsItems k.now items.old.items items.new.items) }
 {
     let uniques = k.assumptions().uniquely_originating();
     for index in 0..uniques.len() {
@@ -64,7 +63,7 @@ fn add_uniques_on(strand: usize, k: &Skeleton, items: &mut Vec<Item>) -> Result<
 /// Appends the strands all of whose values are the problem's or stand on other strands too, each followed by the unique values
 /// with origins on it. Such strands have few possible images; those with values of their own have many.
 fn add_sharing_strands(alloc: Global, k: &Skeleton, items: &mut Vec<Item>) -> Result<(), AllocError>
-    ensures { OnOk result (AddsItems (skeleton_view k.now) items.old.items items.new.items) }
+    ensures { OnOk result (AddsItems k.now items.old.items items.new.items) }
 {
     let places = places_of(alloc, k)?;
     for index in 0..count(Kind::Strands, k) {
@@ -80,7 +79,7 @@ fn add_sharing_strands(alloc: Global, k: &Skeleton, items: &mut Vec<Item>) -> Re
 
 /// Appends the strands, each followed by the unique values with origins on it, which show early where the strand cannot go.
 fn add_strands(k: &Skeleton, items: &mut Vec<Item>) -> Result<(), AllocError>
-    ensures { OnOk result (AddsAll Kind.Strands (skeleton_view k.now) items.old.items items.new.items) }
+    ensures { OnOk result (AddsAll Kind.Strands k.now items.old.items items.new.items) }
 {
     for index in 0..count(Kind::Strands, k) {
         let kind = Kind::Strands;
@@ -92,7 +91,7 @@ fn add_strands(k: &Skeleton, items: &mut Vec<Item>) -> Result<(), AllocError>
 
 /// All items of a skeleton: strands first, starting with those that share all their values.
 pub(crate) fn items(alloc: Global, k: &Skeleton) -> Result<Vec<Item>, AllocError>
-    ensures { IfOk result (λ v. AreItemsOf (skeleton_view k.now) v.items) }
+    ensures { IfOk result (λ v. AreItemsOf k.now v.items) }
 {
     let mut items = Vec::new(alloc);
     add_sharing_strands(alloc, k, &mut items)?;

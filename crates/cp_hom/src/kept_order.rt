@@ -1,7 +1,6 @@
 // Tests whether maps keep role strands apart and keep the order.
-ghost use Rattle.std.specs.Prelude.{◌≡◌, ◌≢◌, ◌↔◌, map, IsTrue, IfOk};
+ghost use Rattle.std.specs.Prelude.{◌≡◌, ◌≢◌, ◌↔◌, IsTrue, IfOk};
 ghost use Rattle.cp_model.specs.Order.{IsAtOrAfter, ReachesAlong};
-ghost use Rattle.cp_strand.specs.View.{strand_view};
 ghost use Rattle.cp_hom.specs.Maps.{map_view};
 ghost use Rattle.cp_hom.specs.Counterparts.{IsRoleStrand, HoldsImage, IsTaken, IsBlocked, IsPlacedElsewhere, MeetsEarlier, KeepsApart, KeepsPairs};
 
@@ -14,7 +13,7 @@ use std::alloc::{AllocError, Global};
 
 /// Whether a strand is an instance of a role.
 fn is_role_strand(strands: &[Strand], strand: usize) -> bool
-    ensures { IsTrue result ↔ IsRoleStrand (map strand_view strands.now) strand }
+    ensures { IsTrue result ↔ IsRoleStrand strands.now strand }
 {
     match strand_at(strands, strand) {
         Some(strand) => matches!(strand.shape(), StrandShape::Instance(_)),
@@ -24,7 +23,7 @@ fn is_role_strand(strands: &[Strand], strand: usize) -> bool
 
 /// Whether a placement maps another role strand to this image.
 fn holds_image(strands: &[Strand], strand: usize, image: usize, placement: Placement) -> bool
-    ensures { IsTrue result ↔ HoldsImage (map strand_view strands.now) strand image placement }
+    ensures { IsTrue result ↔ HoldsImage strands.now strand image placement }
 {
     placement.image == image
         && placement.strand != strand
@@ -33,7 +32,7 @@ fn holds_image(strands: &[Strand], strand: usize, image: usize, placement: Place
 
 /// Whether another role strand is placed at this image.
 fn is_taken(strands: &[Strand], strand: usize, image: usize, placements: &[Placement]) -> bool
-    ensures { IsTrue result ↔ IsTaken (map strand_view strands.now) strand image placements.now }
+    ensures { IsTrue result ↔ IsTaken strands.now strand image placements.now }
 {
     for placement in placements {
         if holds_image(strands, strand, image, *placement) {
@@ -50,7 +49,7 @@ pub(crate) fn is_blocked(
     image: usize,
     placements: &[Placement],
 ) -> bool
-    ensures { IsTrue result ↔ IsBlocked (map strand_view strands.now) item image placements.now }
+    ensures { IsTrue result ↔ IsBlocked strands.now item image placements.now }
 {
     item.kind == Kind::Strands
         && is_role_strand(strands, item.index)
@@ -72,8 +71,8 @@ pub(crate) fn is_elsewhere(item: Item, image: usize, placements: &[Placement]) -
 
 /// Whether two strands are both instances of roles and map to one strand.
 fn meet(strands: &[Strand], mapping: &Map, strand: usize, other: usize) -> bool
-    ensures { IsTrue result ↔ (IsRoleStrand (map strand_view strands.now) strand
-        × IsRoleStrand (map strand_view strands.now) other
+    ensures { IsTrue result ↔ (IsRoleStrand strands.now strand
+        × IsRoleStrand strands.now other
         × ((map_view mapping.now).strands other ≡ (map_view mapping.now).strands strand)) }
 {
     is_role_strand(strands, strand)
@@ -83,7 +82,7 @@ fn meet(strands: &[Strand], mapping: &Map, strand: usize, other: usize) -> bool
 
 /// Whether a strand is an instance of a role and maps to the image of an earlier instance.
 fn meets_earlier(strands: &[Strand], mapping: &Map, strand: usize) -> bool
-    ensures { IsTrue result ↔ MeetsEarlier (map strand_view strands.now) (map_view mapping.now).strands strand }
+    ensures { IsTrue result ↔ MeetsEarlier strands.now (map_view mapping.now).strands strand }
 {
     for other in 0..strand {
         if meet(strands, mapping, strand, other) {
@@ -95,7 +94,7 @@ fn meets_earlier(strands: &[Strand], mapping: &Map, strand: usize) -> bool
 
 /// Whether distinct role strands map to distinct strands.
 pub(crate) fn keeps_apart(strands: &[Strand], mapping: &Map) -> bool
-    ensures { IsTrue result ↔ KeepsApart (map strand_view strands.now) (map_view mapping.now).strands }
+    ensures { IsTrue result ↔ KeepsApart strands.now (map_view mapping.now).strands }
 {
     for strand in 0..strands.len() {
         if meets_earlier(strands, mapping, strand) {

@@ -1,8 +1,6 @@
 // What is known about a choice for an item before it is tried.
-ghost use Rattle.std.specs.Prelude.{◌≡◌, map, IsTrue, MatchOption};
+ghost use Rattle.std.specs.Prelude.{◌≡◌, IsTrue, MatchOption};
 ghost use Rattle.cp_model.specs.Term.{Substitution, apply_to};
-ghost use Rattle.cp_strand.specs.View.{strand_view};
-ghost use Rattle.cp_skel.specs.View.{skeleton_view};
 ghost use Rattle.cp_hom.specs.PartialMaps.{partial_view, IsKnown};
 ghost use Rattle.cp_hom.specs.Counterparts.{MakesPart, GoesToStrand, BecomesAtom, BecomesUnique, item_count, TakesItem};
 ghost use Rattle.cp_hom.specs.Choices.{ArePassed, IsNextChoice};
@@ -41,7 +39,7 @@ fn known_term(from: &Term, to: &Term, given: &Partial) -> Option<bool>
 /// Fast test: true only if a strand cannot map to a part of another, because exactly one of them is a listener, or the other is
 /// shorter or of a role with another name.
 fn is_no_part(from: &Strand, to: &Strand) -> bool
-    ensures { IsTrue result → (f : Substitution) → MakesPart f (strand_view from.now) (strand_view to.now) → ⊥ }
+    ensures { IsTrue result → (f : Substitution) → MakesPart f from.now to.now → ⊥ }
 {
     match (from.shape(), to.shape()) {
         (StrandShape::Instance(first), StrandShape::Instance(second)) => {
@@ -62,7 +60,7 @@ fn known_strand(
     image: usize,
     given: &Partial,
 ) -> Option<bool>
-    ensures { IsKnown (GoesToStrand (map strand_view strands.now) (map strand_view others.now) strand image) given.now result }
+    ensures { IsKnown (GoesToStrand strands.now others.now strand image) given.now result }
 {
     let Some(from) = strand_at(strands, strand) else {
         return Some(false);
@@ -131,7 +129,7 @@ fn known_place(
     image: usize,
     given: &Partial,
 ) -> Option<bool>
-    ensures { IsKnown (TakesItem (skeleton_view a.now) (skeleton_view b.now) item image) given.now result }
+    ensures { IsKnown (TakesItem a.now b.now item image) given.now result }
 {
     let index = item.index;
     let assumed = a.assumptions();
@@ -163,8 +161,8 @@ pub(crate) fn next_choice(
     given: &Partial,
 ) -> Option<Choice>
     ensures { MatchOption result
-        (ArePassed (skeleton_view a.now) (skeleton_view b.now) item (partial_view given.now) from (item_count item.kind (skeleton_view b.now)))
-        (IsNextChoice (skeleton_view a.now) (skeleton_view b.now) item (partial_view given.now) from) }
+        (ArePassed a.now b.now item (partial_view given.now) from (item_count item.kind b.now))
+        (IsNextChoice a.now b.now item (partial_view given.now) from) }
 {
     for number in from..count(item.kind, b) {
         match known_place(a, b, item, number, given) {

@@ -1,14 +1,13 @@
 // Strands, assumptions and items by their numbers.
-ghost use Rattle.std.specs.Prelude.{◌≡◌, map, option_map};
+ghost use Rattle.std.specs.Prelude.{◌≡◌, option_map};
 ghost use Rattle.cp_lists.specs.Lists.{item_at};
-ghost use Rattle.cp_strand.specs.View.{strand_view};
 
 use crate::items::Item;
 use cp_skel::{Atom, Strand, UniqueAt};
 
 /// The strand with this number, if there is one.
 pub(crate) fn strand_at(strands: &[Strand], number: usize) -> Option<&Strand>
-    ensures { option_map (λ s. strand_view s.now) result ≡ item_at (map strand_view strands.now) number }
+    ensures { option_map (λ s. s.now) result ≡ item_at strands.now number }
 {
     strands.get(number)
 }

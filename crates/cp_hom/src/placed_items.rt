@@ -1,7 +1,5 @@
 // Maps items of a skeleton to items of another.
-ghost use Rattle.std.specs.Prelude.{map, IfOk};
-ghost use Rattle.cp_strand.specs.View.{strand_view};
-ghost use Rattle.cp_skel.specs.View.{skeleton_view};
+ghost use Rattle.std.specs.Prelude.{IfOk};
 ghost use Rattle.cp_hom.specs.PartialMaps.{partial_view, FindsMaps};
 ghost use Rattle.cp_hom.specs.Counterparts.{GoesToStrand, BecomesAtom, BecomesUnique, TakesItem};
 
@@ -21,7 +19,7 @@ fn place_strand(
     image: usize,
     given: Partial,
 ) -> Result<Option<Partial>, AllocError>
-    ensures { IfOk result (FindsMaps (GoesToStrand (map strand_view strands.now) (map strand_view others.now) strand image) (partial_view given)) }
+    ensures { IfOk result (FindsMaps (GoesToStrand strands.now others.now strand image) (partial_view given)) }
 {
     let Some(from) = strand_at(strands, strand) else {
         return Ok(None);
@@ -92,7 +90,7 @@ pub(crate) fn place(
     image: usize,
     given: Partial,
 ) -> Result<Option<Partial>, AllocError>
-    ensures { IfOk result (FindsMaps (TakesItem (skeleton_view a.now) (skeleton_view b.now) item image) (partial_view given)) }
+    ensures { IfOk result (FindsMaps (TakesItem a.now b.now item image) (partial_view given)) }
 {
     let index = item.index;
     match item.kind {

@@ -1,9 +1,8 @@
 // Searches for an embedding: places the items one after another, and tries the next choice when one fails.
-ghost use Rattle.std.specs.Prelude.{◌≡◌, ◌↔◌, ◌<◌, ◌-◌, [], ◌∷◌, ◌++◌, ◌^◌, take, option_map, IsTrue, IfOk, OnOk, IfSome, IfNone};
+ghost use Rattle.std.specs.Prelude.{◌≡◌, ◌↔◌, ◌<◌, ◌-◌, [], ◌∷◌, ◌++◌, ◌^◌, option_map, IsTrue, IfOk, OnOk, IfSome, IfNone};
 ghost use Rattle.cp_lists.specs.Lists.{IsIn};
 ghost use Rattle.cp_model.specs.Homomorphism.{IsEmbedding};
 ghost use Rattle.cp_skel.specs.Ordered.{IsOrdered};
-ghost use Rattle.cp_skel.specs.View.{skeleton_view};
 ghost use Rattle.cp_hom.specs.Maps.{map_view};
 ghost use Rattle.cp_hom.specs.PartialMaps.{partial_view, FindsAmong};
 ghost use Rattle.cp_hom.specs.Counterparts.{TakesItem, AreItemsOf, KeepsOrderApart};
@@ -35,11 +34,11 @@ fn finish(
     b: &Skeleton,
     given: Partial,
 ) -> Result<Option<Map>, AllocError>
-    requires ordered { IsOrdered (skeleton_view a.now) }
-    requires other_ordered { IsOrdered (skeleton_view b.now) }
-    requires whole { IsWholeMap (skeleton_view a.now) (skeleton_view b.now) (partial_view given) }
-    ensures some { IfOk result (λ found. IfSome found (λ f. IsEmbedding (skeleton_view a.now) (skeleton_view b.now) (map_view f))) }
-    ensures none { IfOk result (λ found. IfNone found (NeverEmbeds (skeleton_view a.now) (skeleton_view b.now) (partial_view given))) }
+    requires ordered { IsOrdered a.now }
+    requires other_ordered { IsOrdered b.now }
+    requires whole { IsWholeMap a.now b.now (partial_view given) }
+    ensures some { IfOk result (λ found. IfSome found (λ f. IsEmbedding a.now b.now (map_view f))) }
+    ensures none { IfOk result (λ found. IfNone found (NeverEmbeds a.now b.now (partial_view given))) }
 {
     let mapping = given.into_map(alloc)?;
     if !keeps_apart(a.strands(), &mapping) {
@@ -90,8 +89,8 @@ fn try_choice(
     choice: usize,
     given: &Partial,
 ) -> Result<Option<Partial>, AllocError>
-    ensures { IfOk result (FindsAmong (KeepsOrderApart (skeleton_view a.now) (skeleton_view b.now))
-        (TakesItem (skeleton_view a.now) (skeleton_view b.now) item choice) (partial_view given.now)) }
+    ensures { IfOk result (FindsAmong (KeepsOrderApart a.now b.now)
+        (TakesItem a.now b.now item choice) (partial_view given.now)) }
 {
     if is_blocked(a.strands(), item, choice, &given.placements) {
         return Ok(None);
@@ -152,13 +151,13 @@ fn advance(
     branch: Branch,
     branches: &mut Vec<Branch>,
 ) -> Result<Option<Map>, AllocError>
-    requires ordered { IsOrdered (skeleton_view a.now) }
-    requires other_ordered { IsOrdered (skeleton_view b.now) }
-    requires items { AreItemsOf (skeleton_view a.now) items.now }
-    requires branch { IsOpenMap (skeleton_view a.now) (skeleton_view b.now) items.now (branch_view branch) }
-    requires branches { AreOpen (skeleton_view a.now) (skeleton_view b.now) items.now (branches_view branches.old.items) }
-    ensures some { IfOk result (λ found. IfSome found (λ f. IsEmbedding (skeleton_view a.now) (skeleton_view b.now) (map_view f))) }
-    ensures none { IfOk result (λ found. IfNone found (TakePlace (skeleton_view a.now) (skeleton_view b.now) items.now
+    requires ordered { IsOrdered a.now }
+    requires other_ordered { IsOrdered b.now }
+    requires items { AreItemsOf a.now items.now }
+    requires branch { IsOpenMap a.now b.now items.now (branch_view branch) }
+    requires branches { AreOpen a.now b.now items.now (branches_view branches.old.items) }
+    ensures some { IfOk result (λ found. IfSome found (λ f. IsEmbedding a.now b.now (map_view f))) }
+    ensures none { IfOk result (λ found. IfNone found (TakePlace a.now b.now items.now
         (branch_view branch) (branches_view branches.old.items) (branches_view branches.new.items))) }
 {
     let Some(item) = item_at(items, branch.done) else {
@@ -192,12 +191,12 @@ pub(crate) fn search(
     items: &[Item],
     given: Partial,
 ) -> Result<Option<Map>, AllocError>
-    requires ordered { IsOrdered (skeleton_view a.now) }
-    requires other_ordered { IsOrdered (skeleton_view b.now) }
-    requires items { AreItemsOf (skeleton_view a.now) items.now }
-    requires started { IsStarted (skeleton_view a.now) (skeleton_view b.now) (partial_view given) }
-    ensures some { IfOk result (λ found. IfSome found (λ f. IsEmbedding (skeleton_view a.now) (skeleton_view b.now) (map_view f))) }
-    ensures none { IfOk result (λ found. IfNone found (NeverEmbeds (skeleton_view a.now) (skeleton_view b.now) (partial_view given))) }
+    requires ordered { IsOrdered a.now }
+    requires other_ordered { IsOrdered b.now }
+    requires items { AreItemsOf a.now items.now }
+    requires started { IsStarted a.now b.now (partial_view given) }
+    ensures some { IfOk result (λ found. IfSome found (λ f. IsEmbedding a.now b.now (map_view f))) }
+    ensures none { IfOk result (λ found. IfNone found (NeverEmbeds a.now b.now (partial_view given))) }
 {
     let mut branches = Vec::new(alloc);
     branches.push(Branch {

@@ -1,8 +1,7 @@
 // Maps strands to parts of others.
 ghost use Rattle.std.specs.Prelude.{◌≡◌, ◌≤◌, length, IfOk};
-ghost use Rattle.cp_model.specs.Homomorphism.{substitution_by};
+ghost use Rattle.cp_model.specs.Bindings.{as_substitution, bindings_of};
 ghost use Rattle.cp_model.specs.Term.{apply_to};
-ghost use Rattle.cp_strand.specs.View.{strand_view};
 ghost use Rattle.cp_hom.specs.PartialMaps.{partial_view, FindsMaps};
 ghost use Rattle.cp_hom.specs.Counterparts.{MakesEvents, MakesMessages, MakesPart};
 
@@ -20,7 +19,7 @@ fn match_event(
     given: Partial,
 ) -> Result<Option<Partial>, AllocError>
     ensures { IfOk result (FindsMaps
-        (λ f. apply_to f.terms (apply_to (substitution_by from.now) message.now) ≡ apply_to (substitution_by to.now) message.now)
+        (λ f. apply_to f.terms (apply_to (as_substitution (bindings_of from.now)) message.now) ≡ apply_to (as_substitution (bindings_of to.now)) message.now)
         (partial_view given)) }
 {
     let first = applied(alloc, from, message)?;
@@ -37,7 +36,7 @@ fn match_events(
     given: Partial,
 ) -> Result<Option<Partial>, AllocError>
     ensures { IfOk result (FindsMaps
-        (λ f. MakesEvents f.terms events.now (substitution_by from.now) (substitution_by to.now))
+        (λ f. MakesEvents f.terms events.now (as_substitution (bindings_of from.now)) (as_substitution (bindings_of to.now)))
         (partial_view given)) }
 {
     let mut found = given;
@@ -84,7 +83,7 @@ pub(crate) fn match_strands(
     to: &Strand,
     given: Partial,
 ) -> Result<Option<Partial>, AllocError>
-    ensures { IfOk result (FindsMaps (λ f. MakesPart f.terms (strand_view from.now) (strand_view to.now)) (partial_view given)) }
+    ensures { IfOk result (FindsMaps (λ f. MakesPart f.terms from.now to.now) (partial_view given)) }
 {
     match (from.shape(), to.shape()) {
         (StrandShape::Instance(first), StrandShape::Instance(second)) => {

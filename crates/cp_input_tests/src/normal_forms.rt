@@ -1,10 +1,9 @@
 // Contradictions in skeletons, and their normal forms.
 use crate::stated::{NEEDHAM_SCHROEDER, skeleton_of, text};
 use cp_collapse::under;
-use cp_model::{Node, OrderPair};
+use cp_model::{Node, OrderPair, Sort, Variable};
 use cp_normal::{carries_non_originating, has_two_origins, loses_origin, normal_pairs, normalise};
 use cp_skel::Skeleton;
-use cp_term::VarId;
 use cp_unify::{Binding, Subst};
 use std::alloc::{AllocError, Global};
 use std::test::Fail;
@@ -121,7 +120,11 @@ const ANOTHER_HEARD: &str = "(defskeleton v (vars (n m text)) (defstrand r 2 (x 
 
 /// The skeleton with the first text in place of the second.
 fn bound(alloc: Global, k: &Skeleton) -> Result<Skeleton, AllocError> {
-    let binding = Binding::new(VarId::numbered(1), text(alloc, 0)?);
+    let second = Variable {
+        sort: Sort::Text,
+        number: 1,
+    };
+    let binding = Binding::new(second, text(alloc, 0)?);
     let s = Subst::new(alloc).with(binding)?;
     under(alloc, k, &s)
 }

@@ -3,7 +3,7 @@ use crate::stated::{NEEDHAM_SCHROEDER, forms_of, joined, last_problem};
 use cp_load::load;
 use cp_print::print_shapes;
 use cp_sexpr::Form;
-use cp_skel::{Mark, Nodes, Numbers, Operation, Outcome, Skeleton, Tree, TreeNode};
+use cp_skel::{Label, Labels, Mark, Nodes, Numbers, Operation, Outcome, Skeleton, Tree};
 use cp_term::Patterns;
 use std::alloc::{AllocError, Global};
 use std::test::Fail;
@@ -17,14 +17,14 @@ const SHAPE: &str =
     (status complete labels 1 expanded 0 shapes 1)\n";
 
 /// The label of the problem's skeleton, as a shape.
-fn shape(alloc: Global, skeleton: Skeleton) -> TreeNode {
-    TreeNode {
+fn shape(alloc: Global, skeleton: Skeleton) -> Label {
+    Label {
         parent: None,
         operation: Operation::Problem,
         skeleton,
         unrealised: Nodes::new(alloc),
         test: None,
-        patterns: Patterns::new(alloc),
+        escape: Patterns::new(alloc),
         children: Numbers::new(alloc),
         mark: Some(Mark::Shape),
     }
@@ -33,7 +33,7 @@ fn shape(alloc: Global, skeleton: Skeleton) -> TreeNode {
 /// The tree of that label.
 fn tree(alloc: Global, skeleton: Skeleton) -> Result<Tree, AllocError> {
     Ok(Tree {
-        nodes: Vec::from_array(alloc, [shape(alloc, skeleton)])?,
+        labels: Labels::of(Vec::from_array(alloc, [shape(alloc, skeleton)])?),
         outcome: Outcome::Complete,
     })
 }

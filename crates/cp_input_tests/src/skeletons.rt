@@ -1,7 +1,6 @@
 // Origins and orders in skeletons, and copies of them.
 ghost use Rattle.std.specs.Prelude.{IfOk, IsTrue};
 ghost use Rattle.cp_model.specs.Skeleton.{IsOrderPair};
-ghost use Rattle.cp_skel.specs.View.{skeleton_view};
 
 use crate::stated::{NEEDHAM_SCHROEDER, event_at, is_there, skeleton_of, text};
 use cp_model::{Node, OrderPair};
@@ -86,7 +85,7 @@ const TWO_STRANDS: &str = "(defskeleton ns (vars) (defstrand init 3) (defstrand 
 
 /// Whether a transmission stands at n, and a reception of another strand at m.
 fn may_be_ordered(alloc: Global, k: &Skeleton, n: Node, m: Node) -> Result<bool, AllocError>
-    ensures { IfOk result (λ is. IsTrue is → IsOrderPair (skeleton_view k.now) (record { earlier = n; later = m })) }
+    ensures { IfOk result (λ is. IsTrue is → IsOrderPair k.now (record { earlier = n; later = m })) }
 {
     if n.strand == m.strand {
         return Ok(false);

@@ -1,8 +1,7 @@
 // What texts state, for the tests: forms and skeletons; and what stands at nodes of skeletons.
-ghost use Rattle.std.specs.Prelude.{◌≡◌, option_map, IfOk, IsTrue};
+ghost use Rattle.std.specs.Prelude.{◌≡◌, IfOk, IsTrue};
 ghost use Rattle.cp_model.specs.Skeleton.{IsNodeOf, term_event_at};
 ghost use Rattle.cp_model.specs.Term.{atom_term, text_variable};
-ghost use Rattle.cp_skel.specs.View.{skeleton_view};
 
 use cp_load::{Entry, load};
 use cp_model::Node;
@@ -43,7 +42,7 @@ pub(crate) fn last_problem(alloc: Global, forms: &[Form]) -> Result<Skeleton, Fa
     };
     let mut entries = input.entries;
     match entries.pop() {
-        Some(Entry::Problem(problem)) => Ok(problem.skeleton),
+        Some(Entry::Problem(_, problem)) => Ok(problem.skeleton),
         _ => Err(Fail::new("the last form states no problem")),
     }
 }
@@ -62,7 +61,7 @@ pub(crate) fn skeleton_of(alloc: Global, protocol: &str, problem: &str) -> Resul
 
 /// The event at a node, if there is one.
 pub(crate) fn event_at(alloc: Global, k: &Skeleton, node: Node) -> Result<Option<Event>, AllocError>
-    ensures { IfOk result (λ e. e ≡ term_event_at (skeleton_view k.now).strands node) }
+    ensures { IfOk result (λ e. e ≡ term_event_at k.now.strands node) }
 {
     match k.strands().get(node.strand) {
         Some(strand) => strand.event(alloc, node.index),
@@ -73,7 +72,7 @@ pub(crate) fn event_at(alloc: Global, k: &Skeleton, node: Node) -> Result<Option
 /// Whether there is an event at a node.
 #[tactic(auto, using(crate::proofs::Nodes::there_where_some))]
 pub(crate) fn is_there(alloc: Global, k: &Skeleton, node: Node) -> Result<bool, AllocError>
-    ensures { IfOk result (λ there. IsTrue there → IsNodeOf (skeleton_view k.now).strands node) }
+    ensures { IfOk result (λ there. IsTrue there → IsNodeOf k.now.strands node) }
 {
     match event_at(alloc, k, node)? {
         Some(_) => Ok(true),

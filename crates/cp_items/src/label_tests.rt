@@ -1,8 +1,7 @@
 // Unrealised nodes, tests and escape sets of labels: where they do not fit, and what they are.
-ghost use Rattle.std.specs.Prelude.{◌≡◌, [], ◌∷◌, map, option_map, Some, IfOk, OnOk};
+ghost use Rattle.std.specs.Prelude.{◌≡◌, [], map, option_map, Some, IfOk, OnOk};
 ghost use Rattle.cp_sexpr.specs.View.{view};
 ghost use Rattle.cp_language.specs.Problems.{option_node};
-ghost use Rattle.cp_strand.specs.View.{strand_view};
 ghost use Rattle.cp_report.specs.Misfits.{each_misfits};
 ghost use Rattle.cp_report.specs.Spelled.{pattern_misfits, pattern_of};
 ghost use Rattle.cp_report.specs.Skeletons.{node_misfits, node_or_first};
@@ -24,7 +23,7 @@ use std::alloc::{AllocError, Global};
 
 /// Each of these forms must be a node that exists.
 fn nodes_misfits(strands: &[Strand], items: &[Form], first: &mut FirstMisfit)
-    ensures { first.new ≡ first_onto first.old (each_misfits (node_misfits (map strand_view strands.now)) (map view items.now)) }
+    ensures { first.new ≡ first_onto first.old (each_misfits (node_misfits strands.now) (map view items.now)) }
 {
     for item in items {
         node_misfits(strands, item, first);
@@ -33,7 +32,7 @@ fn nodes_misfits(strands: &[Strand], items: &[Form], first: &mut FirstMisfit)
 
 /// The items of the list at this place must be nodes that exist, at least one.
 pub fn unrealised_misfits(strands: &[Strand], place: Place, items: &[Form], first: &mut FirstMisfit)
-    ensures { first.new ≡ first_onto first.old (unrealised_misfits (map strand_view strands.now) place (map view items.now)) }
+    ensures { first.new ≡ first_onto first.old (unrealised_misfits strands.now place (map view items.now)) }
 {
     lacking(1, place, items, first);
     nodes_misfits(strands, items, first);
@@ -58,7 +57,7 @@ pub fn test_misfits(
     items: &[Form],
     first: &mut FirstMisfit,
 )
-    ensures { first.new ≡ first_onto first.old (test_misfits (scope_view scope.entry) (map strand_view strands.now) place (map view items.now)) }
+    ensures { first.new ≡ first_onto first.old (test_misfits (scope_view scope.entry) strands.now place (map view items.now)) }
 {
     let Some((node, rest)) = items.split_first() else {
         first.note(place);

@@ -1,7 +1,6 @@
 // Strands and events that operations name.
 ghost use Rattle.std.specs.Prelude.{◌≡◌, map};
 ghost use Rattle.cp_sexpr.specs.View.{view};
-ghost use Rattle.cp_strand.specs.View.{strand_view};
 ghost use Rattle.cp_report.specs.Labels.{index_misfits, operation_place_misfits};
 ghost use Rattle.cp_spelled.specs.FirstMisfit.{first_onto};
 ghost use Rattle.cp_items.specs.Parts.{node_place_misfits, strand_place_misfits};
@@ -15,7 +14,7 @@ use cp_stated::{is_there, number_of, strand_number_misfits};
 
 /// The form must be the index of an event on this strand.
 fn index_misfits(strands: &[Strand], strand: usize, form: &Form, first: &mut FirstMisfit)
-    ensures { first.new ≡ first_onto first.old (index_misfits (map strand_view strands.now) strand (view form.now)) }
+    ensures { first.new ≡ first_onto first.old (index_misfits strands.now strand (view form.now)) }
 {
     let Form::Number(place, index) = form else {
         first.note(place_of(form));
@@ -27,7 +26,7 @@ fn index_misfits(strands: &[Strand], strand: usize, form: &Form, first: &mut Fir
 
 /// The strand and the event that come first must exist.
 fn node_place_misfits(strands: &[Strand], items: &[Form], first: &mut FirstMisfit)
-    ensures { first.new ≡ first_onto first.old (node_place_misfits (map strand_view strands.now) (map view items.now)) }
+    ensures { first.new ≡ first_onto first.old (node_place_misfits strands.now (map view items.now)) }
 {
     let Some((strand, rest)) = items.split_first() else {
         return;
@@ -41,7 +40,7 @@ fn node_place_misfits(strands: &[Strand], items: &[Form], first: &mut FirstMisfi
 
 /// The strand that comes first must exist.
 fn strand_place_misfits(strands: &[Strand], items: &[Form], first: &mut FirstMisfit)
-    ensures { first.new ≡ first_onto first.old (strand_place_misfits (map strand_view strands.now) (map view items.now)) }
+    ensures { first.new ≡ first_onto first.old (strand_place_misfits strands.now (map view items.now)) }
 {
     let Some((strand, _)) = items.split_first() else {
         return;
@@ -56,7 +55,7 @@ pub fn operation_place_misfits(
     items: &[Form],
     first: &mut FirstMisfit,
 )
-    ensures { first.new ≡ first_onto first.old (operation_place_misfits (map strand_view strands.now) word (map view items.now)) }
+    ensures { first.new ≡ first_onto first.old (operation_place_misfits strands.now word (map view items.now)) }
 {
     match word {
         OperationWord::Contracted | OperationWord::Displaced => {

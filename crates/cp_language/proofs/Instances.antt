@@ -13,7 +13,8 @@ use Rattle.cp_model.specs.Strand.{payload, event_map, Role, variables_of_trace, 
 use Rattle.cp_model.specs.declared.strand.Event.{Event}
 use Rattle.cp_model.specs.declared.strand.Event.TheVariants.{Send as send, Receive as recv}
 use Rattle.cp_model.specs.declared.variable.Declaration.{Declaration}
-use Rattle.cp_model.specs.Homomorphism.{text_in, datum_in, name_in, skey_in, akey_in, substitution_by}
+use Rattle.cp_model.specs.Bindings.{as_substitution, bindings_of}
+use Rattle.cp_model.specs.Values.{text_in, datum_in, name_in, skey_in, akey_in, substitution_by}
 use Rattle.cp_model.specs.Problem.{declared_sort, IsDeclared}
 use Rattle.cp_lists.proofs.Members.{in_append_left, in_append_right, only_item}
 use Rattle.cp_lists.proofs.Appended.{none_before, none_behind, none_of_four}
@@ -25,6 +26,7 @@ use Rattle.cp_language.specs.Terms.{variable_named, is_sort, sort_of, sort_fault
 use Rattle.cp_language.specs.Problems.{is_known, role_variable_faults, mapped_faults, maplet_faults, mapped_identifier, maplets_faults, term_mapped, Instantiated, is_fresh, term_or_fresh, instantiated, instance_of_role}
 use Rattle.cp_model.proofs.SameTests.{in_has_variable}
 use Rattle.cp_model.proofs.DeclaredVariables.{still_declared}
+use Rattle.cp_model.proofs.DeclaredTerms.{bindings_are}
 use Rattle.cp_language.proofs.ValidTests.{one_of}
 use Rattle.cp_language.proofs.Terms.{holds, AreDeclared, none_declared, both_declared, IsOfSort, variable_of_sort, variable_declared, term_variables_declared, term_of_sort}
 use Rattle.cp_language.proofs.Names.{named_itself}
@@ -267,5 +269,5 @@ module _ (role : Role) (height : ℕ) (ds : List Declaration) (next : ℕ) (mapl
         (has_terms (variables_of_prefix role height) ds maplets full front others next 0 role.variables are many all_mapped x.number d.0 d.1 occurs)
 
     -- The variables of the prefix of an instance without faults get terms over declared variables.
-    pub instance_takes : TakesToDeclared (substitution_by made.terms) full (variables_of_prefix role height)
-    instance_takes x p = taken_declared full made.terms x (term_there x p)
+    pub instance_takes : TakesToDeclared (as_substitution (bindings_of made.terms)) full (variables_of_prefix role height)
+    instance_takes x p = subst (λ (s : Substitution). AreDeclared full (variables_of (apply_to s (variable_term x)))) (sym (bindings_are made.terms)) (taken_declared full made.terms x (term_there x p))

@@ -3,7 +3,8 @@ use Rattle.std.proofs.Common.{◌≡◌, ℕ, ◌+◌, ◌<◌, List, [], ◌∷
 use Rattle.cp_base.specs.declared.place.Place.{Place}
 use Rattle.cp_base.specs.declared.place.Code.TheVariants.{BadShape}
 use Rattle.cp_lists.specs.Lists.{item_at, IsIn, here, there}
-use Rattle.cp_model.specs.Term.{AtomTerm, variables_of, Substitution, apply_to_atom}
+use Rattle.cp_model.specs.Term.{AtomTerm, variables_of, apply_to_atom}
+use Rattle.cp_model.specs.Bindings.{Binding, as_substitution}
 use Rattle.cp_model.specs.Strand.{Role, Protocol, prefix_of, variables_of_trace}
 use Rattle.cp_model.specs.declared.variable.Declaration.{Declaration}
 use Rattle.cp_model.specs.Bundle.{node_at}
@@ -41,7 +42,7 @@ use Rattle.cp_language.proofs.NoCycle.{no_cycle, are_pairs}
 -- ---- the variables of strands
 
 strand_declared : (roles : List Role) (full : List Declaration) (s : SkeletonStrand) → IsSoundStrand roles full s → AreDeclared full (variables_of_trace (skeleton_trace s))
-strand_declared roles full (instance role height terms) h = trace_taken terms full (prefix_of role height) h.2
+strand_declared roles full (instance role height terms) h = trace_taken (as_substitution terms) full (prefix_of role height) h.2
 strand_declared roles full (listener t) h = both_declared full (variables_of t) (variables_of t ++ []) h (both_declared full (variables_of t) [] h (none_declared full))
 
 strands_declared : (roles : List Role) (full : List Declaration) (ss : List SkeletonStrand) → AreSoundStrands roles full ss → AreDeclared full (variables_of_strands ss)
@@ -56,10 +57,11 @@ pub record IsSoundProtocol (p : Protocol) : Type 0 where
   pub roles : AreSoundRoles p.roles
   pub named : HaveOwnNames [] p.roles
 
--- The problem is a skeleton over its protocol that maps to itself, and states its pairs; the protocol is sound; and each
--- identifier that is declared is that of its own variable.
+-- The problem is a skeleton over its protocol with its variables, that maps to itself, and states its pairs; the protocol is
+-- sound; and each identifier that is declared is that of its own variable.
 pub record IsSoundProblem (p : Problem) : Type 0 where
   pub skeleton : IsSkeleton p.protocol p.skeleton
+  pub variables : p.skeleton.variables ≡ p.variables
   pub own : IsPointOfView p.variables p.skeleton
   pub pairs : p.skeleton.from_problem.pairs ≡ p.skeleton.pairs
   pub sound : IsSoundProtocol p.protocol
@@ -82,15 +84,15 @@ module _ (protocol : Protocol) (ds : List Declaration) (body : List Form) (stran
       (uniques.onto_origins k [] (own_uniques strands (atoms_in ds (forms_under is_unique_item body))) (uniques.no_origins k) (uniques.own_origins k (atoms_in ds (forms_under is_unique_item body))))
       (uniques.given_origins k)
 
-  gives : (s : ℕ) (role : Role) (height : ℕ) (terms : Substitution) → item_at strands s ≡ Some (instance role height terms) → GivesAssumptions k s role height terms
+  gives : (s : ℕ) (role : Role) (height : ℕ) (terms : List Binding) → item_at strands s ≡ Some (instance role height terms) → GivesAssumptions k s role height terms
   gives s role height terms at = record {
-    non = λ v p a. onto-takes atoms own.non_originating (given_non strands) (apply_to_atom terms v)
-        (subst (λ (vs : List AtomTerm). IsIn (apply_to_atom terms v) vs) (sym (non_given strands)) (given_there (λ r. r.non_originating) strands s role height terms at v p a));
-    penetrator_non = λ v p a. onto-takes atoms own.penetrator_non_originating (given_penetrator_non strands) (apply_to_atom terms v)
-        (subst (λ (vs : List AtomTerm). IsIn (apply_to_atom terms v) vs) (sym (penetrator_non_given strands)) (given_there (λ r. r.penetrator_non_originating) strands s role height terms at v p a));
-    unique = λ v i p a. onto-takes gathered_uniques own.uniquely_originating (given_uniques 0 strands) (record { value = apply_to_atom terms v; origin = node_at s i })
+    non = λ v p a. onto-takes atoms own.non_originating (given_non strands) (apply_to_atom (as_substitution terms) v)
+        (subst (λ (vs : List AtomTerm). IsIn (apply_to_atom (as_substitution terms) v) vs) (sym (non_given strands)) (given_there (λ r. r.non_originating) strands s role height terms at v p a));
+    penetrator_non = λ v p a. onto-takes atoms own.penetrator_non_originating (given_penetrator_non strands) (apply_to_atom (as_substitution terms) v)
+        (subst (λ (vs : List AtomTerm). IsIn (apply_to_atom (as_substitution terms) v) vs) (sym (penetrator_non_given strands)) (given_there (λ r. r.penetrator_non_originating) strands s role height terms at v p a));
+    unique = λ v i p a. onto-takes gathered_uniques own.uniquely_originating (given_uniques 0 strands) (record { value = apply_to_atom (as_substitution terms) v; origin = node_at s i })
         (let q : 0 + s ≡ s = omega arith in
-        subst (λ (n : ℕ). IsIn (record { value = apply_to_atom terms v; origin = node_at n i }) (given_uniques 0 strands)) q (uniques.given_there 0 strands s role height terms at v i p a));
+        subst (λ (n : ℕ). IsIn (record { value = apply_to_atom (as_substitution terms) v; origin = node_at n i }) (given_uniques 0 strands)) q (uniques.given_there 0 strands s role height terms at v i p a));
   }
 
   is_skeleton : IsSkeleton protocol k
@@ -151,6 +153,7 @@ with_protocol p sound ds distinct body e =
     let strands = strands_sound p.roles sound.roles ds (ds ++ s.fresh) extends ds (length ds) (before_items body) refl refl says.stated in
     record {
       skeleton = is_skeleton p ds body s.strands (ds ++ s.fresh) strands says extends;
+      variables = refl;
       own = is_own p ds body s.strands (ds ++ s.fresh) strands says extends;
       pairs = refl;
       sound = sound;
@@ -229,6 +232,10 @@ problems_sound fs e = entries_sound [] (items_of fs) (λ q i. elim i [ ]) e
 -- Each problem of well-formed input is a skeleton over its protocol.
 pub are_skeletons : (fs : Forms) (e : Entry) (p : Problem) → faults_of fs ≡ [] → IsIn e (input_of fs) → stated e ≡ Some p → IsSkeleton p.protocol p.skeleton
 are_skeletons fs e p faultless i at = (problems_sound fs faultless e i p at).skeleton
+
+-- The variables of its skeleton are those of the problem.
+pub have_their_variables : (fs : Forms) (e : Entry) (p : Problem) → faults_of fs ≡ [] → IsIn e (input_of fs) → stated e ≡ Some p → p.skeleton.variables ≡ p.variables
+have_their_variables fs e p faultless i at = (problems_sound fs faultless e i p at).variables
 
 -- Each problem of well-formed input maps to itself.
 pub map_to_themselves : (fs : Forms) (e : Entry) (p : Problem) → faults_of fs ≡ [] → IsIn e (input_of fs) → stated e ≡ Some p → IsPointOfView p.variables p.skeleton

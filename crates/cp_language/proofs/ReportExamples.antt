@@ -4,6 +4,7 @@ use Rattle.std.specs.Prelude.{◌≡◌, ℕ, List, [], ◌∷◌, ◌++◌, tru
 use Rattle.std.specs.Fmt.{digits}
 use Rattle.cp_base.specs.declared.place.Place.{Place}
 use Rattle.cp_model.specs.Term.{AtomTerm, text_variable, datum_variable, name_variable, key_term, KeyTerm, symmetric_term, asymmetric_term, skey_variable, ltk_term, pubk_term, akey_variable, Term, tag_term, atom_term, pair_term, enc_term}
+use Rattle.cp_model.specs.Bindings.{bindings_of}
 use Rattle.cp_model.specs.declared.sort.Sort.{Sort}
 use Rattle.cp_model.specs.declared.sort.Sort.TheVariants.{Text as text_sort, Datum as datum_sort, Name as name_sort, Skey as skey_sort, Akey as akey_sort}
 use Rattle.cp_model.specs.declared.variable.Variable.{Variable}
@@ -15,7 +16,6 @@ use Rattle.cp_model.specs.Bundle.{node_at}
 use Rattle.cp_model.specs.declared.node.Node.{Node}
 use Rattle.cp_model.specs.Skeleton.{SkeletonStrand, instance, listener, Assumptions, Skeleton}
 use Rattle.cp_model.specs.declared.node.OrderPair.{OrderPair}
-use Rattle.cp_model.specs.Homomorphism.{substitution_by}
 use Rattle.cp_model.specs.Tree.{Pattern, Test, Label, Tree}
 use Rattle.cp_model.specs.declared.tree.Operation.{Operation}
 use Rattle.cp_model.specs.declared.tree.Operation.TheVariants.{Problem as by_problem, Collapsed as by_collapse, Contracted as by_contraction, Displaced as by_displacement, AddedStrand as by_added_strand, AddedListener as by_added_listener, Generalised as by_generalising}
@@ -47,7 +47,7 @@ abbrev no_assumptions : Assumptions
 no_assumptions = record { non_originating = []; penetrator_non_originating = []; uniquely_originating = [] }
 
 abbrev no_skeleton : Skeleton
-no_skeleton = record { strands = []; pairs = []; assumptions = no_assumptions; from_problem = record { strands = []; values = []; assumptions = no_assumptions; pairs = [] } }
+no_skeleton = record { variables = []; strands = []; pairs = []; assumptions = no_assumptions; from_problem = record { strands = []; values = []; assumptions = no_assumptions; pairs = [] } }
 
 abbrev text_of : ℕ → Term
 text_of n = atom_term (text_variable n)
@@ -104,13 +104,13 @@ init = role_of_trace (codes "init") (send first_message ∷ recv second_message 
 abbrev resp : Role
 resp = role_of_trace (codes "resp") (recv first_message ∷ send second_message ∷ recv third_message ∷ [])
 
-abbrev label_with : Option ℕ → Operation → List Declaration → Skeleton → List Node → Option Test → List Pattern → List ℕ → Option Mark → Label
-label_with parent operation variables skeleton unrealised test escape children mark = record { parent = parent; operation = operation; variables = variables; skeleton = skeleton; unrealised = unrealised; test = test; escape = escape; children = children; mark = mark }
+abbrev label_with : Option ℕ → Operation → Skeleton → List Node → Option Test → List Pattern → List ℕ → Option Mark → Label
+label_with parent operation skeleton unrealised test escape children mark = record { parent = parent; operation = operation; skeleton = skeleton; unrealised = unrealised; test = test; escape = escape; children = children; mark = mark }
 
 -- ---- one instance
 
 abbrev tree_single : Tree
-tree_single = record { labels = label_with None by_problem (text_named (codes "n1") ∷ name_named (codes "a") ∷ name_named (codes "b") ∷ []) (skeleton_of (input_of input_single) no_skeleton) [] None [] [] (Some shape) ∷ []; outcome = complete }
+tree_single = record { labels = label_with None by_problem (skeleton_of (input_of input_single) no_skeleton) [] None [] [] (Some shape) ∷ []; outcome = complete }
 
 report_single : report_text (input_of input_single) (tree_single ∷ []) ≡ line (codes "(defprotocol ns basic")
     (line (codes "  (defrole init (vars (a b name) (n1 n2 text)) (trace (send (enc n1 a (pubk b))) (recv (enc n1 n2 (pubk a))) (send (enc n2 (pubk b)))))")
@@ -143,33 +143,33 @@ abbrev assumptions_of_exchange : Assumptions
 assumptions_of_exchange = record { non_originating = private_of 0 ∷ private_of 1 ∷ []; penetrator_non_originating = []; uniquely_originating = record { value = text_variable 2; origin = node_at 0 0 } ∷ [] }
 
 abbrev initiator : SkeletonStrand
-initiator = instance init 3 (substitution_by (name_of 0 ∷ name_of 1 ∷ text_of 2 ∷ text_of 3 ∷ []))
+initiator = instance init 3 (bindings_of (name_of 0 ∷ name_of 1 ∷ text_of 2 ∷ text_of 3 ∷ []))
 
 -- a responder whose own name is this variable
 abbrev responder : ℕ → SkeletonStrand
-responder b = instance resp 2 (substitution_by (name_of 0 ∷ name_of b ∷ text_of 2 ∷ text_of 3 ∷ []))
+responder b = instance resp 2 (bindings_of (name_of 0 ∷ name_of b ∷ text_of 2 ∷ text_of 3 ∷ []))
 
-abbrev skeleton_exchange : List SkeletonStrand → List OrderPair → Skeleton
-skeleton_exchange strands pairs = record { strands = strands; pairs = pairs; assumptions = assumptions_of_exchange; from_problem = record { strands = 0 ∷ []; values = name_of 0 ∷ name_of 1 ∷ text_of 2 ∷ text_of 3 ∷ []; assumptions = assumptions_of_exchange; pairs = [] } }
+abbrev skeleton_exchange : List Declaration → List SkeletonStrand → List OrderPair → Skeleton
+skeleton_exchange variables strands pairs = record { variables = variables; strands = strands; pairs = pairs; assumptions = assumptions_of_exchange; from_problem = record { strands = 0 ∷ []; values = name_of 0 ∷ name_of 1 ∷ text_of 2 ∷ text_of 3 ∷ []; assumptions = assumptions_of_exchange; pairs = [] } }
 
 abbrev escape_exchange : List Pattern
 escape_exchange = record { term = enc_term (pair_term (text_of 2) (name_of 0)) (public_of 1); locals = [] } ∷ record { term = enc_term (pair_term (text_of 2) (text_of 8)) (public_of 0); locals = record { sort = text_sort; number = 8 } ∷ [] } ∷ []
 
 abbrev labels_exchange : List Label
 labels_exchange =
-    label_with None by_problem variables_of_exchange (skeleton_of (input_of input_exchange) no_skeleton) (node_at 0 1 ∷ [])
+    label_with None by_problem (skeleton_of (input_of input_exchange) no_skeleton) (node_at 0 1 ∷ [])
     (test_at 0 1 (enc_term (pair_term (text_of 2) (text_of 3)) (public_of 0))) [] (1 ∷ 2 ∷ []) None
-    ∷ label_with (Some 0) (by_added_strand 1) variables_with_strand
-    (skeleton_exchange (initiator ∷ responder 5 ∷ []) (pair_from (node_at 1 1) (node_at 0 1) ∷ pair_from (node_at 0 0) (node_at 1 0) ∷ []))
+    ∷ label_with (Some 0) (by_added_strand 1)
+    (skeleton_exchange variables_with_strand (initiator ∷ responder 5 ∷ []) (pair_from (node_at 1 1) (node_at 0 1) ∷ pair_from (node_at 0 0) (node_at 1 0) ∷ []))
     (node_at 1 0 ∷ []) (test_at 1 0 (enc_term (pair_term (text_of 2) (name_of 0)) (public_of 5))) [] (3 ∷ 4 ∷ []) None
-    ∷ label_with (Some 0) (by_added_listener 1) variables_of_exchange
-    (skeleton_exchange (initiator ∷ listener (pair_term (text_of 2) (text_of 3)) ∷ []) (pair_from (node_at 1 1) (node_at 0 1) ∷ pair_from (node_at 0 0) (node_at 1 0) ∷ []))
+    ∷ label_with (Some 0) (by_added_listener 1)
+    (skeleton_exchange variables_of_exchange (initiator ∷ listener (pair_term (text_of 2) (text_of 3)) ∷ []) (pair_from (node_at 1 1) (node_at 0 1) ∷ pair_from (node_at 0 0) (node_at 1 0) ∷ []))
     (node_at 0 1 ∷ node_at 1 0 ∷ []) (test_at 1 0 (text_of 2)) escape_exchange [] (Some dead)
-    ∷ label_with (Some 1) (by_contraction (node_at 0 0)) variables_with_strand
-    (skeleton_exchange (initiator ∷ responder 1 ∷ []) (pair_from (node_at 1 1) (node_at 0 1) ∷ pair_from (node_at 0 0) (node_at 1 0) ∷ []))
+    ∷ label_with (Some 1) (by_contraction (node_at 0 0))
+    (skeleton_exchange variables_with_strand (initiator ∷ responder 1 ∷ []) (pair_from (node_at 1 1) (node_at 0 1) ∷ pair_from (node_at 0 0) (node_at 1 0) ∷ []))
     [] None [] [] (Some shape)
-    ∷ label_with (Some 1) (by_added_listener 2) variables_with_strand
-    (skeleton_exchange (initiator ∷ responder 5 ∷ listener (pair_term (text_of 2) (name_of 0)) ∷ [])
+    ∷ label_with (Some 1) (by_added_listener 2)
+    (skeleton_exchange variables_with_strand (initiator ∷ responder 5 ∷ listener (pair_term (text_of 2) (name_of 0)) ∷ [])
     (pair_from (node_at 1 1) (node_at 0 1) ∷ pair_from (node_at 0 0) (node_at 1 0) ∷ pair_from (node_at 2 1) (node_at 1 0) ∷ pair_from (node_at 0 0) (node_at 2 0) ∷ []))
     (node_at 1 0 ∷ node_at 2 0 ∷ []) (test_at 2 0 (text_of 2)) escape_exchange [] (Some dead)
     ∷ []
@@ -274,7 +274,8 @@ unique_of_twice = record { non_originating = []; penetrator_non_originating = []
 
 abbrev skeleton_twice : Skeleton
 skeleton_twice = record {
-  strands = instance init 1 (substitution_by (name_of 1 ∷ name_of 2 ∷ text_of 0 ∷ [])) ∷ [];
+  variables = variables_of_twice;
+  strands = instance init 1 (bindings_of (name_of 1 ∷ name_of 2 ∷ text_of 0 ∷ [])) ∷ [];
   pairs = [];
   assumptions = unique_of_twice;
   from_problem = record { strands = 0 ∷ 0 ∷ []; values = text_of 0 ∷ name_of 1 ∷ name_of 2 ∷ name_of 1 ∷ name_of 2 ∷ []; assumptions = unique_of_twice; pairs = [] };
@@ -283,8 +284,8 @@ skeleton_twice = record {
 abbrev tree_twice : Tree
 tree_twice = record {
   labels =
-      label_with None by_problem variables_of_twice (skeleton_of (input_of input_twice) no_skeleton) [] None [] [] (Some dead)
-      ∷ label_with None (by_collapse (0 ∷ 0 ∷ [])) variables_of_twice skeleton_twice [] None [] [] (Some shape)
+      label_with None by_problem (skeleton_of (input_of input_twice) no_skeleton) [] None [] [] (Some dead)
+      ∷ label_with None (by_collapse (0 ∷ 0 ∷ [])) skeleton_twice [] None [] [] (Some shape)
       ∷ [];
   outcome = complete;
 }
@@ -354,9 +355,10 @@ pattern_many = record {
 -- its assumptions stand in another order than that of a report, and one of them twice
 abbrev skeleton_many : Skeleton
 skeleton_many = record {
+  variables = variables_many;
   strands =
-      instance role_many 3 (substitution_by (name_of 0 ∷ name_of 5 ∷ text_of 1 ∷ key_of (symmetric_term (skey_variable 9)) ∷ key_of (asymmetric_term false (pubk_term (Some []) 0)) ∷ atom_term (datum_variable 4) ∷ []))
-      ∷ instance role_many 1 (substitution_by (name_of 6 ∷ name_of 0 ∷ text_of 8 ∷ tag_term [] ∷ key_of (asymmetric_term false (akey_variable 2)) ∷ atom_term (datum_variable 4) ∷ [])) ∷ [];
+      instance role_many 3 (bindings_of (name_of 0 ∷ name_of 5 ∷ text_of 1 ∷ key_of (symmetric_term (skey_variable 9)) ∷ key_of (asymmetric_term false (pubk_term (Some []) 0)) ∷ atom_term (datum_variable 4) ∷ []))
+      ∷ instance role_many 1 (bindings_of (name_of 6 ∷ name_of 0 ∷ text_of 8 ∷ tag_term [] ∷ key_of (asymmetric_term false (akey_variable 2)) ∷ atom_term (datum_variable 4) ∷ [])) ∷ [];
   pairs = [];
   assumptions = record { non_originating = key_term (symmetric_term (ltk_term 0 6)) ∷ private_of 0 ∷ key_term (symmetric_term (ltk_term 0 6)) ∷ []; penetrator_non_originating = key_term (symmetric_term (skey_variable 9)) ∷ []; uniquely_originating = [] };
   from_problem = record { strands = 0 ∷ 1 ∷ 0 ∷ []; values = name_of 0 ∷ text_of 1 ∷ key_of (asymmetric_term false (pubk_term (Some []) 0)) ∷ name_of 5 ∷ atom_term (datum_variable 4) ∷ []; assumptions = no_assumptions; pairs = [] };
@@ -364,6 +366,7 @@ skeleton_many = record {
 
 abbrev tags_only : Skeleton
 tags_only = record {
+  variables = variables_many;
   strands = listener (tag_term (codes "t")) ∷ [];
   pairs = [];
   assumptions = no_assumptions;
@@ -373,11 +376,11 @@ tags_only = record {
 abbrev tree_many : Tree
 tree_many = record {
   labels =
-      label_with None by_problem variables_many (skeleton_of (input_of input_many) no_skeleton) (node_at 1 0 ∷ node_at 2 0 ∷ []) None [] [] (Some limit_strands)
-      ∷ label_with (Some 0) (by_displacement (node_at 0 2)) variables_many skeleton_many (node_at 0 1 ∷ []) (test_at 0 1 (enc_term (tag_term (codes "x")) (symmetric_term (skey_variable 9)))) (pattern_many ∷ []) (2 ∷ 3 ∷ []) None
-      ∷ label_with (Some 1) by_generalising variables_many tags_only [] None [] [] (Some (instance_of 10))
-      ∷ label_with (Some 1) (by_added_listener 2) variables_many no_skeleton [] None [] [] (Some (seen 12))
-      ∷ label_with None (by_collapse (0 ∷ 0 ∷ 2 ∷ [])) variables_many no_skeleton [] None [] [] (Some limit_steps)
+      label_with None by_problem (skeleton_of (input_of input_many) no_skeleton) (node_at 1 0 ∷ node_at 2 0 ∷ []) None [] [] (Some limit_strands)
+      ∷ label_with (Some 0) (by_displacement (node_at 0 2)) skeleton_many (node_at 0 1 ∷ []) (test_at 0 1 (enc_term (tag_term (codes "x")) (symmetric_term (skey_variable 9)))) (pattern_many ∷ []) (2 ∷ 3 ∷ []) None
+      ∷ label_with (Some 1) by_generalising tags_only [] None [] [] (Some (instance_of 10))
+      ∷ label_with (Some 1) (by_added_listener 2) no_skeleton [] None [] [] (Some (seen 12))
+      ∷ label_with None (by_collapse (0 ∷ 0 ∷ 2 ∷ [])) no_skeleton [] None [] [] (Some limit_steps)
       ∷ [];
   outcome = at_strand_limit;
 }
@@ -456,13 +459,9 @@ shapes_many = refl
 abbrev input_fresh : Forms
 input_fresh = (more (list (p 1 1) (more (symbol (p 1 2) (codes "defprotocol")) (more (symbol (p 1 14) (codes "p")) (more (symbol (p 1 16) (codes "basic")) (more (list (p 2 3) (more (symbol (p 2 4) (codes "defrole")) (more (symbol (p 2 12) (codes "r")) (more (list (p 2 14) (more (symbol (p 2 15) (codes "vars")) (more (list (p 2 20) (more (symbol (p 2 21) (codes "n")) (more (symbol (p 2 23) (codes "text")) none))) (more (list (p 2 29) (more (symbol (p 2 30) (codes "a")) (more (symbol (p 2 32) (codes "b")) (more (symbol (p 2 34) (codes "name")) none)))) none)))) (more (list (p 2 41) (more (symbol (p 2 42) (codes "trace")) (more (list (p 2 48) (more (symbol (p 2 49) (codes "send")) (more (list (p 2 54) (more (symbol (p 2 55) (codes "enc")) (more (symbol (p 2 59) (codes "n")) (more (symbol (p 2 61) (codes "a")) (more (list (p 2 63) (more (symbol (p 2 64) (codes "pubk")) (more (symbol (p 2 69) (codes "b")) none))) none))))) none))) (more (list (p 2 74) (more (symbol (p 2 75) (codes "recv")) (more (symbol (p 2 80) (codes "n")) none))) none)))) (more (list (p 2 84) (more (symbol (p 2 85) (codes "non-orig")) (more (list (p 2 94) (more (symbol (p 2 95) (codes "privk")) (more (symbol (p 2 101) (codes "b")) none))) none))) (more (list (p 2 105) (more (symbol (p 2 106) (codes "comment")) (more (string (p 2 114) (codes "x")) none))) (more (list (p 2 119) (more (symbol (p 2 120) (codes "non-orig")) (more (list (p 2 129) (more (symbol (p 2 130) (codes "privk")) (more (symbol (p 2 136) (codes "a")) none))) none))) (more (list (p 2 140) (more (symbol (p 2 141) (codes "pen-non-orig")) (more (symbol (p 2 154) (codes "n")) none))) (more (list (p 2 157) (more (symbol (p 2 158) (codes "uniq-orig")) (more (symbol (p 2 168) (codes "n")) (more (symbol (p 2 170) (codes "n")) none)))) none)))))))))) none))))) (more (list (p 3 1) (more (symbol (p 3 2) (codes "comment")) (more (list (p 4 3) (more (number (p 4 4) 1) none)) (more (symbol (p 4 7) (codes "x")) none)))) (more (list (p 5 1) (more (symbol (p 5 2) (codes "defskeleton")) (more (symbol (p 5 14) (codes "p")) (more (list (p 6 3) (more (symbol (p 6 4) (codes "vars")) (more (list (p 6 9) (more (symbol (p 6 10) (codes "m")) (more (symbol (p 6 12) (codes "text")) none))) (more (list (p 6 18) (more (symbol (p 6 19) (codes "a-0")) (more (symbol (p 6 23) (codes "name")) none))) none)))) (more (list (p 7 3) (more (symbol (p 7 4) (codes "defstrand")) (more (symbol (p 7 14) (codes "r")) (more (number (p 7 16) 1) (more (list (p 7 18) (more (symbol (p 7 19) (codes "n")) (more (symbol (p 7 21) (codes "m")) none))) none))))) (more (list (p 8 3) (more (symbol (p 8 4) (codes "deflistener")) (more (symbol (p 8 16) (codes "m")) none))) (more (list (p 9 3) (more (symbol (p 9 4) (codes "defstrand")) (more (symbol (p 9 14) (codes "r")) (more (number (p 9 16) 2) (more (list (p 9 18) (more (symbol (p 9 19) (codes "a")) (more (symbol (p 9 21) (codes "a-0")) none))) none))))) (more (list (p 10 3) (more (symbol (p 10 4) (codes "defstrand")) (more (symbol (p 10 14) (codes "r")) (more (number (p 10 16) 1) none)))) (more (list (p 11 3) (more (symbol (p 11 4) (codes "pen-non-orig")) (more (symbol (p 11 17) (codes "a-0")) (more (symbol (p 11 21) (codes "m")) none)))) (more (list (p 12 3) (more (symbol (p 12 4) (codes "uniq-orig")) (more (symbol (p 12 14) (codes "m")) (more (symbol (p 12 16) (codes "m")) none)))) (more (list (p 13 3) (more (symbol (p 13 4) (codes "precedes")) (more (list (p 13 13) (more (list (p 13 14) (more (number (p 13 15) 0) (more (number (p 13 17) 0) none))) (more (list (p 13 20) (more (number (p 13 21) 1) (more (number (p 13 23) 0) none))) none))) (more (list (p 13 27) (more (list (p 13 28) (more (number (p 13 29) 1) (more (number (p 13 31) 1) none))) (more (list (p 13 34) (more (number (p 13 35) 2) (more (number (p 13 37) 1) none))) none))) (more (list (p 13 41) (more (list (p 13 42) (more (number (p 13 43) 2) (more (number (p 13 45) 0) none))) (more (list (p 13 48) (more (number (p 13 49) 2) (more (number (p 13 51) 1) none))) none))) none))))) (more (list (p 14 3) (more (symbol (p 14 4) (codes "non-orig")) (more (list (p 14 13) (more (symbol (p 14 14) (codes "privk")) (more (symbol (p 14 20) (codes "a-0")) none))) none))) none)))))))))))) none)))
 
-abbrev variables_fresh : List Declaration
-variables_fresh =
-    text_named (codes "m") ∷ name_named (codes "a-0") ∷ name_named (codes "a") ∷ name_named (codes "b") ∷ text_named (codes "n") ∷ name_named (codes "b") ∷ text_named (codes "n") ∷ name_named (codes "a") ∷ name_named (codes "b") ∷ []
-
 abbrev tree_fresh : Tree
 tree_fresh = record {
-  labels = label_with None by_problem variables_fresh (skeleton_of (input_of input_fresh) no_skeleton) [] None [] [] (Some shape) ∷ [];
+  labels = label_with None by_problem (skeleton_of (input_of input_fresh) no_skeleton) [] None [] [] (Some shape) ∷ [];
   outcome = at_step_limit;
 }
 

@@ -7,6 +7,7 @@ use Rattle.cp_base.specs.declared.place.Code.TheVariants.{BadHeight, UnknownRole
 use Rattle.cp_lists.specs.Lists.{IsIn, here, there}
 use Rattle.cp_lists.proofs.Appended.{none_before, none_of_three}
 use Rattle.cp_model.specs.Term.{variables_of}
+use Rattle.cp_model.specs.Bindings.{as_substitution}
 use Rattle.cp_model.specs.Strand.{Role, Protocol, IsHeight, variables_of_prefix}
 use Rattle.cp_model.specs.declared.variable.Declaration.{Declaration}
 use Rattle.cp_model.specs.Skeleton.{SkeletonStrand, instance, listener}
@@ -23,7 +24,7 @@ use Rattle.cp_language.proofs.Instances.{TakesToDeclared, Extends, instance_take
 
 -- A strand over these roles and declarations.
 abbrev pub IsSoundStrand : List Role → List Declaration → SkeletonStrand → Type 0
-IsSoundStrand roles full (instance role height terms) = IsIn role roles × IsHeight role height × TakesToDeclared terms full (variables_of_prefix role height)
+IsSoundStrand roles full (instance role height terms) = IsIn role roles × IsHeight role height × TakesToDeclared (as_substitution terms) full (variables_of_prefix role height)
 IsSoundStrand roles full (listener t) = AreDeclared full (variables_of t)
 
 abbrev pub AreSoundStrands : List Role → List Declaration → List SkeletonStrand → Type 0

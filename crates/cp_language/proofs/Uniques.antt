@@ -3,6 +3,7 @@ use Rattle.std.proofs.Common.{◌≡◌, ℕ, zero, suc, ◌+◌, ◌<◌, List,
 use Rattle.std.proofs.lemmas.Bool.{lt-ltb, cond-true}
 use Rattle.cp_lists.specs.Lists.{item_at, IsIn, here, there}
 use Rattle.cp_model.specs.Term.{AtomTerm, Term, atom_term, pair_term, enc_term, IsCarriedByTerm, itself_term, in_left_term, in_right_term, in_plaintext_term, variables_of, variables_of_atom, variables_of_key, Substitution, apply_to_atom, apply_to}
+use Rattle.cp_model.specs.Bindings.{Binding, as_substitution}
 use Rattle.cp_model.specs.Strand.{payload, event_map, OriginatesInTerms, Role, prefix_of, variables_of_trace, AppliesAt}
 use Rattle.cp_model.specs.declared.strand.Event.{Event}
 use Rattle.cp_model.specs.declared.strand.Event.TheVariants.{Send as send}
@@ -37,31 +38,31 @@ below_there height s i v (Some j) e l =
     subst (λ (k : ℕ). IsIn (record { value = v; origin = node_at s i }) (unique_if_below height s v (Some k))) (sym p)
     (subst (λ (us : List UniqueAt). IsIn (record { value = v; origin = node_at s i }) us) (sym (cond-true (nat_lt i height) (record { value = v; origin = node_at s i } ∷ []) [] (lt-ltb i height l))) here)
 
-applying_there : (role : Role) (height : ℕ) (terms : Substitution) (s i : ℕ) (vs : List AtomTerm) (v : AtomTerm) → IsIn v vs → AppliesAt role height v i →
-    IsIn (record { value = apply_to_atom terms v; origin = node_at s i }) (applying_uniques role height terms s vs)
+applying_there : (role : Role) (height : ℕ) (terms : List Binding) (s i : ℕ) (vs : List AtomTerm) (v : AtomTerm) → IsIn v vs → AppliesAt role height v i →
+    IsIn (record { value = apply_to_atom (as_substitution terms) v; origin = node_at s i }) (applying_uniques role height terms s vs)
 applying_there role height terms s i [] v p a = elim p [ ]
 applying_there role height terms s i (w ∷ vs) v here a =
-    in_append_left (applying_uniques role height terms s vs) (below_there height s i (apply_to_atom terms v) (origin_in role.trace (atom_term v)) (finds_origin role.trace (atom_term v) i a.0) a.1)
+    in_append_left (applying_uniques role height terms s vs) (below_there height s i (apply_to_atom (as_substitution terms) v) (origin_in role.trace (atom_term v)) (finds_origin role.trace (atom_term v) i a.0) a.1)
 applying_there role height terms s i (w ∷ vs) v (there p) a =
-    in_append_right (unique_if_below height s (apply_to_atom terms w) (origin_in role.trace (atom_term w))) (applying_there role height terms s i vs v p a)
+    in_append_right (unique_if_below height s (apply_to_atom (as_substitution terms) w) (origin_in role.trace (atom_term w))) (applying_there role height terms s i vs v p a)
 
 -- The unique values that a strand's role gives are among those of the strands, the first of which has number n.
-pub given_there : (n : ℕ) (ks : List SkeletonStrand) (s : ℕ) (role : Role) (height : ℕ) (terms : Substitution) → item_at ks s ≡ Some (instance role height terms) →
-    (v : AtomTerm) (i : ℕ) → IsIn v role.uniquely_originating → AppliesAt role height v i → IsIn (record { value = apply_to_atom terms v; origin = node_at (n + s) i }) (given_uniques n ks)
+pub given_there : (n : ℕ) (ks : List SkeletonStrand) (s : ℕ) (role : Role) (height : ℕ) (terms : List Binding) → item_at ks s ≡ Some (instance role height terms) →
+    (v : AtomTerm) (i : ℕ) → IsIn v role.uniquely_originating → AppliesAt role height v i → IsIn (record { value = apply_to_atom (as_substitution terms) v; origin = node_at (n + s) i }) (given_uniques n ks)
 given_there n [] s role height terms e v i p a = absurd (cc)
 given_there n (k ∷ ks) zero role height terms e v i p a =
     let q : k ≡ instance role height terms = cc in
     let r : n ≡ n + 0 = omega arith in
-    subst (λ (m : ℕ). IsIn (record { value = apply_to_atom terms v; origin = node_at m i }) (given_uniques n (k ∷ ks))) r
-    (subst (λ (x : SkeletonStrand). IsIn (record { value = apply_to_atom terms v; origin = node_at n i }) (given_uniques n (x ∷ ks))) (sym q)
+    subst (λ (m : ℕ). IsIn (record { value = apply_to_atom (as_substitution terms) v; origin = node_at m i }) (given_uniques n (k ∷ ks))) r
+    (subst (λ (x : SkeletonStrand). IsIn (record { value = apply_to_atom (as_substitution terms) v; origin = node_at n i }) (given_uniques n (x ∷ ks))) (sym q)
     (in_append_left (given_uniques (suc n) ks) (applying_there role height terms n i role.uniquely_originating v p a)))
 given_there n (listener t ∷ ks) (suc s) role height terms e v i p a =
     let r : suc n + s ≡ n + suc s = omega arith in
-    subst (λ (m : ℕ). IsIn (record { value = apply_to_atom terms v; origin = node_at m i }) (given_uniques (suc n) ks)) r (given_there (suc n) ks s role height terms e v i p a)
+    subst (λ (m : ℕ). IsIn (record { value = apply_to_atom (as_substitution terms) v; origin = node_at m i }) (given_uniques (suc n) ks)) r (given_there (suc n) ks s role height terms e v i p a)
 given_there n (instance r h m ∷ ks) (suc s) role height terms e v i p a =
     let q : suc n + s ≡ n + suc s = omega arith in
     in_append_right (applying_uniques r h m n r.uniquely_originating)
-    (subst (λ (j : ℕ). IsIn (record { value = apply_to_atom terms v; origin = node_at j i }) (given_uniques (suc n) ks)) q (given_there (suc n) ks s role height terms e v i p a))
+    (subst (λ (j : ℕ). IsIn (record { value = apply_to_atom (as_substitution terms) v; origin = node_at j i }) (given_uniques (suc n) ks)) q (given_there (suc n) ks s role height terms e v i p a))
 
 -- ---- origins
 
@@ -93,7 +94,7 @@ module _ (k : Skeleton) where
   rest_from n s ks h i x e = let r : n + suc i ≡ suc n + i = omega arith in subst (λ (m : ℕ). item_at k.strands m ≡ Some x) r (h (suc i) x e)
 
   -- a transmission of an instance that carries a value
-  is_origin : (role : Role) (height : ℕ) (terms : Substitution) (v : AtomTerm) (s i : ℕ) (t : Term) → item_at k.strands s ≡ Some (instance role height terms) →
+  is_origin : (role : Role) (height : ℕ) (terms : List Binding) (v : AtomTerm) (s i : ℕ) (t : Term) → item_at k.strands s ≡ Some (instance role height terms) →
       item_at (skeleton_trace (instance role height terms)) i ≡ Some (send t) → IsCarriedByTerm (atom_term v) t → IsOrigin k (record { value = v; origin = node_at s i })
   is_origin role height terms v s i t on at carried = record {
     role = role;
@@ -105,7 +106,7 @@ module _ (k : Skeleton) where
     carried = carried;
   }
 
-  by_origin : (role : Role) (height : ℕ) (terms : Substitution) (v : AtomTerm) (s : ℕ) (o : Option ℕ) → item_at k.strands s ≡ Some (instance role height terms) →
+  by_origin : (role : Role) (height : ℕ) (terms : List Binding) (v : AtomTerm) (s : ℕ) (o : Option ℕ) → item_at k.strands s ≡ Some (instance role height terms) →
       origin_in (skeleton_trace (instance role height terms)) (atom_term v) ≡ o → HaveOrigins (origins_on (instance role height terms) s v)
   by_origin role height terms v s None on e u p = let q : IsIn u [] = rw e at p in elim q [ ]
   by_origin role height terms v s (Some i) on e u p =
@@ -129,26 +130,26 @@ module _ (k : Skeleton) where
       (value_origins 0 k.strands v (λ i s e. let r : i ≡ 0 + i = omega arith in subst (λ (m : ℕ). item_at k.strands m ≡ Some s) r e)) (own_origins vs)
 
   -- a value that originates in the prefix of a role
-  prefix_origin : (role : Role) (height : ℕ) (terms : Substitution) (v : AtomTerm) (s i : ℕ) → item_at k.strands s ≡ Some (instance role height terms) → OriginatesInTerms role.trace (atom_term v) i → i < height →
-      IsOrigin k (record { value = apply_to_atom terms v; origin = node_at s i })
+  prefix_origin : (role : Role) (height : ℕ) (terms : List Binding) (v : AtomTerm) (s i : ℕ) → item_at k.strands s ≡ Some (instance role height terms) → OriginatesInTerms role.trace (atom_term v) i → i < height →
+      IsOrigin k (record { value = apply_to_atom (as_substitution terms) v; origin = node_at s i })
   prefix_origin role height terms v s i on o l =
-      is_origin role height terms (apply_to_atom terms v) s i (apply_to terms o.sent) on
-      (map_of_item (event_map (apply_to terms)) (prefix_of role height) i (send o.sent) (take_of_item height role.trace i (send o.sent) l o.transmission)) (carried_applied terms o.carried)
+      is_origin role height terms (apply_to_atom (as_substitution terms) v) s i (apply_to (as_substitution terms) o.sent) on
+      (map_of_item (event_map (apply_to (as_substitution terms))) (prefix_of role height) i (send o.sent) (take_of_item height role.trace i (send o.sent) l o.transmission)) (carried_applied (as_substitution terms) o.carried)
 
-  below_origins : (role : Role) (height : ℕ) (terms : Substitution) (v : AtomTerm) (s i : ℕ) (b : Bool) → item_at k.strands s ≡ Some (instance role height terms) → OriginatesInTerms role.trace (atom_term v) i →
-      nat_lt i height ≡ b → HaveOrigins (if b then record { value = apply_to_atom terms v; origin = node_at s i } ∷ [] else [])
+  below_origins : (role : Role) (height : ℕ) (terms : List Binding) (v : AtomTerm) (s i : ℕ) (b : Bool) → item_at k.strands s ≡ Some (instance role height terms) → OriginatesInTerms role.trace (atom_term v) i →
+      nat_lt i height ≡ b → HaveOrigins (if b then record { value = apply_to_atom (as_substitution terms) v; origin = node_at s i } ∷ [] else [])
   below_origins role height terms v s i false on o e = no_origins
-  below_origins role height terms v s i true on o e = one_origin (record { value = apply_to_atom terms v; origin = node_at s i }) (prefix_origin role height terms v s i on o (ltb-true i height e))
+  below_origins role height terms v s i true on o e = one_origin (record { value = apply_to_atom (as_substitution terms) v; origin = node_at s i }) (prefix_origin role height terms v s i on o (ltb-true i height e))
 
-  option_origins : (role : Role) (height : ℕ) (terms : Substitution) (v : AtomTerm) (s : ℕ) (o : Option ℕ) → item_at k.strands s ≡ Some (instance role height terms) → origin_in role.trace (atom_term v) ≡ o →
-      HaveOrigins (unique_if_below height s (apply_to_atom terms v) o)
+  option_origins : (role : Role) (height : ℕ) (terms : List Binding) (v : AtomTerm) (s : ℕ) (o : Option ℕ) → item_at k.strands s ≡ Some (instance role height terms) → origin_in role.trace (atom_term v) ≡ o →
+      HaveOrigins (unique_if_below height s (apply_to_atom (as_substitution terms) v) o)
   option_origins role height terms v s None on e = no_origins
   option_origins role height terms v s (Some i) on e = below_origins role height terms v s i (nat_lt i height) on (origin_found role.trace (atom_term v) i e) refl
 
-  applying_origins : (role : Role) (height : ℕ) (terms : Substitution) (s : ℕ) (vs : List AtomTerm) → item_at k.strands s ≡ Some (instance role height terms) → HaveOrigins (applying_uniques role height terms s vs)
+  applying_origins : (role : Role) (height : ℕ) (terms : List Binding) (s : ℕ) (vs : List AtomTerm) → item_at k.strands s ≡ Some (instance role height terms) → HaveOrigins (applying_uniques role height terms s vs)
   applying_origins role height terms s [] on = no_origins
   applying_origins role height terms s (v ∷ vs) on =
-      both_origins (unique_if_below height s (apply_to_atom terms v) (origin_in role.trace (atom_term v))) (applying_uniques role height terms s vs)
+      both_origins (unique_if_below height s (apply_to_atom (as_substitution terms) v) (origin_in role.trace (atom_term v))) (applying_uniques role height terms s vs)
       (option_origins role height terms v s (origin_in role.trace (atom_term v)) on refl) (applying_origins role height terms s vs on)
 
   strands_origins : (n : ℕ) (ks : List SkeletonStrand) → AreFrom n ks → HaveOrigins (given_uniques n ks)

@@ -4,6 +4,7 @@ use Rattle.cp_base.specs.declared.place.Place.{Place}
 use Rattle.cp_base.specs.declared.place.Code.TheVariants.{UnknownForm, OutOfProfile, BadShape, UnknownProtocol, UnknownRole, DuplicateVar, BadHeight, UnknownVar, NotInPrefix, UniqNowhere, BadNode, CyclicOrder}
 use Rattle.cp_base.specs.declared.place.Refusal.{Refusal}
 use Rattle.cp_model.specs.Term.{variable_term, AtomTerm, Term, tag_term, atom_term}
+use Rattle.cp_model.specs.Bindings.{bindings_of}
 use Rattle.cp_model.specs.declared.sort.Sort.{Sort}
 use Rattle.cp_model.specs.declared.variable.Variable.{Variable}
 use Rattle.cp_model.specs.Strand.{Role, Protocol, variables_of_prefix}
@@ -15,7 +16,6 @@ use Rattle.cp_model.specs.declared.node.Node.{Node}
 use Rattle.cp_model.specs.Skeleton.{SkeletonStrand, instance, listener, skeleton_trace, term_event_at, UniqueAt, Assumptions, Skeleton}
 use Rattle.cp_model.specs.declared.node.OrderPair.{OrderPair}
 pub use Rattle.cp_model.specs.OrderTests.{at_or_after, any_pair, reaches_within}
-use Rattle.cp_model.specs.Homomorphism.{substitution_by}
 use Rattle.cp_model.specs.Problem.{numbers_from, variable_terms}
 use Rattle.cp_sexpr.specs.Syntax.{Form, symbol, number, list}
 use Rattle.cp_model.specs.Given.{atoms_onto, uniques_onto, with_given}
@@ -168,7 +168,7 @@ instance_of_role role ds next height maplets = instantiated (variables_of_prefix
 
 abbrev pub instance_by : Option Role → List Declaration → ℕ → List Form → SkeletonStrand × List Declaration
 instance_by (Some role) ds next (name ∷ height ∷ maplets) =
-    let i = instance_of_role role ds next (number_of height) maplets in (instance role (number_of height) (substitution_by i.terms), i.fresh)
+    let i = instance_of_role role ds next (number_of height) maplets in (instance role (number_of height) (bindings_of i.terms), i.fresh)
 instance_by role ds next fs = (listener (tag_term []), [])
 
 abbrev pub name_in_front : List Form → List ℕ
@@ -409,6 +409,7 @@ own_assumptions ds strands body = record {
 
 abbrev pub own_skeleton : List Declaration → List SkeletonStrand → List Form → List Declaration → Skeleton
 own_skeleton ds strands body variables = record {
+  variables = variables;
   strands = strands;
   pairs = pairs_in (forms_under is_precedes_item body);
   assumptions = with_given strands (own_assumptions ds strands body);

@@ -1,7 +1,8 @@
 -- The report: the forms of the input in order, each problem followed by the labels of its tree and its status.
 use Rattle.std.specs.Prelude.{◌≡◌, ℕ, suc, ◌+◌, ◌==◌, ◌&&◌, ◌||◌, List, [], ◌∷◌, ◌++◌, length, map, Bool, false, not, codes, if◌then◌else◌, Option, Some, None}
 use Rattle.cp_lists.specs.Lists.{item_at, IsIn}
-use Rattle.cp_model.specs.Term.{apply_to, variable_term, Term, variables_of, Substitution}
+use Rattle.cp_model.specs.Term.{apply_to, variable_term, Term, variables_of}
+use Rattle.cp_model.specs.Bindings.{Binding, as_substitution}
 use Rattle.cp_model.specs.declared.variable.Variable.{Variable}
 use Rattle.cp_model.specs.Strand.{variables_of_prefix}
 use Rattle.cp_model.specs.declared.strand.Event.{Event}
@@ -51,8 +52,8 @@ occurring l = variables_of_skeleton l.skeleton ++ variables_of_terms l.skeleton.
 -- occurs in the label form is one of them, so that it has a name and a sort.
 pub record HasItsVariables (p : Problem) (l : Label) : Type 0 where
   pub later : List Declaration
-  pub variables : l.variables ≡ p.variables ++ later
-  pub declared : (x : Variable) → IsIn x (occurring l) → IsDeclared l.variables x
+  pub variables : l.skeleton.variables ≡ p.variables ++ later
+  pub declared : (x : Variable) → IsIn x (occurring l) → IsDeclared l.skeleton.variables x
 
 -- ---- items
 
@@ -93,11 +94,11 @@ vars_from names occurs n (d ∷ ds) =
     else vars_from names occurs (suc n) ds
 
 -- The maplets of an instance: the variables of the prefix in the role's order, the first of the list having number n.
-abbrev pub maplets_from : (Variable → Form) → List Variable → Substitution → ℕ → List Declaration → List Form
+abbrev pub maplets_from : (Variable → Form) → List Variable → List Binding → ℕ → List Declaration → List Form
 maplets_from named prefix terms n [] = []
 maplets_from named prefix terms n (d ∷ ds) =
     let x = variable d.sort n in
-    if has_variable prefix x then plain_list (word d.identifier ∷ term_form named (apply_to terms (variable_term x)) ∷ []) ∷ maplets_from named prefix terms (suc n) ds
+    if has_variable prefix x then plain_list (word d.identifier ∷ term_form named (apply_to (as_substitution terms) (variable_term x)) ∷ []) ∷ maplets_from named prefix terms (suc n) ds
     else maplets_from named prefix terms (suc n) ds
 
 abbrev pub strand_form : (Variable → Form) → SkeletonStrand → Form
@@ -178,7 +179,7 @@ label_items of_problem names l =
     let named = named_by names in
     parent_items l.parent
     ++ headed_list (codes "by") (operation_words l.operation) ∷ []
-    ++ item_unless_empty (codes "vars") (vars_from names (occurring l) 0 l.variables)
+    ++ item_unless_empty (codes "vars") (vars_from names (occurring l) 0 l.skeleton.variables)
     ++ map (strand_form named) l.skeleton.strands
     ++ item_unless_empty (codes "precedes") (covering_pairs l.skeleton)
     ++ item_unless_empty (codes "non-orig") (map (atom_form named) (listed l.skeleton).non_originating)
@@ -193,7 +194,7 @@ label_items of_problem names l =
 
 -- A label form: its number, and its items, where of_problem are the names of the problem's variables.
 abbrev pub label_form : List (List ℕ) → ℕ → Label → Form
-label_form of_problem n l = headed_list (codes "label") (numeral n ∷ label_items of_problem (label_names of_problem (occurring l) l.variables) l)
+label_form of_problem n l = headed_list (codes "label") (numeral n ∷ label_items of_problem (label_names of_problem (occurring l) l.skeleton.variables) l)
 
 abbrev pub labels_from : List (List ℕ) → ℕ → List Label → List Form
 labels_from of_problem n [] = []

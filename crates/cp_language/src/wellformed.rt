@@ -15,11 +15,12 @@ ghost use Rattle.cp_sexpr.specs.Syntax.{Form, Forms};
 ghost use Rattle.cp_language.specs.Example.{example_input};
 ghost use Rattle.cp_language.specs.Role.{IsWellFormedRole};
 
-/// Each problem of well-formed input is a skeleton over its protocol. It maps to itself: each strand and each variable
+/// Each problem of well-formed input is a skeleton over its protocol, with the problem's variables. It maps to itself: each strand and each variable
 /// goes to itself, and all variables that occur in it are its own. The pairs that it states are its pairs.
 #[tactic(auto, using(crate::proofs::Problems::are_skeletons))]
 pub fn problems_of_input_are_skeletons()
     ensures skeletons { (fs : Forms) (e : Entry) (p : Problem) → faults_of fs ≡ [] → IsIn e (input_of fs) → stated e ≡ Some p → IsSkeleton p.protocol p.skeleton }
+    ensures variables { (fs : Forms) (e : Entry) (p : Problem) → faults_of fs ≡ [] → IsIn e (input_of fs) → stated e ≡ Some p → p.skeleton.variables ≡ p.variables }
     ensures own { (fs : Forms) (e : Entry) (p : Problem) → faults_of fs ≡ [] → IsIn e (input_of fs) → stated e ≡ Some p → IsPointOfView p.variables p.skeleton }
     ensures pairs { (fs : Forms) (e : Entry) (p : Problem) → faults_of fs ≡ [] → IsIn e (input_of fs) → stated e ≡ Some p → p.skeleton.from_problem.pairs ≡ p.skeleton.pairs }
 {}

@@ -9,21 +9,20 @@ use Rattle.cp_sexpr.specs.View.{view}
 use Rattle.cp_sexpr.specs.declared.form.Form as program
 use Rattle.cp_language.specs.Roles.{headed, forms_under, item_or_none, items_behind}
 use Rattle.cp_language.specs.Problems.{pair_of, pairs_in, is_precedes_item}
-use Rattle.cp_model.specs.Data.{StrandData}
-use Rattle.cp_strand.specs.View.{strand_view}
+use Rattle.cp_model.specs.Skeleton.{SkeletonStrand}
 
 -- ---- numbers of strands
 
-numbers-from : (ks : List StrandData) (k m : ℕ) → k < length ks → numbers_from m (map strand_view (drop k ks)) ≡ m ∷ numbers_from (suc m) (map strand_view (drop (suc k) ks))
+numbers-from : (ks : List SkeletonStrand) (k m : ℕ) → k < length ks → numbers_from m (drop k ks) ≡ m ∷ numbers_from (suc m) (drop (suc k) ks)
 numbers-from [] k m lt = absurd (omega arith)
 numbers-from (x ∷ xs) zero m lt = refl
 numbers-from (x ∷ xs) (suc k) m lt = numbers-from xs k m (omega arith)
 
-pub number-taken : (ks : List StrandData) (k : ℕ) (ns ms all : List ℕ) → k < length ks → ms ≡ ns ++ k ∷ [] → ns ++ numbers_from k (map strand_view (drop k ks)) ≡ all
-    → ms ++ numbers_from (k + 1) (map strand_view (drop (k + 1) ks)) ≡ all
+pub number-taken : (ks : List SkeletonStrand) (k : ℕ) (ns ms all : List ℕ) → k < length ks → ms ≡ ns ++ k ∷ [] → ns ++ numbers_from k (drop k ks) ≡ all
+    → ms ++ numbers_from (k + 1) (drop (k + 1) ks) ≡ all
 number-taken ks k ns ms all lt g h =
-    ap (λ j. ms ++ numbers_from j (map strand_view (drop j ks))) (add-one k) ∙ ap (λ xs. xs ++ numbers_from (suc k) (map strand_view (drop (suc k) ks))) g
-    ∙ append_assoc ns (k ∷ []) (numbers_from (suc k) (map strand_view (drop (suc k) ks))) ∙ sym (ap (λ xs. ns ++ xs) (numbers-from ks k k lt)) ∙ h
+    ap (λ j. ms ++ numbers_from j (drop j ks)) (add-one k) ∙ ap (λ xs. xs ++ numbers_from (suc k) (drop (suc k) ks)) g
+    ∙ append_assoc ns (k ∷ []) (numbers_from (suc k) (drop (suc k) ks)) ∙ sym (ap (λ xs. ns ++ xs) (numbers-from ks k k lt)) ∙ h
 
 -- ---- pairs
 

@@ -4,7 +4,6 @@ ghost use Rattle.cp_sexpr.specs.View.{view};
 ghost use Rattle.cp_language.specs.Terms.{atom_faults};
 ghost use Rattle.cp_language.specs.Roles.{headed, item_or_none, items_behind, item_faults, each_faults};
 ghost use Rattle.cp_language.specs.Problems.{misplaced_unless, instance_faults, listener_faults, unique_faults, pairs_faults, pairs_in, pairs_if, is_precedes_item, stage_after, problem_item_faults, body_faults};
-ghost use Rattle.cp_strand.specs.View.{strand_view};
 ghost use Rattle.cp_scope.specs.FirstFault.{first_onto};
 ghost use Rattle.cp_roles.specs.Named.{shared_roles_view};
 ghost use Rattle.cp_load.specs.Stages.{stage_view, no_stage};
@@ -99,7 +98,7 @@ fn atoms_item_faults(scope: Scope<'_>, item: Item<'_>, first: &mut FirstFault)
 /// Notes the faults of the unique values of a problem.
 fn values_faults(scope: Scope<'_>, items: &[Form], first: &mut FirstFault) -> Result<(), AllocError>
     ensures { OnOk result (first.new ≡ first_onto first.old
-        (each_faults (unique_faults (map strand_view scope.entry.strands.now) scope.entry.variables.now) (map view items.now))) }
+        (each_faults (unique_faults scope.entry.strands.now scope.entry.variables.now) (map view items.now))) }
 {
     for item in items {
         unique_faults(scope.alloc, scope.strands, scope.variables, item, first)?;
@@ -114,7 +113,7 @@ fn uniques_item_faults(
     first: &mut FirstFault,
 ) -> Result<(), AllocError>
     ensures { OnOk result (first.new ≡ first_onto first.old (misplaced_unless item.entry.stage.after_strand item.entry.place
-        (each_faults (unique_faults (map strand_view scope.entry.strands.now) scope.entry.variables.now) (map view item.entry.items.now)))) }
+        (each_faults (unique_faults scope.entry.strands.now scope.entry.variables.now) (map view item.entry.items.now)))) }
 {
     if item.stage.after_strand {
         return values_faults(scope, item.items, first);
@@ -134,7 +133,7 @@ fn order_item_faults(
 ) -> Result<(), AllocError>
     requires { IsAcyclicUpTo acyclic_count (before.old.items ++ pairs_in (map view item.items.now)) }
     ensures faults { OnOk result (first.new ≡ first_onto first.old (misplaced_unless item.entry.stage.after_strand item.entry.place
-        (pairs_faults (map strand_view scope.entry.strands.now) before.old.items (map view item.entry.items.now)))) }
+        (pairs_faults scope.entry.strands.now before.old.items (map view item.entry.items.now)))) }
     ensures pairs { OnOk result (before.new.items ≡ before.old.items ++ pairs_in (map view item.entry.items.now)) }
 {
     if item.stage.after_strand {
@@ -163,7 +162,7 @@ fn item_faults(
 ) -> Result<(), AllocError>
     requires { IsAcyclicUpTo acyclic_count (before.old.items ++ pairs_of_item (view form.now)) }
     ensures faults { OnOk result (first.new ≡ first_onto first.old (item_faults (problem_item_faults (shared_roles_view scope.entry.roles.now)
-        scope.entry.variables.now (map strand_view scope.entry.strands.now) before.old.items (stage_view stage)) (view form.now))) }
+        scope.entry.variables.now scope.entry.strands.now before.old.items (stage_view stage)) (view form.now))) }
     ensures pairs { OnOk result (before.new.items
         ≡ before.old.items ++ pairs_if (is_precedes_item (item_or_none (headed (view form.now)))) (items_behind (headed (view form.now)))) }
 {
@@ -197,7 +196,7 @@ pub(crate) fn body_faults(
     first: &mut FirstFault,
 ) -> Result<(), AllocError>
     ensures { OnOk result (first.new ≡ first_onto first.old (body_faults (shared_roles_view scope.entry.roles.now) scope.entry.variables.now
-        (map strand_view scope.entry.strands.now) [] no_stage (map view items.now))) }
+        scope.entry.strands.now [] no_stage (map view items.now))) }
 {
     let acyclic_count = stated_without_cycle(scope.alloc, items)?;
     let mut before = Vec::new(scope.alloc);

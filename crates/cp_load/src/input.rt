@@ -1,6 +1,8 @@
 // Loaded input.
 ghost use Rattle.std.specs.Prelude.{◌≡◌, option_map};
-ghost use Rattle.cp_load.specs.Inputs.{problem_in};
+ghost use Rattle.cp_sexpr.specs.View.{view};
+ghost use Rattle.cp_language.specs.Input.{form_of, stated};
+ghost use Rattle.cp_load.specs.Inputs.{problem_view, entry_view};
 
 use cp_sexpr::Form;
 use cp_skel::{Protocol, Skeleton};
@@ -15,29 +17,37 @@ pub struct Problem {
     pub skeleton: Skeleton,
 }
 
-/// What a form of well-formed input states: nothing, a protocol, or a problem.
+/// A form of well-formed input, with what it states: nothing, a protocol, or a problem.
 #[derive(Drop)]
-pub enum Entry {
-    Plain,
-    Protocol(Rc<Protocol>),
-    Problem(Problem),
+pub enum Entry<'a> {
+    Plain(&'a Form),
+    Protocol(&'a Form, Rc<Protocol>),
+    Problem(&'a Form, Problem),
 }
 
-impl Entry {
-    /// The problem that the form states, if it states one.
-    pub fn problem(&self) -> Option<&Problem>
-        ensures { option_map (λ p. p.now) result ≡ problem_in self.now }
+impl<'a> Entry<'a> {
+    /// The form.
+    pub fn form(&self) -> &'a Form
+        ensures { view result.now ≡ form_of (entry_view self.now) }
     {
         match self {
-            Entry::Plain | Entry::Protocol(_) => None,
-            Entry::Problem(problem) => Some(problem),
+            Entry::Plain(form) | Entry::Protocol(form, _) | Entry::Problem(form, _) => form,
+        }
+    }
+
+    /// The problem that the form states, if it states one.
+    pub fn problem(&self) -> Option<&Problem>
+        ensures { option_map (λ p. problem_view p.now) result ≡ stated (entry_view self.now) }
+    {
+        match self {
+            Entry::Plain(_) | Entry::Protocol(..) => None,
+            Entry::Problem(_, problem) => Some(problem),
         }
     }
 }
 
-/// Well-formed input: its forms, and for each form, in order, what it states.
+/// Well-formed input: its forms in order, each with what it states.
 #[derive(Drop)]
 pub struct Input<'a> {
-    pub forms: &'a [Form],
-    pub entries: Vec<Entry>,
+    pub entries: Vec<Entry<'a>>,
 }

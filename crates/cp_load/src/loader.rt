@@ -1,15 +1,15 @@
 // From forms to protocols and problems.
-ghost use Rattle.std.specs.Prelude.{length, ◌≡◌, ◌++◌, ◌∷◌, [], map, Ok, Err, IfOk, IfErr, OnOk};
+ghost use Rattle.std.specs.Prelude.{◌≡◌, ◌++◌, ◌∷◌, [], map, Ok, Err, IfOk, IfErr, OnOk};
 ghost use Rattle.std.specs.List.{filter_map};
 ghost use Rattle.cp_base.specs.declared.place.Refusal.{Refusal as Fault};
 ghost use Rattle.cp_sexpr.specs.View.{view, views};
 ghost use Rattle.cp_language.specs.Faults.{place_of};
 ghost use Rattle.cp_language.specs.Roles.{headed, protocol_faults, protocol_of};
-ghost use Rattle.cp_language.specs.Input.{protocol_names, headed_top_faults, protocols_behind, faults_from, stated_protocol, headed_entry};
+ghost use Rattle.cp_language.specs.Input.{protocol_names, headed_top_faults, protocols_behind, faults_from, form_of, stated_protocol, headed_entry, entries_from};
 ghost use Rattle.cp_language.specs.StatedInput.{protocols_of, IsInput};
 ghost use Rattle.cp_roles.specs.Above.{protocols_view, names_of_protocols, turned};
 ghost use Rattle.cp_scope.specs.FirstFault.{first_onto};
-ghost use Rattle.cp_load.specs.UncheckedProblems.{unchecked_entry_view, stated_from};
+ghost use Rattle.cp_load.specs.UncheckedProblems.{unchecked_entry_view};
 ghost use Rattle.cp_load.specs.Inputs.{input_entries};
 ghost use Rattle.cp_load.specs.declared.error.LoadError.TheVariants.{Refused};
 
@@ -50,51 +50,50 @@ fn add_protocol(
     Ok(shared)
 }
 
-/// What a top form states. A protocol that it states is appended to those above, which have these names. Notes the
-/// form's faults.
-pub fn top_form(
+/// A top form with what it states. A protocol that it states is appended to those above, which have these names. Notes
+/// the form's faults.
+pub fn top_form<'a>(
     alloc: Global,
     above: &mut Vec<Rc<Protocol>>,
     names: &mut NameSet,
-    form: &Form,
+    form: &'a Form,
     first: &mut FirstFault,
-) -> Result<UncheckedEntry, AllocError>
+) -> Result<UncheckedEntry<'a>, AllocError>
     requires { names.old ≡ names_of_protocols (protocols_view above.old.items) }
     ensures faults { OnOk result (first.new ≡ first_onto first.old (headed_top_faults (turned (protocols_view above.old.items) []) (place_of (view form.now)) (headed (view form.now)))) }
-    ensures entry { IfOk result (λ u. unchecked_entry_view u (view form.now) ≡ headed_entry (turned (protocols_view above.old.items) []) (headed (view form.now)) (view form.now)) }
+    ensures entry { IfOk result (λ u. unchecked_entry_view u ≡ headed_entry (turned (protocols_view above.old.items) []) (headed (view form.now)) (view form.now)) }
     ensures protocols { OnOk result (protocols_view above.new.items ≡ protocols_view above.old.items ++ protocols_behind (headed (view form.now)) []) }
     ensures names { OnOk result (names.new ≡ names_of_protocols (protocols_view above.new.items)) }
 {
     let place = place_of(form);
     let Some(list) = headed(form) else {
         first.note(place, Code::BadShape);
-        return Ok(UncheckedEntry::Plain);
+        return Ok(UncheckedEntry::Plain(form));
     };
     match top_head(list.head) {
         TopHead::Protocol => {
             let protocol = add_protocol(alloc, above, names, place, list.items, first)?;
-            return Ok(UncheckedEntry::Protocol(protocol));
+            return Ok(UncheckedEntry::Protocol(form, protocol));
         }
         TopHead::Problem => {
-            let unchecked = problem_of(alloc, above, place, list.items, first)?;
-            return Ok(UncheckedEntry::Problem(unchecked));
+            let problem = problem_of(alloc, above, place, list.items, first)?;
+            return Ok(UncheckedEntry::Problem(form, problem));
         }
         TopHead::Free => {}
         TopHead::OutOfProfile => first.note(place, Code::OutOfProfile),
         TopHead::Unknown => first.note(place, Code::UnknownForm),
     }
-    Ok(UncheckedEntry::Plain)
+    Ok(UncheckedEntry::Plain(form))
 }
 
-/// What these forms state, one after another. Notes their faults; what stands for a form with faults has no meaning.
-fn read_forms(
+/// These forms, each with what it states. Notes their faults; what a form with faults states has no meaning.
+fn read_forms<'a>(
     alloc: Global,
-    forms: &[Form],
+    forms: &'a [Form],
     first: &mut FirstFault,
-) -> Result<Vec<UncheckedEntry>, AllocError>
+) -> Result<Vec<UncheckedEntry<'a>>, AllocError>
     ensures faults { OnOk result (first.new ≡ first_onto first.old (faults_from [] (map view forms.now))) }
-    ensures entries { IfOk result (λ us. map unchecked_entry_view us.items ≡ stated_from [] (map view forms.now)) }
-    ensures counted { IfOk result (λ us. length us.items ≡ length forms.now) }
+    ensures entries { IfOk result (λ us. map unchecked_entry_view us.items ≡ entries_from [] (map view forms.now)) }
 {
     let mut protocols = Vec::new(alloc);
     let mut names = NameSet::new(alloc);
@@ -106,14 +105,13 @@ fn read_forms(
     Ok(unchecked_entries)
 }
 
-/// Loads forms: the input, which keeps the forms, with what each of them states.
+/// Loads forms: the input that they are, each of them with what it states.
 ///
 /// Forms with faults are refused for the first fault by line, then by column, then by kind. The other error is
 /// `Memory`.
-pub fn load<'a>(alloc: Global, forms: &'a [Form]) -> Result<Input<'a>, LoadError>
+pub fn load(alloc: Global, forms: &[Form]) -> Result<Input<'_>, LoadError>
     ensures input { IfOk result (λ i. IsInput (views forms.now) (Ok (input_entries i))) }
-    ensures forms { IfOk result (λ i. i.forms.now ≡ forms.now) }
-    ensures entries { IfOk result (λ i. length i.entries.items ≡ length forms.now) }
+    ensures forms { IfOk result (λ i. map form_of (input_entries i) ≡ map view forms.now) }
     ensures protocols { IfOk result (λ i. filter_map stated_protocol (input_entries i) ≡ protocols_of (views forms.now)) }
     ensures refused { IfErr result (λ e. (r : Fault) → e ≡ Refused r → IsInput (views forms.now) (Err r)) }
 {
@@ -122,7 +120,6 @@ pub fn load<'a>(alloc: Global, forms: &'a [Form]) -> Result<Input<'a>, LoadError
     match first.found() {
         Some(fault) => Err(LoadError::Refused(fault)),
         None => Ok(Input {
-            forms,
             entries: all_finished(alloc, unchecked_entries)?,
         }),
     }

@@ -4,7 +4,6 @@ ghost use Rattle.cp_lists.specs.Lists.{item_at};
 ghost use Rattle.cp_model.specs.Skeleton.{skeleton_trace, term_event_at};
 ghost use Rattle.cp_sexpr.specs.View.{view};
 ghost use Rattle.cp_language.specs.Problems.{node_of, range_faults, two_number_faults, node_faults};
-ghost use Rattle.cp_strand.specs.View.{strand_view};
 ghost use Rattle.cp_scope.specs.FirstFault.{first_onto};
 ghost use Rattle.cp_load.specs.Directions.{direction_of, number_form, number_faults_if};
 
@@ -33,7 +32,7 @@ fn event_direction(events: &[Event], index: usize) -> Option<Direction>
 
 /// The direction of the event at an index of a strand.
 fn strand_direction(strand: &Strand, index: usize) -> Option<Direction>
-    ensures { result ≡ direction_of (item_at (skeleton_trace (strand_view strand.now)) index) }
+    ensures { result ≡ direction_of (item_at (skeleton_trace strand.now) index) }
 {
     match strand.shape() {
         StrandShape::Instance(instance) => event_direction(
@@ -50,7 +49,7 @@ fn strand_direction(strand: &Strand, index: usize) -> Option<Direction>
 
 /// The direction of the event at a node, if there is one.
 pub fn node_direction(strands: &[Strand], node: Node) -> Option<Direction>
-    ensures { result ≡ direction_of (term_event_at (map strand_view strands.now) node) }
+    ensures { result ≡ direction_of (term_event_at strands.now node) }
 {
     match strands.get(node.strand) {
         Some(strand) => strand_direction(strand, node.index),
@@ -91,7 +90,7 @@ fn number_faults(form: Option<&Form>, first: &mut FirstFault)
 
 /// A node has to exist.
 fn range_faults(strands: &[Strand], place: Place, node: Option<Node>, first: &mut FirstFault)
-    ensures { first.new ≡ first_onto first.old (range_faults (map strand_view strands.now) place node) }
+    ensures { first.new ≡ first_onto first.old (range_faults strands.now place node) }
 {
     if let Some(node) = node {
         first.note_unless(
@@ -112,7 +111,7 @@ fn two_number_faults(items: &[Form], first: &mut FirstFault)
 
 /// Notes the faults of a node that a form states.
 pub(crate) fn node_faults(strands: &[Strand], form: &Form, first: &mut FirstFault)
-    ensures { first.new ≡ first_onto first.old (node_faults (map strand_view strands.now) (view form.now)) }
+    ensures { first.new ≡ first_onto first.old (node_faults strands.now (view form.now)) }
 {
     let Form::List(place, items) = form else {
         first.note(place_of(form), Code::BadShape);

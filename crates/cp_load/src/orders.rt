@@ -1,9 +1,8 @@
 // The faults of the pairs of problems.
-ghost use Rattle.std.specs.Prelude.{◌≡◌, ◌++◌, map, Some, option_map, IfOk, OnOk};
+ghost use Rattle.std.specs.Prelude.{◌≡◌, ◌++◌, map, Some, IfOk, OnOk};
 ghost use Rattle.cp_sexpr.specs.View.{view};
 ghost use Rattle.cp_language.specs.Roles.{unless_faulty};
 ghost use Rattle.cp_language.specs.Problems.{node_of, node_faults, pair_of_nodes, at_or_after, any_pair, closes_cycle, order_faults, pair_items_faults, pair_faults, pairs_in, pairs_faults, between_strands, pair_of};
-ghost use Rattle.cp_strand.specs.View.{strand_view};
 ghost use Rattle.cp_scope.specs.FirstFault.{first_onto};
 ghost use Rattle.cp_load.specs.Acyclic.{IsAcyclicIf, IsAcyclicUpTo, pair_of_items};
 ghost use Rattle.cp_load.specs.Behind.{is_behind_fault};
@@ -122,7 +121,7 @@ fn order_faults(
     first: &mut FirstFault,
 ) -> Result<(), AllocError>
     requires { IsAcyclicIf before.acyclic (before.pairs.now ++ between_strands (pair_of_nodes (node_of (view stated.earlier.now)) (node_of (view stated.later.now)))) }
-    ensures { OnOk result (first.new ≡ first_onto first.old (order_faults (map strand_view before.entry.strands.now) before.entry.pairs.now stated.entry.place (view stated.entry.earlier.now) (view stated.entry.later.now)
+    ensures { OnOk result (first.new ≡ first_onto first.old (order_faults before.entry.strands.now before.entry.pairs.now stated.entry.place (view stated.entry.earlier.now) (view stated.entry.later.now)
         (pair_of_nodes (node_of (view stated.entry.earlier.now)) (node_of (view stated.entry.later.now))))) }
 {
     let Some(pair) = pair_of_nodes(node_of(stated.earlier), node_of(stated.later)) else {
@@ -149,8 +148,8 @@ fn nodes_or_order_faults(
     first: &mut FirstFault,
 ) -> Result<(), AllocError>
     requires { IsAcyclicIf before.acyclic (before.pairs.now ++ between_strands (pair_of_nodes (node_of (view earlier.now)) (node_of (view later.now)))) }
-    ensures { OnOk result (first.new ≡ first_onto first.old (unless_faulty (node_faults (map strand_view before.entry.strands.now) (view earlier.now) ++ node_faults (map strand_view before.entry.strands.now) (view later.now))
-        (order_faults (map strand_view before.entry.strands.now) before.entry.pairs.now place (view earlier.now) (view later.now) (pair_of_nodes (node_of (view earlier.now)) (node_of (view later.now)))))) }
+    ensures { OnOk result (first.new ≡ first_onto first.old (unless_faulty (node_faults before.entry.strands.now (view earlier.now) ++ node_faults before.entry.strands.now (view later.now))
+        (order_faults before.entry.strands.now before.entry.pairs.now place (view earlier.now) (view later.now) (pair_of_nodes (node_of (view earlier.now)) (node_of (view later.now)))))) }
 {
     let mut inside = FirstFault::new();
     node_faults(before.strands, earlier, &mut inside);
@@ -176,7 +175,7 @@ fn pair_items_faults(
     first: &mut FirstFault,
 ) -> Result<(), AllocError>
     requires { IsAcyclicIf before.acyclic (before.pairs.now ++ pair_of_items (map view items.now)) }
-    ensures { OnOk result (first.new ≡ first_onto first.old (pair_items_faults (map strand_view before.entry.strands.now) before.entry.pairs.now place (map view items.now))) }
+    ensures { OnOk result (first.new ≡ first_onto first.old (pair_items_faults before.entry.strands.now before.entry.pairs.now place (map view items.now))) }
 {
     let [earlier, later, rest @ ..] = items else {
         first.note(place, Code::BadShape);
@@ -197,7 +196,7 @@ fn pair_faults(
     first: &mut FirstFault,
 ) -> Result<(), AllocError>
     requires { IsAcyclicIf before.acyclic (before.pairs.now ++ pair_of (view form.now)) }
-    ensures { OnOk result (first.new ≡ first_onto first.old (pair_faults (map strand_view before.entry.strands.now) before.entry.pairs.now (view form.now))) }
+    ensures { OnOk result (first.new ≡ first_onto first.old (pair_faults before.entry.strands.now before.entry.pairs.now (view form.now))) }
 {
     let Form::List(place, items) = form else {
         first.note(place_of(form), Code::BadShape);
@@ -217,7 +216,7 @@ pub(crate) fn pairs_faults(
     first: &mut FirstFault,
 ) -> Result<(), AllocError>
     requires { IsAcyclicUpTo acyclic_count (before.old.items ++ pairs_in (map view items.now)) }
-    ensures faults { OnOk result (first.new ≡ first_onto first.old (pairs_faults (map strand_view strands.now) before.old.items (map view items.now))) }
+    ensures faults { OnOk result (first.new ≡ first_onto first.old (pairs_faults strands.now before.old.items (map view items.now))) }
     ensures pairs { OnOk result (before.new.items ≡ before.old.items ++ pairs_in (map view items.now)) }
 {
     for form in items {

@@ -3,7 +3,6 @@ ghost use Rattle.std.specs.Prelude.{◌≡◌, ◌++◌, map, option_map, OnOk};
 ghost use Rattle.std.specs.Option.{option_to_list};
 ghost use Rattle.cp_sexpr.specs.View.{view};
 ghost use Rattle.cp_language.specs.Problems.{option_node, on_one_strand, pair_of, pairs_in, is_some_transmission, is_some_reception, direction_faults};
-ghost use Rattle.cp_strand.specs.View.{strand_view};
 ghost use Rattle.cp_model.specs.Skeleton.{term_event_at};
 ghost use Rattle.cp_scope.specs.FirstFault.{first_onto};
 
@@ -72,14 +71,14 @@ pub fn add_pairs(forms: &[Form], pairs: &mut Vec<OrderPair>) -> Result<(), Alloc
 
 /// Whether the event at a node is a transmission.
 pub fn is_transmission(strands: &[Strand], node: Node) -> bool
-    ensures { result ≡ is_some_transmission (term_event_at (map strand_view strands.now) node) }
+    ensures { result ≡ is_some_transmission (term_event_at strands.now node) }
 {
     node_direction(strands, node) == Some(Direction::Transmission)
 }
 
 /// Whether the event at a node is a reception.
 pub fn is_reception(strands: &[Strand], node: Node) -> bool
-    ensures { result ≡ is_some_reception (term_event_at (map strand_view strands.now) node) }
+    ensures { result ≡ is_some_reception (term_event_at strands.now node) }
 {
     node_direction(strands, node) == Some(Direction::Reception)
 }
@@ -93,7 +92,7 @@ pub(crate) fn direction_faults(
     pair: OrderPair,
     first: &mut FirstFault,
 )
-    ensures { first.new ≡ first_onto first.old (direction_faults (map strand_view strands.now) (view earlier.now) (view later.now) pair) }
+    ensures { first.new ≡ first_onto first.old (direction_faults strands.now (view earlier.now) (view later.now) pair) }
 {
     if is_on_one_strand(pair) {
         return;

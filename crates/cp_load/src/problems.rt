@@ -1,13 +1,11 @@
 // Problems: their faults, and what they state.
-ghost use Rattle.std.specs.Prelude.{◌≡◌, [], map, option_map, IfOk, OnOk};
+ghost use Rattle.std.specs.Prelude.{◌≡◌, [], map, IfOk, OnOk};
 ghost use Rattle.cp_sexpr.specs.View.{view};
 ghost use Rattle.cp_language.specs.Problems.{protocol_name_faults, has_strand, protocol_named, protocol_or_none, problem_strands, problem_faults, problem_of};
-ghost use Rattle.cp_strand.specs.View.{strand_view};
 ghost use Rattle.cp_roles.specs.Above.{protocols_view, turned};
 ghost use Rattle.cp_scope.specs.FirstFault.{first_onto};
 ghost use Rattle.cp_load.specs.UncheckedProblems.{unchecked_view};
 ghost use Rattle.cp_roles.specs.MadeStrands.{AreMade};
-ghost use Rattle.cp_roles.specs.Named.{shared_roles_view};
 
 use crate::bodies::{Scope, body_faults};
 use crate::items::{before_items, has_strand};
@@ -66,7 +64,7 @@ fn parts_of(
     body: &[Form],
 ) -> Result<Parts, AllocError>
     ensures { IfOk result (λ p. AreMade (problem_strands protocol.now.roles declared.now (map view body.now))
-        (map strand_view p.strands.items) declared.now p.variables.items) }
+        p.strands.items declared.now p.variables.items) }
 {
     let mut variables = copies_of(alloc, declared)?;
     let strands = strands(

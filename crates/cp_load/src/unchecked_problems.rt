@@ -1,10 +1,12 @@
 // What forms state while they are read, and what that becomes if the forms have no faults.
 ghost use Rattle.std.specs.Prelude.{◌≡◌, map, option_map, IfOk};
 ghost use Rattle.cp_skel.specs.Sound.{IsSound};
-ghost use Rattle.cp_load.specs.UncheckedProblems.{unchecked_view, unchecked_problem, unchecked_entry_view, IsSoundIfThere, HaveSoundSkeletons};
+ghost use Rattle.cp_language.specs.Input.{stated};
+ghost use Rattle.cp_load.specs.UncheckedProblems.{unchecked_view, unchecked_entry_view, IsSoundIfThere, HaveSoundSkeletons};
 ghost use Rattle.cp_load.specs.Inputs.{problem_view, entry_view};
 
 use crate::input::{Entry, Problem};
+use cp_sexpr::Form;
 use cp_skel::{Assumptions, FromProblem, Order, Protocol, Skeleton, Strand};
 use cp_term::VarTable;
 use std::alloc::{AllocError, Global};
@@ -28,22 +30,22 @@ pub struct UncheckedProblem {
     pub skeleton: UncheckedSkeleton,
 }
 
-/// What a form states, while forms are read: nothing, a protocol, or a problem.
+/// A form with what it states, while forms are read: nothing, a protocol, or a problem.
 #[derive(Drop)]
-pub enum UncheckedEntry {
-    Plain,
-    Protocol(Rc<Protocol>),
-    Problem(UncheckedProblem),
+pub enum UncheckedEntry<'a> {
+    Plain(&'a Form),
+    Protocol(&'a Form, Rc<Protocol>),
+    Problem(&'a Form, UncheckedProblem),
 }
 
-impl UncheckedEntry {
+impl UncheckedEntry<'_> {
     /// The problem that the form states, if it states one.
     pub fn problem(&self) -> Option<&UncheckedProblem>
-        ensures { option_map (λ d. d.now) result ≡ unchecked_problem self.now }
+        ensures { option_map (λ d. unchecked_view d.now) result ≡ stated (unchecked_entry_view self.now) }
     {
         match self {
-            UncheckedEntry::Plain | UncheckedEntry::Protocol(_) => None,
-            UncheckedEntry::Problem(unchecked) => Some(unchecked),
+            UncheckedEntry::Plain(_) | UncheckedEntry::Protocol(..) => None,
+            UncheckedEntry::Problem(_, problem) => Some(problem),
         }
     }
 }
@@ -73,24 +75,24 @@ fn finished(unchecked: UncheckedProblem) -> Problem
 }
 
 /// The entry that an unchecked one becomes. The skeleton of its problem, if it has one, must be sound.
-fn finished_entry(unchecked: UncheckedEntry) -> Entry
+fn finished_entry(unchecked: UncheckedEntry<'_>) -> Entry<'_>
     requires { IsSoundIfThere unchecked }
-    ensures { entry_view result ≡ unchecked_entry_view unchecked }
+    ensures { entry_view result ≡ unchecked_entry_view unchecked.entry }
 {
     match unchecked {
-        UncheckedEntry::Plain => Entry::Plain,
-        UncheckedEntry::Protocol(protocol) => Entry::Protocol(protocol),
-        UncheckedEntry::Problem(unchecked) => Entry::Problem(finished(unchecked)),
+        UncheckedEntry::Plain(form) => Entry::Plain(form),
+        UncheckedEntry::Protocol(form, protocol) => Entry::Protocol(form, protocol),
+        UncheckedEntry::Problem(form, problem) => Entry::Problem(form, finished(problem)),
     }
 }
 
 /// The entries that unchecked ones become, each at its place. The skeletons of their problems must be sound.
 pub fn all_finished(
     alloc: Global,
-    unchecked_entries: Vec<UncheckedEntry>,
-) -> Result<Vec<Entry>, AllocError>
+    unchecked_entries: Vec<UncheckedEntry<'_>>,
+) -> Result<Vec<Entry<'_>>, AllocError>
     requires { HaveSoundSkeletons unchecked_entries.items }
-    ensures { IfOk result (λ v. map entry_view v.items ≡ map unchecked_entry_view unchecked_entries.items) }
+    ensures { IfOk result (λ v. map entry_view v.items ≡ map unchecked_entry_view unchecked_entries.entry.items) }
 {
     let mut entries = Vec::new(alloc);
     for unchecked in unchecked_entries {

@@ -1,12 +1,12 @@
 // Where unique values originate on the strands of problems.
-ghost use Rattle.std.specs.Prelude.{◌≡◌, map, OnOk};
+ghost use Rattle.std.specs.Prelude.{◌≡◌, OnOk};
 ghost use Rattle.cp_model.specs.Term.{apply_to};
 ghost use Rattle.cp_model.specs.Homomorphism.{substitution_by};
 ghost use Rattle.cp_model.specs.Skeleton.{skeleton_trace};
 ghost use Rattle.cp_model.specs.Given.{uniques_onto};
 ghost use Rattle.cp_language.specs.Problems.{origins_from, own_uniques};
 ghost use Rattle.cp_model.specs.Same.{carries, origin_in};
-ghost use Rattle.cp_strand.specs.View.{instance_view, strand_view};
+ghost use Rattle.cp_strand.specs.View.{instance_view};
 ghost use Rattle.cp_load.specs.Originations.{origin_on, originates, place_if_sent, unique_at};
 
 use cp_skel::{Atom, Event, Instance, Node, Strand, StrandShape, UniqueAt, add_unique, prefix_of};
@@ -45,7 +45,7 @@ fn instance_origin(instance: &Instance, value: &Term) -> Option<usize>
 
 /// The index at which a value originates on a strand, if it does. Nothing originates on a listener.
 fn strand_origin(strand: &Strand, value: &Term) -> Option<usize>
-    ensures { result ≡ origin_on (strand_view strand.now) value.now }
+    ensures { result ≡ origin_on strand.now value.now }
 {
     match strand.shape() {
         StrandShape::Instance(instance) => instance_origin(instance, value),
@@ -55,7 +55,7 @@ fn strand_origin(strand: &Strand, value: &Term) -> Option<usize>
 
 /// Whether a value originates on one of these strands.
 pub(crate) fn originates(strands: &[Strand], value: &Atom) -> bool
-    ensures { result ≡ originates (map strand_view strands.now) value.now }
+    ensures { result ≡ originates strands.now value.now }
 {
     for strand in strands {
         if strand_origin(strand, value.as_term()).is_some() {
@@ -89,7 +89,7 @@ fn add_origins(
     uniques: &mut Vec<UniqueAt>,
 ) -> Result<(), AllocError>
     ensures { OnOk result (uniques.new.items
-        ≡ uniques_onto uniques.old.items (origins_from 0 (map strand_view strands.now) value.now)) }
+        ≡ uniques_onto uniques.old.items (origins_from 0 strands.now value.now)) }
 {
     for (number, strand) in strands.iter().enumerate() {
         let origin = strand_origin(strand, value.as_term());
@@ -105,7 +105,7 @@ pub(crate) fn add_own_uniques(
     uniques: &mut Vec<UniqueAt>,
 ) -> Result<(), AllocError>
     ensures { OnOk result (uniques.new.items
-        ≡ uniques_onto uniques.old.items (own_uniques (map strand_view strands.now) values.now)) }
+        ≡ uniques_onto uniques.old.items (own_uniques strands.now values.now)) }
 {
     for value in values {
         add_origins(strands, value, uniques)?;

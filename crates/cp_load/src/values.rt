@@ -5,8 +5,6 @@ ghost use Rattle.cp_sexpr.specs.View.{view};
 ghost use Rattle.cp_model.specs.Given.{atoms_onto, uniques_onto};
 ghost use Rattle.cp_language.specs.Problems.{unique_faults, own_uniques, own_assumptions, is_precedes_item, pairs_in, own_skeleton};
 ghost use Rattle.cp_language.specs.Roles.{headed, item_or_none, atoms_in, forms_under, is_unique_item};
-ghost use Rattle.cp_strand.specs.View.{strand_view};
-ghost use Rattle.cp_skel.specs.View.{skeleton_view};
 ghost use Rattle.cp_scope.specs.FirstFault.{first_onto};
 ghost use Rattle.cp_load.specs.UncheckedProblems.{skeleton_unchecked};
 ghost use Rattle.cp_scope.specs.Kinds.{is_of_kind};
@@ -35,7 +33,7 @@ pub(crate) fn unique_faults(
     form: &Form,
     first: &mut FirstFault,
 ) -> Result<(), AllocError>
-    ensures { OnOk result (first.new ≡ first_onto first.old (unique_faults (map strand_view strands.now) variables.now (view form.now))) }
+    ensures { OnOk result (first.new ≡ first_onto first.old (unique_faults strands.now variables.now (view form.now))) }
 {
     let value = atom_of(alloc, variables, form)?;
     let holds = originates(strands, &value);
@@ -68,7 +66,7 @@ fn own_uniques(
     strands: &[Strand],
     body: &[Form],
 ) -> Result<Vec<UniqueAt>, AllocError>
-    ensures { IfOk result (λ v. v.items ≡ uniques_onto [] (own_uniques (map strand_view strands.now)
+    ensures { IfOk result (λ v. v.items ≡ uniques_onto [] (own_uniques strands.now
         (atoms_in declared.now (forms_under is_unique_item (map view body.now))))) }
 {
     let values = atoms_of(alloc, declared, Kind::Unique, body)?;
@@ -84,7 +82,7 @@ fn own_assumptions(
     strands: &[Strand],
     body: &[Form],
 ) -> Result<Assumptions, AllocError>
-    ensures { IfOk result (λ a. a ≡ own_assumptions declared.now (map strand_view strands.now) (map view body.now)) }
+    ensures { IfOk result (λ a. a ≡ own_assumptions declared.now strands.now (map view body.now)) }
 {
     Ok(Assumptions::new(
         own_atoms(alloc, declared, Kind::Non, body)?,
@@ -118,7 +116,7 @@ fn pairs_of(alloc: Global, body: &[Form]) -> Result<Vec<OrderPair>, AllocError>
 
 /// The numbers of these strands.
 fn numbers_of(alloc: Global, strands: &[Strand]) -> Result<Vec<usize>, AllocError>
-    ensures { IfOk result (λ v. v.items ≡ numbers_from 0 (map strand_view strands.now)) }
+    ensures { IfOk result (λ v. v.items ≡ numbers_from 0 strands.now) }
 {
     let mut numbers = Vec::new(alloc);
     for number in 0..strands.len() {
@@ -160,7 +158,7 @@ pub(crate) fn own_skeleton(
     body: &[Form],
     all: &[Declaration],
 ) -> Result<UncheckedSkeleton, AllocError>
-    ensures skeleton { IfOk result (λ k. skeleton_view (skeleton_unchecked k) ≡ own_skeleton declared.now (map strand_view strands.items) (map view body.now) all.now) }
+    ensures skeleton { IfOk result (λ k. skeleton_unchecked k ≡ own_skeleton declared.now strands.items (map view body.now) all.now) }
     ensures variables { IfOk result (λ k. k.variables ≡ all.now) }
 {
     let own = own_assumptions(alloc, declared, &strands, body)?;

@@ -1,8 +1,9 @@
 -- A skeleton embeds in itself, and embeddings compose.
-use Rattle.std.proofs.Common.{◌≡◌, ℕ, Some, map, refl, sym, ap, ◌∙◌, subst, le_trans, le_refl}
+use Rattle.std.proofs.Common.{◌≡◌, ℕ, List, Some, map, refl, sym, ap, ◌∙◌, subst, le_trans, le_refl}
 use Rattle.cp_lists.specs.Lists.{item_at, IsIn}
 use Rattle.cp_lists.proofs.Mapped.{map_same, map_then}
-use Rattle.cp_model.specs.Term.{AtomTerm, variable_term, Term, Substitution, apply_to, apply_to_atom, composed}
+use Rattle.cp_model.specs.Term.{AtomTerm, variable_term, Term, apply_to, apply_to_atom, composed}
+use Rattle.cp_model.specs.Bindings.{Binding, as_substitution}
 use Rattle.cp_model.specs.Identity.{unchanged}
 use Rattle.cp_model.specs.Strand.{Role}
 use Rattle.cp_model.specs.Skeleton.{instance, listener, Skeleton}
@@ -21,7 +22,7 @@ same_homomorphism k = record {
     to_terms = terms;
     on_instance = at;
     at_least = le_refl height;
-    equal_terms = λ x inx. term_composed terms unchanged (variable_term x) ∙ term_unchanged (apply_to terms (variable_term x));
+    equal_terms = λ x inx. term_composed (as_substitution terms) unchanged (variable_term x) ∙ term_unchanged (apply_to (as_substitution terms) (variable_term x));
   };
   listeners = λ s t at. at ∙ ap (λ (u : Term). Some (listener u)) (sym (term_unchanged t));
   ordered = λ x y before. before;
@@ -46,13 +47,13 @@ abbrev pub then_map : SkeletonMap → SkeletonMap → SkeletonMap
 then_map f g = record { strands = λ s. g.strands (f.strands s); terms = composed f.terms g.terms }
 
 then_instance : (a b c : Skeleton) (f g : SkeletonMap) → IsHomomorphism a b f → IsHomomorphism b c g →
-    (s : ℕ) (role : Role) (height : ℕ) (terms : Substitution) → item_at a.strands s ≡ Some (instance role height terms) → GoesToInstance c (then_map f g) s role height terms
+    (s : ℕ) (role : Role) (height : ℕ) (terms : List Binding) → item_at a.strands s ≡ Some (instance role height terms) → GoesToInstance c (then_map f g) s role height terms
 then_instance a b c f g hf hg s role height terms at = record {
   to_height = second.to_height;
   to_terms = second.to_terms;
   on_instance = second.on_instance;
   at_least = le_trans first.at_least second.at_least;
-  equal_terms = λ x inx. composed_further f.terms terms first.to_terms g.terms (variable_term x) (first.equal_terms x inx) ∙ second.equal_terms x (variables_of_higher role height first.to_height first.at_least x inx);
+  equal_terms = λ x inx. composed_further f.terms (as_substitution terms) (as_substitution first.to_terms) g.terms (variable_term x) (first.equal_terms x inx) ∙ second.equal_terms x (variables_of_higher role height first.to_height first.at_least x inx);
 }
   where
     first : GoesToInstance b f s role height terms

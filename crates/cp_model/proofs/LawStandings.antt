@@ -3,7 +3,8 @@ use Rattle.std.proofs.Common.{◌≡◌, ◌≢◌, ℕ, zero, suc, ◌<◌, ◌
 use native.Mathlib.Decide.{ℕ_discrete, dec_lt}
 use Rattle.cp_lists.specs.Lists.{item_at, IsIn, one_step, more_steps}
 use Rattle.cp_model.specs.Message.{Atom, Message, atom}
-use Rattle.cp_model.specs.Term.{variable_term, Term, Assignment, value_of, value_of_atom, Substitution, apply_to, apply_to_atom, after}
+use Rattle.cp_model.specs.Term.{variable_term, Term, Assignment, value_of, value_of_atom, apply_to, apply_to_atom, after}
+use Rattle.cp_model.specs.Bindings.{Binding, as_substitution}
 use Rattle.cp_model.specs.Strand.{Event, send, recv, event_map, Role, Protocol, prefix_of, Strand, regular}
 use Rattle.cp_model.specs.Bundle.{node_at, event_at, trace_or_none, Bundle, along_strand, Precedes, KeepsNon, KeepsPenetratorNon, KeepsUnique}
 use Rattle.cp_model.specs.declared.node.Node.{Node}
@@ -30,21 +31,21 @@ pub event_on : (k : Skeleton) (n : Node) (st : SkeletonStrand) (e : Event Term) 
 event_on k n st e at h = subst (λ (o : Option SkeletonStrand). item_at (skeleton_trace_or_none o) n.index ≡ Some e) at h
 
 -- An event of an instance is one of the role below the height.
-pub event_of_instance : (role : Role) (height : ℕ) (terms : Substitution) (i : ℕ) (e : Event Term) → item_at (skeleton_trace (instance role height terms)) i ≡ Some e →
+pub event_of_instance : (role : Role) (height : ℕ) (terms : List Binding) (i : ℕ) (e : Event Term) → item_at (skeleton_trace (instance role height terms)) i ≡ Some e →
     (i < height) × (u : Event Term) × (item_at role.trace i ≡ Some u)
 event_of_instance role height terms i e h =
-    let m = item_of_map (event_map (apply_to terms)) (prefix_of role height) i e h in
+    let m = item_of_map (event_map (apply_to (as_substitution terms))) (prefix_of role height) i e h in
     let t = item_of_take height role.trace i m.0 m.1 in
     (t.0, m.0, t.1)
 
 -- A node of a role strand of a skeleton.
-pub event_on_instance : (strands : List SkeletonStrand) (s i : ℕ) (role : Role) (height : ℕ) (terms : Substitution) (e : Event Term) →
+pub event_on_instance : (strands : List SkeletonStrand) (s i : ℕ) (role : Role) (height : ℕ) (terms : List Binding) (e : Event Term) →
     item_at strands s ≡ Some (instance role height terms) → term_event_at strands (node_at s i) ≡ Some e → (i < height) × (u : Event Term) × (item_at role.trace i ≡ Some u)
 event_on_instance strands s i role height terms e at h = event_of_instance role height terms i e (rw at at h)
 
-pub event_of_higher : (strands : List SkeletonStrand) (s i : ℕ) (role : Role) (height : ℕ) (terms : Substitution) (u : Event Term) →
-    item_at strands s ≡ Some (instance role height terms) → i < height → item_at role.trace i ≡ Some u → term_event_at strands (node_at s i) ≡ Some (event_map (apply_to terms) u)
-event_of_higher strands s i role height terms u at l h = rw at (map_of_item (event_map (apply_to terms)) (prefix_of role height) i u (take_of_item height role.trace i u l h))
+pub event_of_higher : (strands : List SkeletonStrand) (s i : ℕ) (role : Role) (height : ℕ) (terms : List Binding) (u : Event Term) →
+    item_at strands s ≡ Some (instance role height terms) → i < height → item_at role.trace i ≡ Some u → term_event_at strands (node_at s i) ≡ Some (event_map (apply_to (as_substitution terms)) u)
+event_of_higher strands s i role height terms u at l h = rw at (map_of_item (event_map (apply_to (as_substitution terms))) (prefix_of role height) i u (take_of_item height role.trace i u l h))
 
 pub event_of_regular : (strands : List Strand) (s i : ℕ) (role : Role) (height : ℕ) (g : Assignment) (u : Event Term) →
     item_at strands s ≡ Some (regular role height g) → i < height → item_at role.trace i ≡ Some u → event_at strands (node_at s i) ≡ Some (event_map (value_of g) u)
@@ -59,7 +60,7 @@ skeleton_climb k s i j e h l = climb s i j l (λ m n. along_strand_of (item_befo
 
 -- A step of a strand, seen in the bundle.
 image_step : (b : Bundle) (h : Standing) (s i : ℕ) (o : Option SkeletonStrand) (e : Event Term) →
-    ((role : Role) (height : ℕ) (terms : Substitution) → o ≡ Some (instance role height terms) → StandsOnRegular b h s role height terms) →
+    ((role : Role) (height : ℕ) (terms : List Binding) → o ≡ Some (instance role height terms) → StandsOnRegular b h s role height terms) →
     item_at (skeleton_trace_or_none o) (suc i) ≡ Some e →
     Precedes b (image_on o (h.nodes s) i) (image_on o (h.nodes s) (suc i)) ⊎ (image_on o (h.nodes s) i ≡ image_on o (h.nodes s) (suc i))
 image_step b h s i None e on ev = absurd (cc)
@@ -90,7 +91,7 @@ follows_apart (inl p) ne = p
 follows_apart (inr p) ne = absurd (ne p.1)
 
 follows_step : (k : Skeleton) (b : Bundle) (h : Standing) →
-    ((s : ℕ) (role : Role) (height : ℕ) (terms : Substitution) → item_at k.strands s ≡ Some (instance role height terms) → StandsOnRegular b h s role height terms) →
+    ((s : ℕ) (role : Role) (height : ℕ) (terms : List Binding) → item_at k.strands s ≡ Some (instance role height terms) → StandsOnRegular b h s role height terms) →
     ((p : OrderPair) → IsIn p k.pairs → Precedes b (image_of k h p.earlier) (image_of k h p.later)) →
     {x y : Node} → OrderStep k x y → Follows b (image_of k h x) (image_of k h y) x.strand y.strand
 follows_step k b h on pairs (along_strand_of {s = s} {i = i} {e = e} ev) = follows_same (image_step b h s i (item_at k.strands s) e (on s) ev) refl
@@ -98,7 +99,7 @@ follows_step k b h on pairs (along_pair {p = p} inp) = inl (pairs p inp)
 
 -- Of the order only the pairs need checking.
 pub follows_path : (k : Skeleton) (b : Bundle) (h : Standing) →
-    ((s : ℕ) (role : Role) (height : ℕ) (terms : Substitution) → item_at k.strands s ≡ Some (instance role height terms) → StandsOnRegular b h s role height terms) →
+    ((s : ℕ) (role : Role) (height : ℕ) (terms : List Binding) → item_at k.strands s ≡ Some (instance role height terms) → StandsOnRegular b h s role height terms) →
     ((p : OrderPair) → IsIn p k.pairs → Precedes b (image_of k h p.earlier) (image_of k h p.later)) →
     {x y : Node} → Before k x y → Follows b (image_of k h x) (image_of k h y) x.strand y.strand
 follows_path k b h on pairs (one_step st) = follows_step k b h on pairs st
@@ -136,7 +137,7 @@ reception_of_listener t received (suc zero) e = absurd (cc)
 reception_of_listener t received (suc (suc i)) e = absurd (cc)
 
 -- Two places of a role strand, seen in the bundle.
-instance_climb : (b : Skeleton) (bundle : Bundle) (h : Standing) (s i j : ℕ) (role : Role) (height : ℕ) (terms : Substitution) (u : Event Term) →
+instance_climb : (b : Skeleton) (bundle : Bundle) (h : Standing) (s i j : ℕ) (role : Role) (height : ℕ) (terms : List Binding) (u : Event Term) →
     item_at b.strands s ≡ Some (instance role height terms) → StandsOnRegular bundle h s role height terms → j < height → item_at role.trace j ≡ Some u → i < j →
     Precedes bundle (image_of b h (node_at s i)) (image_of b h (node_at s j))
 instance_climb b bundle h s i j role height terms u at st l ev rises =
@@ -171,10 +172,10 @@ pair_together a b f bundle h hom stands acyclic s i t j sent received (instance 
     let ls' : height ≤ gs.to_height = gs.at_least in
     let lt : j < height' = ut.0 in
     let lt' : height' ≤ gt.to_height = gt.at_least in
-    let ev = subst (λ (w : ℕ). term_event_at b.strands (node_at w i) ≡ Some (event_map (apply_to gs.to_terms) us.1)) same
+    let ev = subst (λ (w : ℕ). term_event_at b.strands (node_at w i) ≡ Some (event_map (apply_to (as_substitution gs.to_terms)) us.1)) same
     (event_of_higher b.strands (f.strands s) i role gs.to_height gs.to_terms us.1 gs.on_instance (omega arith) us.2) in
     let together = subst (λ (w : ℕ). Before b (node_at w i) (node_at (f.strands t) j)) same before in
-    let rises = index_rises b (f.strands t) i j (event_map (apply_to gs.to_terms) us.1) acyclic ev together in
+    let rises = index_rises b (f.strands t) i j (event_map (apply_to (as_substitution gs.to_terms)) us.1) acyclic ev together in
     subst (λ (w : ℕ). Precedes bundle (image_of b h (node_at w i)) (image_of b h (node_at (f.strands t) j))) (sym same)
     (instance_climb b bundle h (f.strands t) i j role' gt.to_height gt.to_terms ut.1 gt.on_instance (stands.instances (f.strands t) role' gt.to_height gt.to_terms gt.on_instance) (omega arith) ut.2 rises)
 
@@ -209,7 +210,7 @@ pair_follows protocol a b f bundle h ska skb hom stands p inp =
 
 -- Instances, listeners and assumptions.
 instances_stand : (a b : Skeleton) (f : SkeletonMap) (bundle : Bundle) (h : Standing) → IsHomomorphism a b f → StandsIn b bundle h →
-    (s : ℕ) (role : Role) (height : ℕ) (terms : Substitution) → item_at a.strands s ≡ Some (instance role height terms) → StandsOnRegular bundle (through f h) s role height terms
+    (s : ℕ) (role : Role) (height : ℕ) (terms : List Binding) → item_at a.strands s ≡ Some (instance role height terms) → StandsOnRegular bundle (through f h) s role height terms
 instances_stand a b f bundle h hom stands s role height terms at =
     let g : GoesToInstance b f s role height terms = hom.instances s role height terms at in
     let st : StandsOnRegular bundle h (f.strands s) role g.to_height g.to_terms = stands.instances (f.strands s) role g.to_height g.to_terms g.on_instance in
@@ -219,7 +220,7 @@ instances_stand a b f bundle h hom stands s role height terms at =
       to_values = st.to_values;
       on_regular = st.on_regular;
       at_least = le_trans g.at_least st.at_least;
-      equal_values = λ x inx. after_further f.terms terms g.to_terms h.values (variable_term x) (g.equal_terms x inx) ∙ st.equal_values x (variables_of_higher role height g.to_height g.at_least x inx);
+      equal_values = λ x inx. after_further f.terms (as_substitution terms) (as_substitution g.to_terms) h.values (variable_term x) (g.equal_terms x inx) ∙ st.equal_values x (variables_of_higher role height g.to_height g.at_least x inx);
     }
 
 uniques_stand : (protocol : Protocol) (a b : Skeleton) (f : SkeletonMap) (bundle : Bundle) (h : Standing) → IsSkeleton protocol a → IsHomomorphism a b f → StandsIn b bundle h →

@@ -33,6 +33,9 @@ pub mod NodeTests
 pub mod BoundedSearch
 pub mod DeclaredVariables
 pub mod NumbersFrom
+pub mod OneBinding
+pub mod DeclaredTerms
+pub mod DeclaredPrefixes
 pub mod OccurringVariables
 pub mod PrefixVariables
 pub mod UnderVariables

@@ -3,7 +3,8 @@ use Rattle.std.proofs.Common.{◌≡◌, ℕ, zero, suc, ◌+◌, ◌*◌, ◌<�
 use Rattle.cp_lists.specs.Lists.{item_at, IsIn, here, there}
 use Rattle.cp_lists.proofs.Items.{place_of, item_of_map, only_place}
 use Rattle.cp_model.specs.Message.{Message, atom}
-use Rattle.cp_model.specs.Term.{Sort, text_sort, datum_sort, name_sort, skey_sort, akey_sort, Variable, AtomTerm, Term, atom_term, Substitution, apply_to, value_of_atom, after, atoms_by, IsDistinct}
+use Rattle.cp_model.specs.Term.{Sort, text_sort, datum_sort, name_sort, skey_sort, akey_sort, Variable, AtomTerm, Term, atom_term, apply_to, value_of_atom, after, atoms_by, IsDistinct}
+use Rattle.cp_model.specs.Bindings.{Binding, as_substitution}
 use Rattle.cp_model.specs.SortNumbers.{sort_number, sort_from, sort_back}
 use Rattle.cp_model.specs.Strand.{Event, send, recv, event_map, OriginatesIn, OriginatesInTerms, Role, prefix_of, Strand, regular, trace_of}
 use Rattle.cp_model.specs.Bundle.{node_at, trace_or_none, event_at, OriginatesAt, KeepsNon, KeepsPenetratorNon, KeepsUnique, IsListing}
@@ -104,12 +105,12 @@ no_reception es sends f i {m} p =
     cc
 
 -- The strand of an instance under an assignment of atoms, and its assumptions.
-module _ (role : Role) (height : ℕ) (terms : Substitution) where
+module _ (role : Role) (height : ℕ) (terms : List Binding) where
   abbrev pub own_strand : Strand
-  own_strand = regular role height (after (atoms_by own_number) terms)
+  own_strand = regular role height (after (atoms_by own_number) (as_substitution terms))
 
   abbrev own_terms : List (Event Term)
-  own_terms = map (event_map (apply_to terms)) (prefix_of role height)
+  own_terms = map (event_map (apply_to (as_substitution terms))) (prefix_of role height)
 
   pub origin_at_node : (v : AtomTerm) (n : Node) → OriginatesAt (own_strand ∷ []) (atom (value_of_atom (atoms_by own_number) v)) n →
       (n.strand ≡ 0) × OriginatesInTerms own_terms (atom_term v) n.index
@@ -118,14 +119,14 @@ module _ (role : Role) (height : ℕ) (terms : Substitution) where
       let r = origin_there own_strand (atom (value_of_atom g v)) n.strand n.index o in (
         r.0,
         origin_of_value own_number own_numbers_distinct own_terms v n.index
-            (subst (λ es. OriginatesIn es (atom (value_of_atom g v)) n.index) (trace_after g terms (prefix_of role height)) r.1),
+            (subst (λ es. OriginatesIn es (atom (value_of_atom g v)) n.index) (trace_after g (as_substitution terms) (prefix_of role height)) r.1),
       )
 
   pub node_of_origin : (v : AtomTerm) (i : ℕ) → OriginatesInTerms own_terms (atom_term v) i →
       OriginatesAt (own_strand ∷ []) (atom (value_of_atom (atoms_by own_number) v)) (node_at 0 i)
   node_of_origin v i o =
       let g = atoms_by own_number in
-      subst (λ es. OriginatesIn es (atom (value_of_atom g v)) i) (sym (trace_after g terms (prefix_of role height)))
+      subst (λ es. OriginatesIn es (atom (value_of_atom g v)) i) (sym (trace_after g (as_substitution terms) (prefix_of role height)))
       (origin_of_term own_number own_numbers_distinct own_terms v i o)
 
   pub keeps_non : (v : AtomTerm) → ((i : ℕ) → OriginatesInTerms own_terms (atom_term v) i → ⊥) → KeepsNon (own_strand ∷ []) (atom (value_of_atom (atoms_by own_number) v))
@@ -138,7 +139,7 @@ module _ (role : Role) (height : ℕ) (terms : Substitution) where
   keeps_unique v i o = record {
     role = role;
     height = height;
-    values = after (atoms_by own_number) terms;
+    values = after (atoms_by own_number) (as_substitution terms);
     on_regular = refl;
     originates = node_of_origin v i o;
     only = λ n p. let r = origin_there own_strand (atom (value_of_atom (atoms_by own_number) v)) n.strand n.index p in

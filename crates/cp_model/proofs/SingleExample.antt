@@ -1,7 +1,8 @@
 -- The example meets the premises of the laws about one sending strand.
-use Rattle.std.proofs.Common.{◌≡◌, inl, ℕ, ◌<◌, Some, refl, sym, ap, subst, le_refl, lt_trans, lt_irrefl, lt-suc_self, arith}
+use Rattle.std.proofs.Common.{◌≡◌, inl, ℕ, List, [], ◌<◌, Some, refl, sym, ap, subst, le_refl, lt_trans, lt_irrefl, lt-suc_self, arith}
 use Rattle.cp_lists.specs.Lists.{item_at, IsIn, here, there, one_step, more_steps}
-use Rattle.cp_model.specs.Term.{Variable, text_variable, name_variable, Term, atom_term, pair_term, enc_term, IsCarriedByTerm, itself_term, in_left_term, in_right_term, in_plaintext_term, apply_to_atom, Substitution}
+use Rattle.cp_model.specs.Term.{Variable, text_variable, name_variable, Term, atom_term, pair_term, enc_term, IsCarriedByTerm, itself_term, in_left_term, in_right_term, in_plaintext_term, apply_to_atom}
+use Rattle.cp_model.specs.Bindings.{Binding}
 use Rattle.cp_model.specs.Identity.{unchanged}
 use Rattle.cp_model.specs.Strand.{send, OriginatesInTerms, Role, IsHeight}
 use Rattle.cp_model.specs.Bundle.{node_at}
@@ -33,7 +34,7 @@ pub not_carried : IsCarriedByTerm (atom_term example_inverse) sent_term → ⊥
 not_carried (in_plaintext_term (in_left_term h)) = elim h [ ]
 not_carried (in_plaintext_term (in_right_term h)) = elim h [ ]
 
-origin : OriginatesInTerms (skeleton_trace (instance example_role 1 unchanged)) (atom_term (text_variable 0)) 0
+origin : OriginatesInTerms (skeleton_trace (instance example_role 1 [])) (atom_term (text_variable 0)) 0
 origin = record {
   sent = sent_term;
   transmission = refl;
@@ -41,14 +42,14 @@ origin = record {
   first = λ j e lt at c. omega arith;
 }
 
-no_origin : (i : ℕ) → OriginatesInTerms (skeleton_trace (instance example_role 1 unchanged)) (atom_term example_inverse) i → ⊥
+no_origin : (i : ℕ) → OriginatesInTerms (skeleton_trace (instance example_role 1 [])) (atom_term example_inverse) i → ⊥
 no_origin i o =
     let r = (only_place (send sent_term) i o.transmission).1 in
     let e : sent_term ≡ o.sent = cc in
     not_carried (subst (IsCarriedByTerm (atom_term example_inverse)) (sym e) o.carried)
 
 -- The example's role gives what the example assumes.
-pub example_gives : (k : Skeleton) → k.assumptions ≡ example_assumptions → GivesAssumptions k 0 example_role 1 unchanged
+pub example_gives : (k : Skeleton) → k.assumptions ≡ example_assumptions → GivesAssumptions k 0 example_role 1 []
 example_gives k same = record {
   non = λ v h a. subst (λ x. IsIn (apply_to_atom unchanged v) x.non_originating) (sym same) (subst (λ x. IsIn (apply_to_atom unchanged x) example_assumptions.non_originating) (sym (only_item h)) here);
   penetrator_non = λ v h a. absurd (not_in_none h);
@@ -60,11 +61,11 @@ example_gives k same = record {
 }
 
 -- What the example assumes to originate uniquely does so at the first event of a strand like the example's.
-pub example_origin : (k : Skeleton) → k.assumptions ≡ example_assumptions → item_at k.strands 0 ≡ Some (instance example_role 1 unchanged) → (u : UniqueAt) → IsIn u k.assumptions.uniquely_originating → IsOrigin k u
+pub example_origin : (k : Skeleton) → k.assumptions ≡ example_assumptions → item_at k.strands 0 ≡ Some (instance example_role 1 []) → (u : UniqueAt) → IsIn u k.assumptions.uniquely_originating → IsOrigin k u
 example_origin k same at u h = subst (IsOrigin k) (sym (only_item (subst (λ x. IsIn u x.uniquely_originating) same h))) (record {
   role = example_role;
   height = 1;
-  terms = unchanged;
+  terms = [];
   on_instance = at;
   sent = sent_term;
   transmission = ap (λ o. item_at (skeleton_trace_or_none o) 0) at;
@@ -72,10 +73,10 @@ example_origin k same at u h = subst (IsOrigin k) (sym (only_item (subst (λ x. 
 })
 
 -- what holds of the one instance holds of each
-each_instance : (P : ℕ → Role → ℕ → Substitution → Type 0) → P 0 example_role 1 unchanged →
-    (s : ℕ) (role : Role) (height : ℕ) (terms : Substitution) → item_at example_skeleton.strands s ≡ Some (instance role height terms) → P s role height terms
+each_instance : (P : ℕ → Role → ℕ → List Binding → Type 0) → P 0 example_role 1 [] →
+    (s : ℕ) (role : Role) (height : ℕ) (terms : List Binding) → item_at example_skeleton.strands s ≡ Some (instance role height terms) → P s role height terms
 each_instance P p s role height terms e =
-    let r = only_place (instance example_role 1 unchanged) s e in
+    let r = only_place (instance example_role 1 []) s e in
     subst (λ x. P x role height terms) (sym r.0) (same_instance (P 0) (ap Some r.1) p)
 
 is_skeleton : IsSkeleton example_protocol example_skeleton
@@ -93,11 +94,11 @@ example_sends = record {
   is_skeleton = is_skeleton;
   role = example_role;
   height = 1;
-  terms = unchanged;
+  terms = [];
   one = refl;
   sends = λ i e at. let r = (only_place (send sent_term) i at).1 in (sent_term, sym r);
-  non = λ v i h o. no_origin i (subst (λ x. OriginatesInTerms (skeleton_trace (instance example_role 1 unchanged)) (atom_term x) i) (sym (sym (only_item h))) o);
-  unique = λ u h. subst (λ x. OriginatesInTerms (skeleton_trace (instance example_role 1 unchanged)) (atom_term x.value) x.origin.index) (sym (only_item h)) origin;
+  non = λ v i h o. no_origin i (subst (λ x. OriginatesInTerms (skeleton_trace (instance example_role 1 [])) (atom_term x) i) (sym (sym (only_item h))) o);
+  unique = λ u h. subst (λ x. OriginatesInTerms (skeleton_trace (instance example_role 1 [])) (atom_term x.value) x.origin.index) (sym (only_item h)) origin;
 }
 
 closed : (x : Variable) → IsIn x (variables_of_skeleton example_skeleton) → IsDeclared example_role.variables x

@@ -3,8 +3,9 @@ use Rattle.std.proofs.Common.{◌≡◌, ℕ, zero, suc, ◌<◌, List, [], ◌�
 use Rattle.cp_lists.specs.Lists.{item_at, IsIn, here, one_step, more_steps}
 use Rattle.cp_lists.proofs.Items.{only_place}
 use Rattle.cp_model.specs.Message.{Message, atom}
-use Rattle.cp_model.specs.Term.{AtomTerm, Term, atom_term, Substitution, apply_to, apply_to_atom, Assignment, value_of, value_of_atom, after, atoms_by}
-use Rattle.cp_model.specs.Strand.{Event, send, recv, OriginatesInTerms, Role, Protocol, prefix_of, IsHeight, regular, trace_of}
+use Rattle.cp_model.specs.Term.{AtomTerm, Term, atom_term, apply_to, apply_to_atom, Assignment, value_of, value_of_atom, after, atoms_by}
+use Rattle.cp_model.specs.Bindings.{Binding, as_substitution}
+use Rattle.cp_model.specs.Strand.{Declaration, Event, send, recv, OriginatesInTerms, Role, Protocol, prefix_of, IsHeight, regular, trace_of}
 use Rattle.cp_model.specs.Bundle.{node_at, event_at, KeepsNon, KeepsUnique, KeepsRole, AreOfProtocol, Bundle, BundleStep, along_strand, along_link, IsBundle}
 use Rattle.cp_model.specs.declared.node.Node.{Node}
 use Rattle.cp_model.specs.Skeleton.{SkeletonStrand, instance, skeleton_trace, skeleton_trace_or_none, UniqueAt, Assumptions, FromProblem, Skeleton, OrderStep, along_strand_of, along_pair, Before, IsSkeleton}
@@ -20,9 +21,9 @@ pub event_of_one : (s : SkeletonStrand) (a i : ℕ) {e : Event Term} → item_at
 event_of_one s zero i e = (refl, e)
 event_of_one s (suc a) i e = absurd (cc)
 
-module _ (protocol : Protocol) (role : Role) (height : ℕ) (terms : Substitution) (pairs : List OrderPair) (assumptions : Assumptions) (from_problem : FromProblem) where
+module _ (protocol : Protocol) (role : Role) (height : ℕ) (terms : List Binding) (variables : List Declaration) (pairs : List OrderPair) (assumptions : Assumptions) (from_problem : FromProblem) where
   abbrev one_skeleton : Skeleton
-  one_skeleton = record { strands = instance role height terms ∷ []; pairs = pairs; assumptions = assumptions; from_problem = from_problem }
+  one_skeleton = record { variables = variables; strands = instance role height terms ∷ []; pairs = pairs; assumptions = assumptions; from_problem = from_problem }
 
   abbrev own_bundle : Bundle
   own_bundle = record {
@@ -44,18 +45,18 @@ module _ (protocol : Protocol) (role : Role) (height : ℕ) (terms : Substitutio
   KeepsUniques = (u : UniqueAt) → IsIn u assumptions.uniquely_originating → OriginatesInTerms (skeleton_trace (instance role height terms)) (atom_term u.value) u.origin.index
 
   -- the one strand of the skeleton
-  the_strand : (s : ℕ) (role' : Role) (height' : ℕ) (terms' : Substitution) → item_at one_skeleton.strands s ≡ Some (instance role' height' terms') →
+  the_strand : (s : ℕ) (role' : Role) (height' : ℕ) (terms' : List Binding) → item_at one_skeleton.strands s ≡ Some (instance role' height' terms') →
       (s ≡ 0) × (role ≡ role') × (height ≡ height') × (terms ≡ terms')
   the_strand s role' height' terms' e = let r = only_place (instance role height terms) s e in let q = r.1 in (r.0, cc, cc, cc)
 
   -- it goes to the one strand of the bundle
-  stands_at : (s : ℕ) (role' : Role) (height' : ℕ) (terms' : Substitution) → s ≡ 0 → role ≡ role' → height ≡ height' → terms ≡ terms' →
+  stands_at : (s : ℕ) (role' : Role) (height' : ℕ) (terms' : List Binding) → s ≡ 0 → role ≡ role' → height ≡ height' → terms ≡ terms' →
       StandsOnRegular own_bundle own_standing s role' height' terms'
   stands_at s role' height' terms' at r h t = record {
     at_start = refl;
     to_height = height';
-    to_values = after (atoms_by own_number) terms';
-    on_regular = ap (item_at (own_strand role height terms ∷ [])) at ∙ λ i. Some (regular (r i) (h i) (after (atoms_by own_number) (t i)));
+    to_values = after (atoms_by own_number) (as_substitution terms');
+    on_regular = ap (item_at (own_strand role height terms ∷ [])) at ∙ λ i. Some (regular (r i) (h i) (after (atoms_by own_number) (as_substitution (t i))));
     at_least = le_refl height';
     equal_values = λ x isin. refl;
   }
@@ -65,7 +66,7 @@ module _ (protocol : Protocol) (role : Role) (height : ℕ) (terms : Substitutio
 
   -- the one strand of the bundle
   the_regular : (s : ℕ) (role' : Role) (height' : ℕ) (g : Assignment) → item_at own_bundle.strands s ≡ Some (regular role' height' g) →
-      (s ≡ 0) × (role ≡ role') × (height ≡ height') × (after (atoms_by own_number) terms ≡ g)
+      (s ≡ 0) × (role ≡ role') × (height ≡ height') × (after (atoms_by own_number) (as_substitution terms) ≡ g)
   the_regular s role' height' g e = let r = only_place (own_strand role height terms) s e in let q = r.1 in (r.0, cc, cc, cc)
 
   -- Where the strand only transmits, there are no pairs and no links, and its assumptions are kept.
@@ -74,7 +75,7 @@ module _ (protocol : Protocol) (role : Role) (height : ℕ) (terms : Substitutio
     no_pair p h =
         let o = is_skeleton.order_pairs p h in
         let r = event_of_one (instance role height terms) p.later.strand p.later.index o.reception in
-        no_reception (prefix_of role height) sends (apply_to terms) p.later.index r.1
+        no_reception (prefix_of role height) sends (apply_to (as_substitution terms)) p.later.index r.1
 
     same_strand_step : {x y : Node} → OrderStep one_skeleton x y → x.strand ≡ y.strand
     same_strand_step (along_strand_of e) = refl
@@ -101,21 +102,21 @@ module _ (protocol : Protocol) (role : Role) (height : ℕ) (terms : Substitutio
     apart : StandsApart one_skeleton own_standing
     apart s t role' height' terms' role'' height'' terms'' a b e = e
 
-    keeps_role : KeepsNons → KeepsUniques → KeepsRole (own_strand role height terms ∷ []) 0 role height (after (atoms_by own_number) terms)
+    keeps_role : KeepsNons → KeepsUniques → KeepsRole (own_strand role height terms ∷ []) 0 role height (after (atoms_by own_number) (as_substitution terms))
     keeps_role nons uniques =
         let given = is_skeleton.given 0 role height terms refl in
         let g = atoms_by own_number in
         record {
-          non = λ v h a. subst (λ m. KeepsNon (own_strand role height terms ∷ []) (atom m)) (sym (atom_after g terms v))
-              (keeps_non role height terms (apply_to_atom terms v) (λ i o. nons (apply_to_atom terms v) i (given.non v h a) o));
-          penetrator_non = λ v h a. keeps_penetrator_non role height terms (atom (value_of_atom (after g terms) v));
-          unique = λ v i h a. subst (λ m. KeepsUnique (own_strand role height terms ∷ []) (atom m) (node_at 0 i)) (sym (atom_after g terms v))
-              (keeps_unique role height terms (apply_to_atom terms v) i (uniques _ (given.unique v i h a)));
+          non = λ v h a. subst (λ m. KeepsNon (own_strand role height terms ∷ []) (atom m)) (sym (atom_after g (as_substitution terms) v))
+              (keeps_non role height terms (apply_to_atom (as_substitution terms) v) (λ i o. nons (apply_to_atom (as_substitution terms) v) i (given.non v h a) o));
+          penetrator_non = λ v h a. keeps_penetrator_non role height terms (atom (value_of_atom (after g (as_substitution terms)) v));
+          unique = λ v i h a. subst (λ m. KeepsUnique (own_strand role height terms ∷ []) (atom m) (node_at 0 i)) (sym (atom_after g (as_substitution terms) v))
+              (keeps_unique role height terms (apply_to_atom (as_substitution terms) v) i (uniques _ (given.unique v i h a)));
         }
 
     -- what is kept of the one strand is kept of each
-    kept_at : (s : ℕ) (role' : Role) (height' : ℕ) (g : Assignment) → s ≡ 0 → role ≡ role' → height ≡ height' → after (atoms_by own_number) terms ≡ g →
-        KeepsRole own_bundle.strands 0 role height (after (atoms_by own_number) terms) → KeepsRole own_bundle.strands s role' height' g
+    kept_at : (s : ℕ) (role' : Role) (height' : ℕ) (g : Assignment) → s ≡ 0 → role ≡ role' → height ≡ height' → after (atoms_by own_number) (as_substitution terms) ≡ g →
+        KeepsRole own_bundle.strands 0 role height (after (atoms_by own_number) (as_substitution terms)) → KeepsRole own_bundle.strands s role' height' g
     kept_at s role' height' g at r h t k =
         let a = subst (λ x. KeepsRole own_bundle.strands 0 role height x) t k in
         let b = subst (λ x. KeepsRole own_bundle.strands 0 role x g) h a in
@@ -138,7 +139,7 @@ module _ (protocol : Protocol) (role : Role) (height : ℕ) (terms : Substitutio
     no_link : (n : Node) (m : Message) → event_at own_bundle.strands n ≡ Some (recv m) → ⊥
     no_link n m e =
         let r = event_there (own_strand role height terms) n.strand n.index e in
-        no_reception (prefix_of role height) sends (value_of (after (atoms_by own_number) terms)) n.index r.1
+        no_reception (prefix_of role height) sends (value_of (after (atoms_by own_number) (as_substitution terms))) n.index r.1
 
     rises : {x y : Node} → BundleStep own_bundle x y → (i j : ℕ) → item_at own_bundle.order i ≡ Some x → item_at own_bundle.order j ≡ Some y → i < j
     rises (along_strand {s = s} {i = m} e) i j p q = rises_along (own_strand role height terms) s m i j p q
@@ -171,11 +172,11 @@ module _ (protocol : Protocol) (role : Role) (height : ℕ) (terms : Substitutio
 pub realised : (protocol : Protocol) (k : Skeleton) → IsOneSendingStrand protocol k → IsRealised protocol k
 realised protocol k h =
     let is_skeleton = subst (λ ss. IsSkeleton protocol (record k { strands = ss })) h.one h.is_skeleton in
-    let r = realised_here protocol h.role h.height h.terms k.pairs k.assumptions k.from_problem is_skeleton h.sends h.non h.unique in
+    let r = realised_here protocol h.role h.height h.terms k.variables k.pairs k.assumptions k.from_problem is_skeleton h.sends h.non h.unique in
     subst (λ ss. IsRealised protocol (record k { strands = ss })) (sym h.one) r
 
 -- One strand is its own complete list: it goes to different strands with itself alone.
-pub own_complete_list : (protocol : Protocol) (k : Skeleton) (role : Role) (height : ℕ) (terms : Substitution) → k.strands ≡ instance role height terms ∷ [] → IsCompleteList protocol k (k ∷ [])
+pub own_complete_list : (protocol : Protocol) (k : Skeleton) (role : Role) (height : ℕ) (terms : List Binding) → k.strands ≡ instance role height terms ∷ [] → IsCompleteList protocol k (k ∷ [])
 own_complete_list protocol k role height terms one b h is_bundle stands = record {
   skeleton = k;
   listed = here;

@@ -2,7 +2,8 @@
 -- is not derivable.
 use Rattle.std.specs.Prelude.{◌≡◌, ◌⊎◌, ℕ, List, Some}
 use Rattle.cp_lists.specs.Lists.{item_at, IsIn}
-use Rattle.cp_model.specs.Term.{AtomTerm, key_term, KeyTerm, inverse_term, Term, tag_term, atom_term, pair_term, enc_term, Substitution}
+use Rattle.cp_model.specs.Term.{AtomTerm, key_term, KeyTerm, inverse_term, Term, tag_term, atom_term, pair_term, enc_term}
+use Rattle.cp_model.specs.Bindings.{Binding}
 use Rattle.cp_model.specs.Strand.{send, recv, Role}
 use Rattle.cp_model.specs.declared.node.Node.{Node}
 use Rattle.cp_model.specs.Skeleton.{instance, term_event_at, UniqueAt, Skeleton, Before}
@@ -21,7 +22,7 @@ IsSecret k v = IsIn v k.assumptions.non_originating ⊎ (IsIn v k.assumptions.pe
 pub record IsOnInstance (k : Skeleton) (n : Node) : Type 0 where
   pub role : Role
   pub height : ℕ
-  pub terms : Substitution
+  pub terms : List Binding
   pub on_instance : item_at k.strands n.strand ≡ Some (instance role height terms)
 
 -- The terms derivable at node n: the least set that holds all tags, all atoms that are no assumption's value, and all

@@ -1,7 +1,6 @@
 -- An example: a skeleton of one strand that meets the premises of the laws about one sending strand.
 use Rattle.std.specs.Prelude.{[], ◌∷◌, None, true, false}
 use Rattle.cp_model.specs.Term.{text_sort, name_sort, pubk_term, KeyTerm, asymmetric_term, AtomTerm, text_variable, name_variable, key_term, atom_term, pair_term, enc_term}
-use Rattle.cp_model.specs.Identity.{unchanged}
 use Rattle.cp_model.specs.Strand.{send, Role, Protocol}
 use Rattle.cp_model.specs.Bundle.{node_at}
 use Rattle.cp_model.specs.Skeleton.{instance, Assumptions, Skeleton}
@@ -40,7 +39,8 @@ example_assumptions = record {
 -- One instance of the role, whole, as its own problem.
 abbrev pub example_skeleton : Skeleton
 example_skeleton = record {
-  strands = instance example_role 1 unchanged ∷ [];
+  variables = example_role.variables;
+  strands = instance example_role 1 [] ∷ [];
   pairs = [];
   assumptions = example_assumptions;
   from_problem = record { strands = 0 ∷ []; values = variable_terms 0 example_role.variables; assumptions = example_assumptions; pairs = [] };

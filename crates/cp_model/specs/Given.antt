@@ -1,7 +1,8 @@
 -- What the roles of strands give to a skeleton's assumptions, and lists in which each item stands once.
 use Rattle.std.specs.Prelude.{◌&&◌, ◌||◌, nat_lt, ℕ, suc, List, [], ◌∷◌, ◌++◌, Bool, false, if◌then◌else◌, Option, Some, None}
 use Rattle.std.specs.List.{filter}
-use Rattle.cp_model.specs.Term.{AtomTerm, atom_term, variables_of_atom, Substitution, apply_to_atom}
+use Rattle.cp_model.specs.Term.{AtomTerm, atom_term, variables_of_atom, apply_to_atom}
+use Rattle.cp_model.specs.Bindings.{Binding, as_substitution}
 use Rattle.cp_model.specs.Strand.{Role, variables_of_prefix}
 use Rattle.cp_model.specs.Bundle.{node_at}
 use Rattle.cp_model.specs.Skeleton.{SkeletonStrand, instance, listener, UniqueAt, Assumptions, Skeleton}
@@ -28,10 +29,10 @@ uniques_onto before [] = before
 uniques_onto before (u ∷ us) = uniques_onto (if has_unique before u then before else before ++ u ∷ []) us
 
 -- The values of a role's assumptions that apply to an instance.
-abbrev pub applying : Role → ℕ → Substitution → List AtomTerm → List AtomTerm
+abbrev pub applying : Role → ℕ → List Binding → List AtomTerm → List AtomTerm
 applying role height terms [] = []
 applying role height terms (v ∷ vs) =
-    if has_variables (variables_of_prefix role height) (variables_of_atom v) then apply_to_atom terms v ∷ applying role height terms vs else applying role height terms vs
+    if has_variables (variables_of_prefix role height) (variables_of_atom v) then apply_to_atom (as_substitution terms) v ∷ applying role height terms vs else applying role height terms vs
 
 -- The value on strand s with this origin, if there is one and the strand is high enough to have it.
 abbrev pub unique_if_below : ℕ → ℕ → AtomTerm → Option ℕ → List UniqueAt
@@ -39,10 +40,10 @@ unique_if_below height s v None = []
 unique_if_below height s v (Some i) = if nat_lt i height then record { value = v; origin = node_at s i } ∷ [] else []
 
 -- The values of a role's unique assumptions that apply to the instance on strand s, with their origins.
-abbrev pub applying_uniques : Role → ℕ → Substitution → ℕ → List AtomTerm → List UniqueAt
+abbrev pub applying_uniques : Role → ℕ → List Binding → ℕ → List AtomTerm → List UniqueAt
 applying_uniques role height terms s [] = []
 applying_uniques role height terms s (v ∷ vs) =
-    unique_if_below height s (apply_to_atom terms v) (origin_in role.trace (atom_term v)) ++ applying_uniques role height terms s vs
+    unique_if_below height s (apply_to_atom (as_substitution terms) v) (origin_in role.trace (atom_term v)) ++ applying_uniques role height terms s vs
 
 -- The non-originating values that the strands' roles give, in the order of the strands.
 abbrev pub given_non : List SkeletonStrand → List AtomTerm

@@ -1,7 +1,9 @@
 -- Maps between skeletons, and lists of skeletons that leave nothing out.
-use Rattle.std.specs.Prelude.{◌≡◌, ℕ, ◌≤◌, List, Option, Some, None, Bool, false, map}
+use Rattle.std.specs.Prelude.{◌≡◌, ℕ, ◌≤◌, List, Option, Some, None, map}
 use Rattle.cp_lists.specs.Lists.{item_at, IsIn}
-use Rattle.cp_model.specs.Term.{AtomTerm, text_variable, datum_variable, name_variable, key_term, symmetric_term, asymmetric_term, SymmetricTerm, skey_variable, PairTerm, akey_variable, Term, atom_term, Substitution, apply_to, apply_to_atom, composed, AgreeOnTerms, value_of}
+use Rattle.cp_model.specs.Term.{AtomTerm, Term, Substitution, apply_to, apply_to_atom, composed, AgreeOnTerms, value_of}
+use Rattle.cp_model.specs.Bindings.{Binding, as_substitution}
+pub use Rattle.cp_model.specs.Values.{text_in, datum_in, name_in, skey_in, akey_in, substitution_by}
 use Rattle.cp_model.specs.Strand.{Role, Protocol, variables_of_prefix}
 use Rattle.cp_model.specs.Bundle.{node_at, Bundle, IsBundle}
 use Rattle.cp_model.specs.declared.node.Node.{Node}
@@ -18,18 +20,18 @@ mapped f n = node_at (f.strands n.strand) n.index
 
 -- A role strand goes to one of the same role and at least the same height, and the instances agree on the
 -- variables of the prefix.
-pub record GoesToInstance (b : Skeleton) (f : SkeletonMap) (s : ℕ) (role : Role) (height : ℕ) (terms : Substitution) : Type 0 where
+pub record GoesToInstance (b : Skeleton) (f : SkeletonMap) (s : ℕ) (role : Role) (height : ℕ) (terms : List Binding) : Type 0 where
   pub to_height : ℕ
-  pub to_terms : Substitution
+  pub to_terms : List Binding
   pub on_instance : item_at b.strands (f.strands s) ≡ Some (instance role to_height to_terms)
   pub at_least : height ≤ to_height
-  pub equal_terms : AgreeOnTerms (variables_of_prefix role height) (composed terms f.terms) to_terms
+  pub equal_terms : AgreeOnTerms (variables_of_prefix role height) (composed (as_substitution terms) f.terms) (as_substitution to_terms)
 
 -- A homomorphism from a to b: instances go to instances, listeners to listeners on the same term; x before y in
 -- a gives image before image in b; and each assumption's image is one of b's, of the same kind, recorded origins
 -- with it. Two role strands may go to one.
 pub record IsHomomorphism (a b : Skeleton) (f : SkeletonMap) : Type 0 where
-  pub instances : (s : ℕ) (role : Role) (height : ℕ) (terms : Substitution) → item_at a.strands s ≡ Some (instance role height terms) → GoesToInstance b f s role height terms
+  pub instances : (s : ℕ) (role : Role) (height : ℕ) (terms : List Binding) → item_at a.strands s ≡ Some (instance role height terms) → GoesToInstance b f s role height terms
   pub listeners : (s : ℕ) (t : Term) → item_at a.strands s ≡ Some (listener t) → item_at b.strands (f.strands s) ≡ Some (listener (apply_to f.terms t))
   pub ordered : (x y : Node) → Before a x y → Before b (mapped f x) (mapped f y)
   pub non : (v : AtomTerm) → IsIn v a.assumptions.non_originating → IsIn (apply_to_atom f.terms v) b.assumptions.non_originating
@@ -41,7 +43,7 @@ pub record IsHomomorphism (a b : Skeleton) (f : SkeletonMap) : Type 0 where
 -- after a's map from the problem, gives b's.
 pub record IsEmbedding (a b : Skeleton) (f : SkeletonMap) : Type 0 where
   pub homomorphism : IsHomomorphism a b f
-  pub injective : (s t : ℕ) (role : Role) (height : ℕ) (terms : Substitution) (role' : Role) (height' : ℕ) (terms' : Substitution) →
+  pub injective : (s t : ℕ) (role : Role) (height : ℕ) (terms : List Binding) (role' : Role) (height' : ℕ) (terms' : List Binding) →
       item_at a.strands s ≡ Some (instance role height terms) → item_at a.strands t ≡ Some (instance role' height' terms') →
       f.strands s ≡ f.strands t → s ≡ t
   pub same_strands : map f.strands a.from_problem.strands ≡ b.from_problem.strands
@@ -49,36 +51,6 @@ pub record IsEmbedding (a b : Skeleton) (f : SkeletonMap) : Type 0 where
 
 abbrev pub Embeds : Skeleton → Skeleton → Type 0
 Embeds a b = (f : SkeletonMap) × IsEmbedding a b f
-
--- The substitution that gives variable number i the i-th term of a list, if that is of its sort.
-abbrev pub text_in : ℕ → Option Term → ℕ
-text_in n (Some (atom_term (text_variable m))) = m
-text_in n _ = n
-
-abbrev pub datum_in : ℕ → Option Term → ℕ
-datum_in n (Some (atom_term (datum_variable m))) = m
-datum_in n _ = n
-
-abbrev pub name_in : ℕ → Option Term → ℕ
-name_in n (Some (atom_term (name_variable m))) = m
-name_in n _ = n
-
-abbrev pub skey_in : ℕ → Option Term → SymmetricTerm
-skey_in n (Some (atom_term (key_term (symmetric_term k)))) = k
-skey_in n _ = skey_variable n
-
-abbrev pub akey_in : ℕ → Option Term → Bool × PairTerm
-akey_in n (Some (atom_term (key_term (asymmetric_term flag k)))) = (flag, k)
-akey_in n _ = (false, akey_variable n)
-
-abbrev pub substitution_by : List Term → Substitution
-substitution_by ts = record {
-  texts = λ n. text_in n (item_at ts n);
-  datums = λ n. datum_in n (item_at ts n);
-  names = λ n. name_in n (item_at ts n);
-  skeys = λ n. skey_in n (item_at ts n);
-  akeys = λ n. akey_in n (item_at ts n);
-}
 
 abbrev pub number_or : ℕ → Option ℕ → ℕ
 number_or n None = n

@@ -1,6 +1,8 @@
 pub mod Message
 pub mod Term
 pub mod Identity
+pub mod Values
+pub mod Bindings
 pub mod Strand
 pub mod KeyMessage
 pub mod Bundle
@@ -37,3 +39,4 @@ pub mod Positions
 pub mod PrefixVariables
 pub mod GivenAssumptions
 pub mod Extensions
+pub mod Declares

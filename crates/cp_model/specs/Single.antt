@@ -1,7 +1,8 @@
 -- Skeletons of one strand that only transmits.
-use Rattle.std.specs.Prelude.{◌≡◌, ℕ, [], ◌∷◌, Some}
+use Rattle.std.specs.Prelude.{◌≡◌, ℕ, List, [], ◌∷◌, Some}
 use Rattle.cp_lists.specs.Lists.{item_at, IsIn}
-use Rattle.cp_model.specs.Term.{AtomTerm, Term, atom_term, Substitution}
+use Rattle.cp_model.specs.Term.{AtomTerm, Term, atom_term}
+use Rattle.cp_model.specs.Bindings.{Binding}
 use Rattle.cp_model.specs.Strand.{Event, send, OriginatesInTerms, Role, Protocol, prefix_of}
 use Rattle.cp_model.specs.Skeleton.{instance, skeleton_trace, UniqueAt, Skeleton, IsSkeleton}
 
@@ -11,7 +12,7 @@ pub record IsOneSendingStrand (protocol : Protocol) (k : Skeleton) : Type 0 wher
   pub is_skeleton : IsSkeleton protocol k
   pub role : Role
   pub height : ℕ
-  pub terms : Substitution
+  pub terms : List Binding
   pub one : k.strands ≡ instance role height terms ∷ []
   pub sends : (i : ℕ) (e : Event Term) → item_at (prefix_of role height) i ≡ Some e → (t : Term) × (e ≡ send t)
   pub non : (v : AtomTerm) (i : ℕ) → IsIn v k.assumptions.non_originating → OriginatesInTerms (skeleton_trace (instance role height terms)) (atom_term v) i → ⊥

@@ -1,8 +1,9 @@
 -- When a skeleton describes a bundle, and when it is a shape's kind of description: standing, and realised.
-use Rattle.std.specs.Prelude.{◌≡◌, ◌≢◌, ℕ, ◌≤◌, Option, Some, None}
+use Rattle.std.specs.Prelude.{◌≡◌, ◌≢◌, ℕ, ◌≤◌, List, Option, Some, None}
 use Rattle.cp_lists.specs.Lists.{item_at, IsIn}
 use Rattle.cp_model.specs.Message.{atom}
-use Rattle.cp_model.specs.Term.{Variable, AtomTerm, Term, Assignment, value_of, value_of_atom, after, AgreeOn, Substitution, atoms_by, IsDistinct}
+use Rattle.cp_model.specs.Term.{Variable, AtomTerm, Term, Assignment, value_of, value_of_atom, after, AgreeOn, atoms_by, IsDistinct}
+use Rattle.cp_model.specs.Bindings.{Binding, as_substitution}
 use Rattle.cp_model.specs.Strand.{recv, Role, Protocol, variables_of_prefix, regular}
 use Rattle.cp_model.specs.Bundle.{node_at, event_at, KeepsNon, KeepsPenetratorNon, KeepsUnique, Bundle, Precedes, IsBundle}
 use Rattle.cp_model.specs.declared.node.Node.{Node}
@@ -26,19 +27,19 @@ image_of k h n = image_on (item_at k.strands n.strand) (h.nodes n.strand) n.inde
 
 -- A role strand goes to a regular strand of its role, of at least its height, with equal values of the variables
 -- of its prefix.
-pub record StandsOnRegular (b : Bundle) (h : Standing) (s : ℕ) (role : Role) (height : ℕ) (terms : Substitution) : Type 0 where
+pub record StandsOnRegular (b : Bundle) (h : Standing) (s : ℕ) (role : Role) (height : ℕ) (terms : List Binding) : Type 0 where
   pub at_start : (h.nodes s).index ≡ 0
   pub to_height : ℕ
   pub to_values : Assignment
   pub on_regular : item_at b.strands (h.nodes s).strand ≡ Some (regular role to_height to_values)
   pub at_least : height ≤ to_height
-  pub equal_values : AgreeOn (variables_of_prefix role height) (after h.values terms) to_values
+  pub equal_values : AgreeOn (variables_of_prefix role height) (after h.values (as_substitution terms)) to_values
 
 -- A skeleton stands in a bundle: its role strands do; a listener goes to a reception of its message; where x is
 -- before y on another strand, the image of x precedes that of y; and the assumptions are kept, the image of each
 -- recorded origin being the origin.
 pub record StandsIn (k : Skeleton) (b : Bundle) (h : Standing) : Type 0 where
-  pub instances : (s : ℕ) (role : Role) (height : ℕ) (terms : Substitution) → item_at k.strands s ≡ Some (instance role height terms) → StandsOnRegular b h s role height terms
+  pub instances : (s : ℕ) (role : Role) (height : ℕ) (terms : List Binding) → item_at k.strands s ≡ Some (instance role height terms) → StandsOnRegular b h s role height terms
   pub listeners : (s : ℕ) (t : Term) → item_at k.strands s ≡ Some (listener t) → event_at b.strands (h.nodes s) ≡ Some (recv (value_of h.values t))
   pub ordered : (x y : Node) → Before k x y → x.strand ≢ y.strand → Precedes b (image_of k h x) (image_of k h y)
   pub non : (v : AtomTerm) → IsIn v k.assumptions.non_originating → KeepsNon b.strands (atom (value_of_atom h.values v))
@@ -47,7 +48,7 @@ pub record StandsIn (k : Skeleton) (b : Bundle) (h : Standing) : Type 0 where
 
 -- Different role strands go to different strands.
 abbrev pub StandsApart : Skeleton → Standing → Type 0
-StandsApart k h = (s t : ℕ) (role : Role) (height : ℕ) (terms : Substitution) (role' : Role) (height' : ℕ) (terms' : Substitution) →
+StandsApart k h = (s t : ℕ) (role : Role) (height : ℕ) (terms : List Binding) (role' : Role) (height' : ℕ) (terms' : List Binding) →
     item_at k.strands s ≡ Some (instance role height terms) → item_at k.strands t ≡ Some (instance role' height' terms') →
     (h.nodes s).strand ≡ (h.nodes t).strand → s ≡ t
 
@@ -55,7 +56,7 @@ StandsApart k h = (s t : ℕ) (role : Role) (height : ℕ) (terms : Substitution
 pub record IsImage (k : Skeleton) (h : Standing) (t : ℕ) (height : ℕ) : Type 0 where
   pub strand : ℕ
   pub role : Role
-  pub terms : Substitution
+  pub terms : List Binding
   pub on_instance : item_at k.strands strand ≡ Some (instance role height terms)
   pub goes_to : (h.nodes strand).strand ≡ t
 

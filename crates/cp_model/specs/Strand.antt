@@ -2,7 +2,7 @@
 use Rattle.std.specs.Prelude.{◌≡◌, ℕ, ◌<◌, ◌≤◌, List, [], ◌∷◌, ◌++◌, Some, map, take, length}
 use Rattle.cp_lists.specs.Lists.{item_at, IsIn}
 use Rattle.cp_model.specs.Message.{Key, key, inverse, Atom, Message, tag, atom, pair, enc, IsCarriedBy}
-use Rattle.cp_model.specs.Term.{Sort, Variable, AtomTerm, Term, atom_term, IsCarriedByTerm, variables_of, variables_of_atom, Assignment, value_of}
+use Rattle.cp_model.specs.Term.{Variable, AtomTerm, Term, atom_term, IsCarriedByTerm, variables_of, variables_of_atom, Assignment, value_of}
 -- A declared variable; its number is its place in the list of declarations.
 pub use Rattle.cp_model.specs.declared.variable.Declaration.{Declaration}
 -- One event of a strand: a transmission or a reception.

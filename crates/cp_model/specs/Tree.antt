@@ -2,14 +2,15 @@
 use Rattle.std.specs.Prelude.{◌≡◌, ◌≢◌, ℕ, ◌+◌, ◌<◌, ◌≤◌, List, [], ◌∷◌, length, Option, Some, None}
 use Rattle.cp_lists.specs.Lists.{item_at, IsIn}
 use Rattle.cp_model.specs.Term.{Variable, Term}
-use Rattle.cp_model.specs.Strand.{Declaration, Protocol}
-use Rattle.cp_model.specs.declared.node.Node.{Node}
+use Rattle.cp_model.specs.Strand.{Protocol}
 use Rattle.cp_model.specs.Skeleton.{Skeleton, IsSkeleton}
 use Rattle.cp_model.specs.Derivable.{IsUnrealised}
 use Rattle.cp_model.specs.Standing.{IsRealised}
 use Rattle.cp_model.specs.Homomorphism.{CarriesHomomorphism, Embeds, IsCompleteList}
 use Rattle.cp_model.specs.Stated.{KeepsStated}
 use Rattle.cp_model.specs.declared.tree.Test as tests
+use Rattle.cp_model.specs.declared.tree.Label as labels
+use Rattle.cp_model.specs.declared.tree.Tree as trees
 -- How a label was made: from the problem itself, by a collapse (each strand's lowest equal), by one of the steps
 -- that an authentication test allows, or by generalising.
 pub use Rattle.cp_model.specs.declared.tree.Operation.{Operation}
@@ -30,22 +31,12 @@ pub record Pattern : Type 0 where
 abbrev pub Test : Type 0
 Test = tests.Test Term
 
--- One label of a tree. Its variables are numbered in the order in which they were made; the list has for each
--- the identifier that it is named after, and its sort.
-pub record Label : Type 0 where
-  pub parent : Option ℕ
-  pub operation : Operation
-  pub variables : List Declaration
-  pub skeleton : Skeleton
-  pub unrealised : List Node
-  pub test : Option Test
-  pub escape : List Pattern
-  pub children : List ℕ
-  pub mark : Option Mark
+-- One label of a tree. The variables of its skeleton are numbered in the order in which they were made.
+abbrev pub Label : Type 0
+Label = labels.Label Skeleton Term (List Pattern)
 
-pub record Tree : Type 0 where
-  pub labels : List Label
-  pub outcome : Outcome
+abbrev pub Tree : Type 0
+Tree = trees.Tree (List Label)
 
 abbrev pub is_expanded : Option Test → ℕ
 is_expanded None = 0

@@ -40,5 +40,5 @@ pub use single::{
 pub use sort::Sort;
 pub use step::Step;
 pub use strand::{Event, Strand};
-pub use tree::{Limits, Mark, Operation, Outcome, Test};
+pub use tree::{Label, Limits, Mark, Operation, Outcome, Test, Tree};
 pub use variable::{Declaration, Variable, has_variable};

@@ -9,7 +9,7 @@ ghost use Rattle.cp_model.specs.Skeleton.{Skeleton, instance};
 ghost use Rattle.cp_model.specs.Standing.{IsRealised};
 ghost use Rattle.cp_model.specs.Stated.{KeepsStated};
 ghost use Rattle.cp_model.specs.Strand.{Declaration, Protocol, Role};
-ghost use Rattle.cp_model.specs.Term.{Substitution};
+ghost use Rattle.cp_model.specs.Bindings.{Binding};
 
 /// A skeleton of one strand that only transmits is realised if its assumptions are true of that strand.
 #[tactic(auto, using(crate::proofs::SingleRealised::realised))]
@@ -20,7 +20,7 @@ pub fn one_sending_strand_is_realised()
 /// A skeleton of one role strand is, alone, a complete list for itself.
 #[tactic(auto, using(crate::proofs::SingleRealised::own_complete_list))]
 pub fn one_strand_is_its_own_complete_list()
-    ensures { (protocol : Protocol) (k : Skeleton) (role : Role) (height : ℕ) (terms : Substitution) → k.strands ≡ instance role height terms ∷ [] → IsCompleteList protocol k (k ∷ []) }
+    ensures { (protocol : Protocol) (k : Skeleton) (role : Role) (height : ℕ) (terms : List Binding) → k.strands ≡ instance role height terms ∷ [] → IsCompleteList protocol k (k ∷ []) }
 {}
 
 /// The skeleton of a problem carries a homomorphism from itself: its own map.

@@ -1,5 +1,5 @@
-// Limits of searches, how labels are made, their tests and marks, and how a search ended.
-use crate::lists::Numbers;
+// Derivation trees: their labels, how these were made, their tests and marks; how a search ended, and its limits.
+use crate::lists::{Nodes, Numbers};
 use crate::node::Node;
 
 /// The limits of a search: at most `steps` labels are expanded, and only labels with at most `strands` strands,
@@ -56,4 +56,41 @@ pub enum Outcome {
     Complete,
     LimitSteps,
     LimitStrands,
+}
+
+/// One label of a tree: a skeleton, how it was made and from which label, its unrealised nodes, and what a search found
+/// about it (CPSA Primer, "The Search"). Labels are numbered from 0 by their places. `S` is its skeleton, `T` a term, and
+/// `P` the patterns of the escape set of its test.
+pub struct Label<S: Drop, T: Drop, P: Drop> {
+    pub parent: Option<usize>,
+    pub operation: Operation,
+    pub skeleton: S,
+    pub unrealised: Nodes,
+    pub test: Option<Test<T>>,
+    pub escape: P,
+    pub children: Numbers,
+    pub mark: Option<Mark>,
+}
+
+// Its holder drops it by one call, so that less is to be proved about the holder.
+impl<S: Drop, T: Drop, P: Drop> Drop for Label<S, T, P> {
+    fn drop(self) {
+        let Label {
+            parent,
+            operation,
+            skeleton,
+            unrealised,
+            test,
+            escape,
+            children,
+            mark,
+        } = self;
+    }
+}
+
+/// The derivation tree of a problem: its labels, and how the search ended.
+#[derive(Drop)]
+pub struct Tree<L: Drop> {
+    pub labels: L,
+    pub outcome: Outcome,
 }

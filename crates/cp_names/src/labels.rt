@@ -2,7 +2,6 @@
 ghost use Rattle.std.specs.Prelude.{◌≡◌, ◌++◌, length, IfOk, OnOk};
 ghost use Rattle.cp_language.specs.Names.{label_names};
 ghost use Rattle.cp_language.specs.Report.{variables_of_test, occurring};
-ghost use Rattle.cp_skel.specs.Trees.{label_view};
 ghost use Rattle.cp_names.specs.Flags.{AreFlagsOf};
 
 use crate::flags::flags_of;
@@ -10,7 +9,7 @@ use crate::locals::add_patterns;
 use crate::names::{declarations, label_names};
 use crate::occurrences::{add_assumptions, add_strands, add_term, add_terms};
 use cp_scope::Variable;
-use cp_skel::{Declaration, Test, TreeNode};
+use cp_skel::{Declaration, Label, Test};
 use cp_term::Text;
 use std::alloc::{AllocError, Global};
 
@@ -28,8 +27,8 @@ fn add_test_variables(test: &Option<Test>, out: &mut Vec<Variable>) -> Result<()
 const ROOM: usize = 60;
 
 /// The variables that occur in a label form.
-fn occurring(alloc: Global, label: &TreeNode) -> Result<Vec<Variable>, AllocError>
-    ensures { IfOk result (λ xs. xs.items ≡ occurring (label_view label.now)) }
+fn occurring(alloc: Global, label: &Label) -> Result<Vec<Variable>, AllocError>
+    ensures { IfOk result (λ xs. xs.items ≡ occurring label.now) }
 {
     let skeleton = &label.skeleton;
     let mut variables = Vec::with_capacity(alloc, ROOM)?;
@@ -37,7 +36,7 @@ fn occurring(alloc: Global, label: &TreeNode) -> Result<Vec<Variable>, AllocErro
     add_assumptions(skeleton.assumptions(), &mut variables)?;
     add_terms(skeleton.from_problem().values(), &mut variables)?;
     add_test_variables(&label.test, &mut variables)?;
-    add_patterns(alloc, label.patterns.as_slice(), &mut variables)?;
+    add_patterns(alloc, label.escape.as_slice(), &mut variables)?;
     Ok(variables)
 }
 
@@ -53,11 +52,11 @@ pub struct LabelVariables {
 pub fn variables_of_label(
     alloc: Global,
     of_problem: &[Text],
-    label: &TreeNode,
+    label: &Label,
 ) -> Result<LabelVariables, AllocError>
-    ensures declared { IfOk result (λ xs. xs.declared.items ≡ (label_view label.now).variables) }
-    ensures flags { IfOk result (λ xs. AreFlagsOf (occurring (label_view label.now)) (length (label_view label.now).variables) xs.flags.items) }
-    ensures names { IfOk result (λ xs. xs.names.items ≡ label_names of_problem.now (occurring (label_view label.now)) (label_view label.now).variables) }
+    ensures declared { IfOk result (λ xs. xs.declared.items ≡ label.now.skeleton.variables) }
+    ensures flags { IfOk result (λ xs. AreFlagsOf (occurring label.now) (length label.now.skeleton.variables) xs.flags.items) }
+    ensures names { IfOk result (λ xs. xs.names.items ≡ label_names of_problem.now (occurring label.now) label.now.skeleton.variables) }
 {
     let declared = declarations(alloc, label.skeleton.variables())?;
     let occurring = occurring(alloc, label)?;

@@ -1,5 +1,5 @@
 // The variables that occur in terms, in strands and in assumptions.
-ghost use Rattle.std.specs.Prelude.{◌≡◌, ◌++◌, [], ◌∷◌, map, OnOk};
+ghost use Rattle.std.specs.Prelude.{◌≡◌, ◌++◌, [], ◌∷◌, OnOk};
 ghost use Rattle.cp_language.specs.Printed.{variable};
 ghost use Rattle.cp_language.specs.Report.{variables_of_terms};
 ghost use Rattle.cp_model.specs.Problem.{variables_of_atoms, variables_of_uniques, variables_of_assumptions, variables_of_strands};
@@ -7,7 +7,6 @@ ghost use Rattle.cp_model.specs.Skeleton.{skeleton_trace};
 ghost use Rattle.cp_model.specs.Strand.{variables_of_trace};
 ghost use Rattle.cp_model.specs.Term.{variables_of, variables_of_atom};
 ghost use Rattle.cp_model.specs.declared.sort.Sort.TheVariants.{Name as name_sort};
-ghost use Rattle.cp_strand.specs.View.{strand_view};
 ghost use Rattle.cp_names.specs.Variables.{variables_of_leaf, variables_of_instance};
 
 use cp_scope::Variable;
@@ -105,7 +104,7 @@ fn add_instance(
 }
 
 fn add_strand(alloc: Global, strand: &Strand, out: &mut Vec<Variable>) -> Result<(), AllocError>
-    ensures { OnOk result (out.new.items ≡ out.old.items ++ variables_of_trace (skeleton_trace (strand_view strand.now))) }
+    ensures { OnOk result (out.new.items ≡ out.old.items ++ variables_of_trace (skeleton_trace strand.now)) }
 {
     match strand.shape() {
         StrandShape::Instance(instance) => {
@@ -125,7 +124,7 @@ pub(crate) fn add_strands(
     strands: &[Strand],
     out: &mut Vec<Variable>,
 ) -> Result<(), AllocError>
-    ensures { OnOk result (out.new.items ≡ out.old.items ++ variables_of_strands (map strand_view strands.now)) }
+    ensures { OnOk result (out.new.items ≡ out.old.items ++ variables_of_strands strands.now) }
 {
     for strand in strands {
         add_strand(alloc, strand, out)?;

@@ -11,7 +11,6 @@ use Rattle.cp_unify.specs.Unifiers.{IsMostGeneralUnifier, HasNoUnifier}
 use Rattle.cp_collapse.specs.SameSkeletons.{SaysTheSame}
 use Rattle.cp_collapse.specs.Directed.{IsMostGeneralFor}
 use Rattle.cp_normal.specs.declared.form.Form.{Form}
-use Rattle.cp_normal.specs.FormView.{form_view}
 use Rattle.cp_normal.specs.Branches.{NeverEqualAtoms, HasBranch}
 use Rattle.cp_normal.specs.Branched.{AreInOrder, no_atoms, never_equal_to, unified_with, IsBranch, AreBranchesOf}
 use Rattle.cp_collapse.proofs.AtomUnifiers.{most_general_for, never_equal}
@@ -45,7 +44,7 @@ module _ (k : Form) (v : AtomTerm) where
   pub none_yet : (ls : List Form) → ls ≡ [] → AreBranchesOf k v [] ls
   none_yet ls e = record {
     each = λ l i. elim (subst (IsIn l) e i) [ ];
-    in_order = subst (λ ms. AreInOrder (form_view k) v [] (map form_view ms)) (sym e) no_atoms;
+    in_order = subst (λ ms. AreInOrder k.skeleton v [] (map (λ (f : Form). f.skeleton) ms)) (sym e) no_atoms;
   }
 
   wider : (xs ys : List AtomTerm) (l : Form) → IsBranch k v xs l → IsBranch k v (xs ++ ys) l
@@ -58,13 +57,13 @@ module _ (k : Form) (v : AtomTerm) where
     skipped_with : HasNoUnifier (atom_term v) (atom_term a) [] → AreBranchesOf k v (take i xs ++ a ∷ []) ls
     skipped_with never = record {
       each = λ l m. wider (take i xs) (a ∷ []) l (so_far.each l m);
-      in_order = none_more (form_view k) v a (take i xs) (map form_view ls) (never_equal v a never) so_far.in_order;
+      in_order = none_more k.skeleton v a (take i xs) (map (λ (f : Form). f.skeleton) ls) (never_equal v a never) so_far.in_order;
     }
 
     pub skipped : HasNoUnifier (atom_term v) (atom_term a) [] → AreBranchesOf k v (take (i + 1) xs) ls
     skipped never = subst (λ ys. AreBranchesOf k v ys ls) (sym taken) (skipped_with never)
 
-    module _ (r : List Binding) (l : Form) (m : IsMostGeneralUnifier (atom_term v) (atom_term a) [] r) (same : SaysTheSame (skeleton_under (as_substitution r) (form_view k)) (form_view l)) (variables : l.skeleton.variables ≡ k.skeleton.variables)
+    module _ (r : List Binding) (l : Form) (m : IsMostGeneralUnifier (atom_term v) (atom_term a) [] r) (same : SaysTheSame (skeleton_under (as_substitution r) k.skeleton) l.skeleton) (variables : l.skeleton.variables ≡ k.skeleton.variables)
         (followed : (t : Term) → apply_to (as_substitution l.substitution) t ≡ apply_to (as_substitution r) (apply_to (as_substitution k.substitution) t)) where
       new_branch : IsBranch k v (take i xs ++ a ∷ []) l
       new_branch = record { heard = a; listed = in_append_right (take i xs) here; bindings = r; most_general = m; same = same; variables = variables; followed = followed }
@@ -77,8 +76,8 @@ module _ (k : Form) (v : AtomTerm) where
       added_with : AreBranchesOf k v (take i xs ++ a ∷ []) (ls ++ l ∷ [])
       added_with = record {
         each = λ b j. of_either b (in_append ls (l ∷ []) j);
-        in_order = subst (AreInOrder (form_view k) v (take i xs ++ a ∷ [])) (sym (map-append form_view ls (l ∷ [])))
-            (one_more (form_view k) v a (as_substitution r) (form_view l) (take i xs) (map form_view ls) (most_general_for v a r m) same so_far.in_order);
+        in_order = subst (AreInOrder k.skeleton v (take i xs ++ a ∷ [])) (sym (map-append (λ (f : Form). f.skeleton) ls (l ∷ [])))
+            (one_more k.skeleton v a (as_substitution r) l.skeleton (take i xs) (map (λ (f : Form). f.skeleton) ls) (most_general_for v a r m) same so_far.in_order);
       }
 
       pub branch_added : (new : List Form) → new ≡ ls ++ l ∷ [] → AreBranchesOf k v (take (i + 1) xs) new

@@ -13,7 +13,6 @@ use Rattle.cp_unify.specs.Bindings.{Binding, as_substitution}
 use Rattle.cp_theory.specs.Normal.{with_pairs, StandsAmong}
 use Rattle.cp_normal.specs.NormalForms.{IsNormalFormOf}
 use Rattle.cp_normal.specs.Exact.{HasForms}
-use Rattle.cp_normal.specs.FormView.{form_view}
 use Rattle.cp_normal.specs.Formed.{Formed, StandsAmongFormed, AreFormedNormalForms, IsFormBeside, AreFormsBeside}
 use Rattle.cp_normal.specs.Candidates.{unifiers_of, ComesOn, IsNormalFormOfSettled}
 use Rattle.cp_normal.specs.declared.form.Form.{Form}
@@ -99,7 +98,7 @@ pub record IsMadeFrom (f r : Form) : Type 0 where
 module _ (f : Form) where
   module _ (r : Form) (m : IsMadeFrom f r) where
     made_form : Formed
-    made_form = record { substitution = unifiers_of m.comes_on.steps; skeleton = with_pairs (form_view m.last) m.form.pairs }
+    made_form = record { substitution = unifiers_of m.comes_on.steps; skeleton = with_pairs m.last.skeleton m.form.pairs }
 
     made_terms : (t : Term) → apply_to (as_substitution r.substitution) t ≡ apply_to (unifiers_of m.comes_on.steps) (apply_to (as_substitution f.substitution) t)
     made_terms t = ap (λ (bs : List Binding). apply_to (as_substitution bs) t) m.form.substitution ∙ m.comes_on.followed t
@@ -114,23 +113,23 @@ module _ (f : Form) where
           (λ t. made_terms t ∙ sym (term_composed (as_substitution f.substitution) (unifiers_of m.comes_on.steps) t));
     }
 
-    is_normal : IsNormalFormOf (form_view f) (with_pairs (form_view m.last) m.form.pairs)
-    is_normal = normal_form (form_view f) (form_view m.last) m.form.pairs m.comes_on.steps (m.form.normal, m.form.consistent) m.form.settled
+    is_normal : IsNormalFormOf f.skeleton (with_pairs m.last.skeleton m.form.pairs)
+    is_normal = normal_form f.skeleton m.last.skeleton m.form.pairs m.comes_on.steps (m.form.normal, m.form.consistent) m.form.settled
 
-    made_by : IsMadeBy (form_view f) made_form
+    made_by : IsMadeBy f.skeleton made_form
     unfolding made_form is_normal
     made_by = record {
       normal = is_normal;
-      by = form_unifiers (form_view f) (with_pairs (form_view m.last) m.form.pairs) is_normal
-          ∙ normal_form_unifiers (form_view f) (form_view m.last) m.form.pairs m.comes_on.steps (m.form.normal, m.form.consistent) m.form.settled;
+      by = form_unifiers f.skeleton (with_pairs m.last.skeleton m.form.pairs) is_normal
+          ∙ normal_form_unifiers f.skeleton m.last.skeleton m.form.pairs m.comes_on.steps (m.form.normal, m.form.consistent) m.form.settled;
     }
 
   -- The forms, place by place.
   record AreListed (answers : List Form) : Type 0 where
     pub forms : List Formed
     pub each : ArePaired (IsFormBeside f.skeleton f.substitution) answers forms
-    pub made : (g : Formed) → IsIn g forms → IsMadeBy (form_view f) g
-    pub skeletons : map (λ (g : Formed). g.skeleton) forms ≡ map form_view answers
+    pub made : (g : Formed) → IsIn g forms → IsMadeBy f.skeleton g
+    pub skeletons : map (λ (g : Formed). g.skeleton) forms ≡ map (λ (f : Form). f.skeleton) answers
 
   one_more : (r : Form) (rs : List Form) → IsMadeFrom f r → AreListed rs → AreListed (r ∷ rs)
   one_more r rs m so_far = record {
@@ -140,7 +139,7 @@ module _ (f : Form) where
     skeletons = ap₂ ◌∷◌ (sym (made_beside r m).skeleton) so_far.skeletons;
   }
     where
-      made_of : (g : Formed) → IsIn g (made_form r m ∷ so_far.forms) → IsMadeBy (form_view f) g
+      made_of : (g : Formed) → IsIn g (made_form r m ∷ so_far.forms) → IsMadeBy f.skeleton g
       made_of g here = made_by r m
       made_of g (there i) = so_far.made g i
 
@@ -148,11 +147,11 @@ module _ (f : Form) where
   all_listed [] each = record { forms = []; each = tt; made = λ g i. elim i [ ]; skeletons = refl }
   all_listed (r ∷ rs) each = one_more r rs (each r here) (all_listed rs (λ s i. each s (there i)))
 
-  pub are_forms_beside : (answers : List Form) → HasForms (form_view f) (map form_view answers) → ((r : Form) → IsIn r answers → IsMadeFrom f r) → AreFormsBeside f.skeleton f.substitution answers
+  pub are_forms_beside : (answers : List Form) → HasForms f.skeleton (map (λ (f : Form). f.skeleton) answers) → ((r : Form) → IsIn r answers → IsMadeFrom f r) → AreFormsBeside f.skeleton f.substitution answers
   are_forms_beside answers exact each =
       let a : AreListed answers = all_listed answers each in
       record {
         forms = a.forms;
-        normal = formed_are_normal (form_view f) a.forms a.made (subst (HasForms (form_view f)) (sym a.skeletons) exact);
+        normal = formed_are_normal f.skeleton a.forms a.made (subst (HasForms f.skeleton) (sym a.skeletons) exact);
         each = a.each;
       }

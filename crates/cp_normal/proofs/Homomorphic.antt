@@ -1,7 +1,8 @@
 -- A normal form of a skeleton that carries a homomorphism from its problem carries one.
 use Rattle.std.proofs.Common.{◌≡◌, ℕ, List, map, sym, ◌∙◌, subst, inl}
 use Rattle.cp_lists.specs.Lists.{IsIn}
-use Rattle.cp_model.specs.Term.{Substitution, apply_to, apply_to_atom}
+use Rattle.cp_model.specs.Term.{apply_to, apply_to_atom}
+use Rattle.cp_model.specs.Bindings.{Binding}
 use Rattle.cp_model.specs.Strand.{Role}
 use Rattle.cp_model.specs.declared.variable.Declaration.{Declaration}
 use Rattle.cp_model.specs.Skeleton.{Assumptions, FromProblem, Skeleton}
@@ -16,7 +17,7 @@ use Rattle.cp_collapse.proofs.SameStrands.{all_same_back, instance_at, listener_
 use Rattle.cp_collapse.proofs.SameFacts.{same_before}
 
 module _ (problem k l : Skeleton) (s : SaysTheSame k l) where
-  same_instance_goes : (f : SkeletonMap) (a : ℕ) (role : Role) (height : ℕ) (terms : Substitution) → GoesToInstance k f a role height terms → GoesToInstance l f a role height terms
+  same_instance_goes : (f : SkeletonMap) (a : ℕ) (role : Role) (height : ℕ) (terms : List Binding) → GoesToInstance k f a role height terms → GoesToInstance l f a role height terms
   same_instance_goes f a role height terms g =
       let i = instance_at (all_same_back s.strands) (f.strands a) role g.to_height g.to_terms g.on_instance in
       record {

@@ -2,17 +2,17 @@
 use Rattle.std.proofs.Common.{◌≡◌, ◌≢◌, ◌⊎◌, inl, inr, ◌<◌, ◌+◌, ◌*◌, ℕ, zero, suc, List, [], ◌∷◌, Some, refl, sym, ap, ◌∙◌, subst, arith}
 use Rattle.cp_lists.specs.Lists.{IsIn, here, there, one_step, more_steps}
 use Rattle.cp_model.specs.Message.{atom}
-use Rattle.cp_model.specs.Term.{text_variable, Term, atom_term, itself_term, Assignment, value_of, composed}
-use Rattle.cp_model.specs.Identity.{unchanged}
+use Rattle.cp_model.specs.Term.{text_variable, Term, atom_term, itself_term, Assignment, value_of}
 use Rattle.cp_model.specs.declared.strand.Event.TheVariants.{Send as send, Receive as recv}
 use Rattle.cp_model.specs.Bundle.{node_at}
 use Rattle.cp_model.specs.declared.node.Node.{Node}
 use Rattle.cp_model.specs.Skeleton.{term_event_at, UniqueAt, Skeleton, OrderStep, along_strand_of, along_pair, Before}
 use Rattle.cp_model.specs.declared.node.OrderPair.{OrderPair}
 use Rattle.cp_model.specs.Realisation.{OriginatesAtTerm}
-use Rattle.cp_theory.specs.Normal.{skeleton_under, with_pairs}
+use Rattle.cp_theory.specs.Normal.{terms_under, skeleton_under, with_pairs}
 use Rattle.cp_theory.specs.RepeatedText.{speaker, unique_text, two_say_it, repeated, from_speaker}
 use Rattle.cp_theory.proofs.Spoken.{originates, elsewhere}
+use Rattle.cp_model.specs.declared.sort.Sort.TheVariants.{Text as text_sort}
 use Rattle.cp_unify.specs.Bindings.{Binding}
 use Rattle.cp_unify.proofs.Substituted.{after_met}
 use Rattle.cp_normal.specs.Findings.{IsAddedPair, AreNormalPairs, IsContradictory}
@@ -31,7 +31,7 @@ pub misplaced : IsMisplaced two_say_it unique_text repeated
 misplaced = record { listed = here; originates = originates; elsewhere = elsewhere }
 
 abbrev binding : Binding
-binding = record { number = 1; term = text_variable 0 }
+binding = record { variable = record { sort = text_sort; number = 1 }; term = atom_term (text_variable 0) }
 
 pub most_general : IsMostGeneralFor unique_text.value (text_variable 1) heard_is_said
 most_general = record {
@@ -114,7 +114,7 @@ module _ (pairs : List OrderPair) (normal : AreNormalPairs narrowed pairs) where
 
 at_origin : OriginatesAtTerm narrowed (text_variable 0) (node_at 0 0)
 at_origin = (
-  record { role = speaker; height = 1; terms = composed unchanged heard_is_said; on_instance = refl },
+  record { role = speaker; height = 1; terms = terms_under heard_is_said speaker 1 []; on_instance = refl },
   record { sent = atom_term (text_variable 0); transmission = refl; carried = itself_term; first = λ j e l at c. omega (arith, l) },
 )
 

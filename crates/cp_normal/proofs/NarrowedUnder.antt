@@ -1,18 +1,24 @@
 -- Narrowing by steps says the same as one substitution.
 use Rattle.std.proofs.Common.{◌≡◌, List, [], ◌∷◌, map, refl, sym, ap, ◌∙◌, subst}
 use Rattle.cp_model.specs.Term.{Term, Substitution, apply_to, apply_to_atom, composed, variable_term}
+use Rattle.cp_model.specs.Bindings.{as_substitution}
 use Rattle.cp_model.specs.Identity.{unchanged}
 use Rattle.cp_lists.proofs.Mapped.{map_same, map_then}
 use Rattle.cp_model.specs.Skeleton.{SkeletonStrand, instance, listener, UniqueAt, Assumptions, FromProblem, Skeleton}
+use Rattle.cp_model.specs.Strand.{variables_of_prefix}
+use Rattle.cp_model.proofs.DeclaredTerms.{by_bindings}
 use Rattle.cp_model.proofs.LawTerms.{atom_composed, term_composed, atom_unchanged, term_unchanged}
-use Rattle.cp_theory.specs.Normal.{strand_under, unique_under, assumptions_under, from_problem_under, skeleton_under}
+use Rattle.cp_theory.specs.Normal.{terms_under, strand_under, unique_under, assumptions_under, from_problem_under, skeleton_under}
 use Rattle.cp_collapse.specs.SameSkeletons.{IsSameStrand, same_instance, same_listener, AreSameStrands, no_strands, same_strands, SaysTheSame}
 use Rattle.cp_normal.specs.NormalForms.{NarrowsTo, none, one}
 use Rattle.cp_collapse.proofs.SameFacts.{says_then, says_under}
 
 -- What the unchanged substitution does to a skeleton.
 strand_unchanged : (s : SkeletonStrand) → IsSameStrand (strand_under unchanged s) s
-strand_unchanged (instance role height terms) = same_instance (λ x i. term_composed terms unchanged (variable_term x) ∙ term_unchanged (apply_to terms (variable_term x)))
+strand_unchanged (instance role height terms) = same_instance (λ x i.
+    by_bindings (composed (as_substitution terms) unchanged) (variables_of_prefix role height) x i
+    ∙ term_composed (as_substitution terms) unchanged (variable_term x)
+    ∙ term_unchanged (apply_to (as_substitution terms) (variable_term x)))
 strand_unchanged (listener t) = subst (λ (u : Term). IsSameStrand (listener (apply_to unchanged t)) (listener u)) (term_unchanged t) same_listener
 
 strands_unchanged : (ss : List SkeletonStrand) → AreSameStrands (map (strand_under unchanged) ss) ss
@@ -45,10 +51,13 @@ module _ (s t : Substitution) where
   strand_composed : (d : SkeletonStrand) → IsSameStrand (strand_under (composed s t) d) (strand_under t (strand_under s d))
   strand_composed (instance role height terms) = same_instance (λ x i.
       let v = variable_term x in
-      term_composed terms (composed s t) v
-      ∙ term_composed s t (apply_to terms v)
-      ∙ ap (apply_to t) (sym (term_composed terms s v))
-      ∙ sym (term_composed (composed terms s) t v))
+      let own = as_substitution terms in
+      let first = as_substitution (terms_under s role height terms) in
+      by_bindings (composed own (composed s t)) (variables_of_prefix role height) x i
+      ∙ term_composed own (composed s t) v
+      ∙ term_composed s t (apply_to own v)
+      ∙ ap (apply_to t) (sym (by_bindings (composed own s) (variables_of_prefix role height) x i ∙ term_composed own s v))
+      ∙ sym (by_bindings (composed first t) (variables_of_prefix role height) x i ∙ term_composed first t v))
   strand_composed (listener u) = subst (λ (w : Term). IsSameStrand (listener (apply_to (composed s t) u)) (listener w)) (term_composed s t u) same_listener
 
   strands_composed : (ss : List SkeletonStrand) → AreSameStrands (map (strand_under (composed s t)) ss) (map (strand_under t) (map (strand_under s) ss))

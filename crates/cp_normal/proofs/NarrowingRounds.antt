@@ -16,10 +16,9 @@ use Rattle.cp_normal.specs.Findings.{IsContradictory}
 use Rattle.cp_normal.specs.Branches.{IsSettled}
 use Rattle.cp_normal.specs.Branched.{AreInOrder, IsBranch, AreBranchesOf}
 use Rattle.cp_normal.specs.Exact.{IsRefuted, HaveForms, refuted_one, misplaced_one, cyclic_one}
-use Rattle.cp_normal.specs.FormView.{form_view}
 use Rattle.cp_normal.specs.ReceivedAtomLists.{heard_before}
 use Rattle.cp_normal.specs.MisplacedValues.{IsFirstMisplaced}
-use Rattle.cp_normal.specs.Candidates.{form_in, candidate_view, FollowsByNarrowing, ReplacesByNarrowing, PutsNarrowed, AllFollow, IsNarrowingRound}
+use Rattle.cp_normal.specs.Candidates.{form_in, skeleton_in, FollowsByNarrowing, ReplacesByNarrowing, PutsNarrowed, AllFollow, IsNarrowingRound}
 use Rattle.cp_unify.specs.Unifiers.{IsMostGeneralUnifier}
 use Rattle.cp_normal.proofs.UnifierSteps.{comes_itself, comes_by}
 use Rattle.cp_normal.proofs.Fewer.{narrowed_has_fewer}
@@ -27,16 +26,16 @@ use Rattle.cp_normal.proofs.Exactly.{placed}
 
 -- ---- what takes the place of one candidate
 
-nothing_follows : (f : Form) → IsRefuted (form_view f) → ReplacesByNarrowing (Open f) []
+nothing_follows : (f : Form) → IsRefuted f.skeleton → ReplacesByNarrowing (Open f) []
 nothing_follows f r = record { each = λ d i. elim i [ ]; exact = λ rest rs h. refuted_one r h }
 
-pub dropped_place : (f : Form) (old : List Candidate) → IsRefuted (form_view f) → PutsNarrowed (Open f) old old
+pub dropped_place : (f : Form) (old : List Candidate) → IsRefuted f.skeleton → PutsNarrowed (Open f) old old
 dropped_place f old r = record { added = []; behind = sym (append-nil old); takes_place = nothing_follows f r }
 
-none_follows : (f : Form) → IsSettled (form_view f) → IsContradictory (form_view f) → ReplacesByNarrowing (Open f) []
+none_follows : (f : Form) → IsSettled f.skeleton → IsContradictory f.skeleton → ReplacesByNarrowing (Open f) []
 none_follows f settled contradictory = record { each = λ d i. elim i [ ]; exact = λ rest rs h. cyclic_one settled contradictory h }
 
-pub cyclic_place : (f : Form) (old : List Candidate) → IsSettled (form_view f) → IsContradictory (form_view f) → PutsNarrowed (Open f) old old
+pub cyclic_place : (f : Form) (old : List Candidate) → IsSettled f.skeleton → IsContradictory f.skeleton → PutsNarrowed (Open f) old old
 cyclic_place f old settled contradictory = record { added = []; behind = sym (append-nil old); takes_place = none_follows f settled contradictory }
 
 -- In the place of a candidate its skeleton may stand, settled.
@@ -67,13 +66,13 @@ tested_place c old between new false same before after nothing = subst (PutsNarr
 pub record IsPartWay (all left new : List Candidate) : Type 0 where
   pub each_left : (c : Candidate) → IsIn c left → IsIn c all
   pub all_follow : AllFollow all new
-  pub exact : (rs : List Skeleton) → HaveForms (map candidate_view new ++ map candidate_view (reverse left)) rs → HaveForms (map candidate_view (reverse all)) rs
+  pub exact : (rs : List Skeleton) → HaveForms (map skeleton_in new ++ map skeleton_in (reverse left)) rs → HaveForms (map skeleton_in (reverse all)) rs
 
 pub at_first : (all new : List Candidate) → new ≡ [] → IsPartWay all all new
 at_first all new e = record {
   each_left = λ c i. i;
   all_follow = λ d i. elim (subst (IsIn d) e i) [ ];
-  exact = λ rs h. subst (λ (ds : List Candidate). HaveForms (map candidate_view ds ++ map candidate_view (reverse all)) rs) e h;
+  exact = λ rs h. subst (λ (ds : List Candidate). HaveForms (map skeleton_in ds ++ map skeleton_in (reverse all)) rs) e h;
 }
 
 module _ (all left rest old new : List Candidate) (c : Candidate) (so_far : IsPartWay all left old) (popped : left ≡ rest ++ c ∷ []) (puts : PutsNarrowed c old new) where
@@ -87,14 +86,14 @@ module _ (all left rest old new : List Candidate) (c : Candidate) (so_far : IsPa
   follows_either d (inl i) = so_far.all_follow d i
   follows_either d (inr i) = (c, is_in_all, puts.takes_place.each d i)
 
-  behind : map candidate_view new ≡ map candidate_view old ++ map candidate_view puts.added
-  behind = ap (map candidate_view) puts.behind ∙ map-append candidate_view old puts.added
+  behind : map skeleton_in new ≡ map skeleton_in old ++ map skeleton_in puts.added
+  behind = ap (map skeleton_in) puts.behind ∙ map-append skeleton_in old puts.added
 
-  exact_next : (rs : List Skeleton) → HaveForms (map candidate_view new ++ map candidate_view (reverse rest)) rs → HaveForms (map candidate_view (reverse all)) rs
+  exact_next : (rs : List Skeleton) → HaveForms (map skeleton_in new ++ map skeleton_in (reverse rest)) rs → HaveForms (map skeleton_in (reverse all)) rs
   exact_next rs h =
-      so_far.exact rs (subst (λ (ds : List Candidate). HaveForms (map candidate_view old ++ map candidate_view ds) rs) (sym next_first)
-      (placed (candidate_view c) (map candidate_view puts.added) puts.takes_place.exact (map candidate_view old) (map candidate_view (reverse rest)) rs
-      (subst (λ (ds : List Skeleton). HaveForms (ds ++ map candidate_view (reverse rest)) rs) behind h)))
+      so_far.exact rs (subst (λ (ds : List Candidate). HaveForms (map skeleton_in old ++ map skeleton_in ds) rs) (sym next_first)
+      (placed (skeleton_in c) (map skeleton_in puts.added) puts.takes_place.exact (map skeleton_in old) (map skeleton_in (reverse rest)) rs
+      (subst (λ (ds : List Skeleton). HaveForms (ds ++ map skeleton_in (reverse rest)) rs) behind h)))
 
   pub next_part : IsPartWay all rest new
   next_part = record {
@@ -106,21 +105,21 @@ module _ (all left rest old new : List Candidate) (c : Candidate) (so_far : IsPa
 pub all_done : (candidates all left new : List Candidate) → all ≡ reverse candidates → left ≡ [] → IsPartWay all left new → IsNarrowingRound candidates new
 all_done candidates all left new e done part = record {
   all_follow = λ d i. let r = part.all_follow d i in (r.0, from_reverse candidates (subst (IsIn r.0) e r.1), r.2);
-  exact = λ rs h. subst (λ (ds : List Candidate). HaveForms (map candidate_view ds) rs) (ap reverse e ∙ reverse-reverse candidates)
-      (part.exact rs (subst (λ (ds : List Candidate). HaveForms (map candidate_view new ++ map candidate_view (reverse ds)) rs) (sym done)
-      (subst (λ (ds : List Skeleton). HaveForms ds rs) (sym (append-nil (map candidate_view new))) h)));
+  exact = λ rs h. subst (λ (ds : List Candidate). HaveForms (map skeleton_in ds) rs) (ap reverse e ∙ reverse-reverse candidates)
+      (part.exact rs (subst (λ (ds : List Candidate). HaveForms (map skeleton_in new ++ map skeleton_in (reverse ds)) rs) (sym done)
+      (subst (λ (ds : List Skeleton). HaveForms ds rs) (sym (append-nil (map skeleton_in new))) h)));
 }
 
 -- ---- branches
 
 module _ (f : Form) (v : AtomTerm) (x : Node) (atoms : List AtomTerm) (made : List Form) where
-  module _ (consistent : IsRefuted (form_view f) → ⊥) (misplaced : IsFirstMisplaced (form_view f) v x) (in_order : atoms ≡ heard_before (form_view f) x) (heard : (a : AtomTerm) → IsIn a atoms ↔ IsReceivedBefore (form_view f) a x)
+  module _ (consistent : IsRefuted f.skeleton → ⊥) (misplaced : IsFirstMisplaced f.skeleton v x) (in_order : atoms ≡ heard_before f.skeleton x) (heard : (a : AtomTerm) → IsIn a atoms ↔ IsReceivedBefore f.skeleton a x)
       (are : AreBranchesOf f v atoms made) where
     abbrev entry : UniqueAt
     entry = misplaced.here.entry
 
-    is_misplaced : IsMisplaced (form_view f) entry x
-    is_misplaced = record { listed = ((listed-unique (form_view f)).same entry).0 (at_place _ misplaced.here.place entry misplaced.here.at_place); originates = misplaced.here.originates_elsewhere.1; elsewhere = misplaced.here.originates_elsewhere.0 }
+    is_misplaced : IsMisplaced f.skeleton entry x
+    is_misplaced = record { listed = ((listed-unique f.skeleton).same entry).0 (at_place _ misplaced.here.place entry misplaced.here.at_place); originates = misplaced.here.originates_elsewhere.1; elsewhere = misplaced.here.originates_elsewhere.0 }
 
     module _ (g : Form) (b : IsBranch f v atoms g) where
       most_general : IsMostGeneralUnifier (atom_term entry.value) (atom_term b.heard) [] b.bindings
@@ -128,7 +127,7 @@ module _ (f : Form) (v : AtomTerm) (x : Node) (atoms : List AtomTerm) (made : Li
 
       follows : FollowsByNarrowing (Open f) (Open g)
       follows = record {
-        falls = narrowed_has_fewer (form_view f) (form_view g) entry x b.heard b.bindings is_misplaced ((heard b.heard).0 b.listed) most_general b.same;
+        falls = narrowed_has_fewer f.skeleton g.skeleton entry x b.heard b.bindings is_misplaced ((heard b.heard).0 b.listed) most_general b.same;
         variables = b.variables;
         comes_on = comes_by f g entry x b.heard b.bindings is_misplaced ((heard b.heard).0 b.listed) most_general b.same b.followed;
       }
@@ -136,9 +135,9 @@ module _ (f : Form) (v : AtomTerm) (x : Node) (atoms : List AtomTerm) (made : Li
     each_follows : (d : Candidate) → (g : Form) × IsIn g made × (Open g ≡ d) → FollowsByNarrowing (Open f) d
     each_follows d r = subst (FollowsByNarrowing (Open f)) r.2 (follows r.0 (are.each r.0 r.1))
 
-    view_open : (gs : List Form) → map candidate_view (map Open gs) ≡ map form_view gs
+    view_open : (gs : List Form) → map skeleton_in (map Open gs) ≡ map (λ (f : Form). f.skeleton) gs
     view_open [] = refl
-    view_open (g ∷ gs) = ap (λ ms. form_view g ∷ ms) (view_open gs)
+    view_open (g ∷ gs) = ap (λ ms. g.skeleton ∷ ms) (view_open gs)
 
     pub branches_place : (old new : List Candidate) → new ≡ old ++ map Open made → PutsNarrowed (Open f) old new
     branches_place old new e = record {
@@ -147,7 +146,7 @@ module _ (f : Form) (v : AtomTerm) (x : Node) (atoms : List AtomTerm) (made : Li
       takes_place = record {
         each = λ d i. each_follows d (from_map Open made i);
         exact = λ rest rs h.
-            misplaced_one consistent misplaced (subst (λ (vs : List AtomTerm). AreInOrder (form_view f) v vs (map form_view made)) in_order are.in_order)
+            misplaced_one consistent misplaced (subst (λ (vs : List AtomTerm). AreInOrder f.skeleton v vs (map (λ (f : Form). f.skeleton) made)) in_order are.in_order)
             (subst (λ (ms : List Skeleton). HaveForms (ms ++ rest) rs) (view_open made) h);
       };
     }

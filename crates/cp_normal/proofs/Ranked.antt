@@ -7,9 +7,8 @@ use Rattle.cp_model.specs.Problem.{variables_of_skeleton}
 use Rattle.cp_normal.specs.declared.form.Form.{Form}
 use Rattle.cp_normal.specs.declared.candidates.Candidate.{Candidate}
 use Rattle.cp_normal.specs.declared.candidates.Candidate.TheVariants.{Open, Settled}
-use Rattle.cp_normal.specs.FormView.{form_view}
 use Rattle.cp_normal.specs.Formed.{AreFormsBeside}
-use Rattle.cp_normal.specs.Candidates.{form_in, candidate_view, IsUnnarrowed, ComesOn, HasFewerOrSettled, IsNarrowingRound, AreFormsOfSettled}
+use Rattle.cp_normal.specs.Candidates.{form_in, skeleton_in, IsUnnarrowed, ComesOn, HasFewerOrSettled, IsNarrowingRound, AreFormsOfSettled}
 use Rattle.cp_collapse.specs.Property.{Has}
 use Rattle.cp_normal.specs.Exact.{HasForms, HaveForms}
 use Rattle.cp_model.proofs.CarriedParts.{not_both}
@@ -24,7 +23,7 @@ use Rattle.cp_normal.proofs.FormedBeside.{IsMadeFrom, are_forms_beside}
 
 -- How many different variables an open skeleton has, and one more; a settled one counts nothing.
 abbrev pub rank : Candidate → ℕ
-rank (Open f) = suc (distinct (variables_of_skeleton (form_view f)))
+rank (Open f) = suc (distinct (variables_of_skeleton f.skeleton))
 rank (Settled f) = 0
 
 open_rank : (c : Candidate) → IsUnnarrowed c → 0 < rank c
@@ -33,7 +32,7 @@ open_rank (Settled f) h = absurd h
 
 falls_below : (c d : Candidate) → HasFewerOrSettled c d → (rank d ≡ 0) ⊎ (rank d < rank c)
 falls_below c (Settled g) h = inl refl
-falls_below (Open f) (Open g) h = let l = fewer_counted (form_view f) (form_view g) h in inr (omega (arith, l))
+falls_below (Open f) (Open g) h = let l = fewer_counted f.skeleton g.skeleton h in inr (omega (arith, l))
 falls_below (Settled f) (Open g) h = absurd h
 
 below_one : (old : List Candidate) (d c : Candidate) → IsIn c old → (rank d ≡ 0) ⊎ (rank d < rank c) → (rank d ≡ 0) ⊎ ((x : Candidate) × IsIn x old × (rank d < rank x))
@@ -47,7 +46,7 @@ round_falls old new h r = greatest_falls rank old new h.0 h.1 (open_rank h.0 h.2
 
 -- The candidates come from f by steps, and have its variables and its normal forms.
 pub record IsReached (f : Form) (candidates : List Candidate) : Type 0 where
-  pub exact : (rs : List Skeleton) → HaveForms (map candidate_view candidates) rs → HaveForms (form_view f ∷ []) rs
+  pub exact : (rs : List Skeleton) → HaveForms (map skeleton_in candidates) rs → HaveForms (f.skeleton ∷ []) rs
   pub variables : (c : Candidate) → IsIn c candidates → (form_in c).skeleton.variables ≡ f.skeleton.variables
   pub comes_on : (c : Candidate) → IsIn c candidates → ComesOn f (form_in c)
 
@@ -75,8 +74,8 @@ pub none_open : (candidates read : List Candidate) (b : Bool) → b ≡ false �
 none_open candidates read b closed finds same h = not_both closed (finds (subst (Has IsUnnarrowed) (sym same) h))
 
 module _ (f : Form) (candidates : List Candidate) (reached : IsReached f candidates) (forms : List Form) (are : AreFormsOfSettled candidates forms) where
-  reached_exact : HasForms (form_view f) (map form_view forms)
-  reached_exact = has_forms (form_view f) (map form_view forms) (reached.exact (map form_view forms) are.exact)
+  reached_exact : HasForms f.skeleton (map (λ (f : Form). f.skeleton) forms)
+  reached_exact = has_forms f.skeleton (map (λ (f : Form). f.skeleton) forms) (reached.exact (map (λ (f : Form). f.skeleton) forms) are.exact)
 
   made_so : (r : Form) → IsIn r forms → IsMadeFrom f r
   made_so r i =

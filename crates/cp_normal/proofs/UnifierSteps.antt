@@ -10,7 +10,6 @@ use Rattle.cp_unify.specs.Bindings.{Binding, as_substitution}
 use Rattle.cp_unify.specs.Unifiers.{IsMostGeneralUnifier}
 use Rattle.cp_collapse.specs.SameSkeletons.{SaysTheSame}
 use Rattle.cp_normal.specs.NormalForms.{IsMisplaced, IsReceivedBefore, IsNarrowed, NarrowsTo, none, one}
-use Rattle.cp_normal.specs.FormView.{form_view}
 use Rattle.cp_normal.specs.Candidates.{unifiers_of, ComesOn}
 use Rattle.cp_normal.specs.declared.form.Form.{Form}
 use Rattle.cp_collapse.proofs.AtomUnifiers.{most_general_for}
@@ -20,10 +19,10 @@ pub comes_itself : (f : Form) → ComesOn f f
 comes_itself f = record { steps = none; followed = λ t. sym (term_unchanged (apply_to (as_substitution f.substitution) t)) }
 
 -- One step, by a unifier.
-module _ (f g : Form) (u : UniqueAt) (x : Node) (heard : AtomTerm) (r : List Binding) (misplaced : IsMisplaced (form_view f) u x) (h : IsReceivedBefore (form_view f) heard x) (m : IsMostGeneralUnifier (atom_term u.value) (atom_term heard) [] r)
-    (same : SaysTheSame (skeleton_under (as_substitution r) (form_view f)) (form_view g))
+module _ (f g : Form) (u : UniqueAt) (x : Node) (heard : AtomTerm) (r : List Binding) (misplaced : IsMisplaced f.skeleton u x) (h : IsReceivedBefore f.skeleton heard x) (m : IsMostGeneralUnifier (atom_term u.value) (atom_term heard) [] r)
+    (same : SaysTheSame (skeleton_under (as_substitution r) f.skeleton) g.skeleton)
     (followed : (t : Term) → apply_to (as_substitution g.substitution) t ≡ apply_to (as_substitution r) (apply_to (as_substitution f.substitution) t)) where
-  abbrev step : IsNarrowed (form_view f) (form_view g)
+  abbrev step : IsNarrowed f.skeleton g.skeleton
   step = record {
     entry = u;
     node = x;

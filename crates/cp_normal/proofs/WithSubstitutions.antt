@@ -8,7 +8,6 @@ use Rattle.cp_model.specs.Standing.{Standing}
 use Rattle.cp_model.specs.Homomorphism.{FactorsThrough}
 use Rattle.cp_model.proofs.LawTerms.{value_after}
 use Rattle.cp_unify.specs.Bindings.{Binding, as_substitution}
-use Rattle.cp_model.specs.Data.{SkeletonData as Program}
 use Rattle.cp_normal.specs.Exact.{HasForms}
 use Rattle.cp_normal.specs.NormalForms.{IsNormalFormOf}
 use Rattle.cp_normal.specs.Formed.{Formed, IsFormedFrom, StandsAmongFormed, AreFormedNormalForms, IsFormBeside}
@@ -53,7 +52,7 @@ among_factors k forms b h are among =
     comes_factors k among.form.skeleton h from.comes (λ t. subst (λ (s : Substitution). value_of (after h.values s) t ≡ value_of h.values t) (sym from.by) (among.same_values t))
 
 -- An assignment that agrees with the form's substitution gives under the answer's what it gives under the given one.
-pub same_beside : (k : Program) (given : List Binding) (answer : Form) (f : Formed) (g : Assignment) → IsFormBeside k given answer f → ((t : Term) → value_of (after g f.substitution) t ≡ value_of g t) →
+pub same_beside : (k : Skeleton) (given : List Binding) (answer : Form) (f : Formed) (g : Assignment) → IsFormBeside k given answer f → ((t : Term) → value_of (after g f.substitution) t ≡ value_of g t) →
     (t : Term) → value_of (after g (as_substitution answer.substitution)) t ≡ value_of (after g (as_substitution given)) t
 same_beside k given answer f g is same t =
     value_after g (as_substitution answer.substitution) t

@@ -10,7 +10,6 @@ use Rattle.cp_collapse.specs.SameSkeletons.{SaysTheSame}
 use Rattle.cp_collapse.specs.Directed.{IsMostGeneralFor}
 use Rattle.cp_normal.specs.declared.form.Form.{Form}
 use Rattle.cp_normal.specs.Branches.{NeverEqualAtoms}
-use Rattle.cp_normal.specs.FormView.{form_view}
 
 -- The branches of k by v and the atoms, in their order: for each atom that unifies with v one that says the same as k under
 -- the most general unifier of the two.
@@ -25,11 +24,11 @@ pub record IsBranch (k : Form) (v : AtomTerm) (atoms : List AtomTerm) (l : Form)
   pub listed : IsIn heard atoms
   pub bindings : List Binding
   pub most_general : IsMostGeneralUnifier (atom_term v) (atom_term heard) [] bindings
-  pub same : SaysTheSame (skeleton_under (as_substitution bindings) (form_view k)) (form_view l)
+  pub same : SaysTheSame (skeleton_under (as_substitution bindings) k.skeleton) l.skeleton
   pub variables : l.skeleton.variables ≡ k.skeleton.variables
   pub followed : (t : Term) → apply_to (as_substitution l.substitution) t ≡ apply_to (as_substitution bindings) (apply_to (as_substitution k.substitution) t)
 
 -- The forms are the branches of k by v and these atoms, in their order.
 pub record AreBranchesOf (k : Form) (v : AtomTerm) (atoms : List AtomTerm) (branches : List Form) : Type 0 where
   pub each : (l : Form) → IsIn l branches → IsBranch k v atoms l
-  pub in_order : AreInOrder (form_view k) v atoms (map form_view branches)
+  pub in_order : AreInOrder k.skeleton v atoms (map (λ (f : Form). f.skeleton) branches)

@@ -11,7 +11,6 @@ use Rattle.cp_normal.specs.Findings.{AreNormalPairs, IsContradictory}
 use Rattle.cp_normal.specs.NormalForms.{NarrowsTo, none, one}
 use Rattle.cp_normal.specs.Branches.{HasFewerVariables, IsSettled}
 use Rattle.cp_normal.specs.Exact.{HaveForms}
-use Rattle.cp_normal.specs.FormView.{form_view}
 use Rattle.cp_normal.specs.declared.form.Form.{Form}
 use Rattle.cp_normal.specs.declared.candidates.Candidate.{Candidate}
 use Rattle.cp_normal.specs.declared.candidates.Candidate.TheVariants.{Open, Settled}
@@ -21,8 +20,8 @@ abbrev pub form_in : Candidate → Form
 form_in (Open f) = f
 form_in (Settled f) = f
 
-abbrev pub candidate_view : Candidate → Skeleton
-candidate_view c = form_view (form_in c)
+abbrev pub skeleton_in : Candidate → Skeleton
+skeleton_in c = (form_in c).skeleton
 
 -- Unique values may be misplaced in it.
 abbrev pub IsUnnarrowed : Candidate → Type 0
@@ -32,7 +31,7 @@ IsUnnarrowed (Settled f) = ⊥
 -- The second is settled, or both are open and it has fewer variables.
 abbrev pub HasFewerOrSettled : Candidate → Candidate → Type 0
 HasFewerOrSettled c (Settled g) = Unit {0}
-HasFewerOrSettled (Open f) (Open g) = HasFewerVariables (form_view f) (form_view g)
+HasFewerOrSettled (Open f) (Open g) = HasFewerVariables f.skeleton g.skeleton
 HasFewerOrSettled (Settled f) (Open g) = ⊥
 
 -- The unifiers of the steps of narrowing, one after the other.
@@ -42,7 +41,7 @@ unifiers_of (one step p) = composed step.unifier (unifiers_of p)
 
 -- g is narrowed from f by steps, and its substitution is that of f followed by the unifiers of the steps.
 pub record ComesOn (f g : Form) : Type 0 where
-  pub steps : NarrowsTo (form_view f) (form_view g)
+  pub steps : NarrowsTo f.skeleton g.skeleton
   pub followed : (t : Term) → apply_to (as_substitution g.substitution) t ≡ apply_to (unifiers_of steps) (apply_to (as_substitution f.substitution) t)
 
 -- d follows on c, has its variables, and comes from it by steps.
@@ -55,7 +54,7 @@ pub record FollowsByNarrowing (c d : Candidate) : Type 0 where
 -- forms.
 pub record ReplacesByNarrowing (c : Candidate) (new : List Candidate) : Type 0 where
   pub each : (d : Candidate) → IsIn d new → FollowsByNarrowing c d
-  pub exact : (rest rs : List Skeleton) → HaveForms (map candidate_view new ++ rest) rs → HaveForms (candidate_view c ∷ rest) rs
+  pub exact : (rest rs : List Skeleton) → HaveForms (map skeleton_in new ++ rest) rs → HaveForms (skeleton_in c ∷ rest) rs
 
 -- The list, with what takes the place of the candidate behind it.
 pub record PutsNarrowed (c : Candidate) (old new : List Candidate) : Type 0 where
@@ -70,15 +69,15 @@ AllFollow old new = (d : Candidate) → IsIn d new → (c : Candidate) × IsIn c
 -- The new candidates follow on the old, and have their normal forms.
 pub record IsNarrowingRound (old new : List Candidate) : Type 0 where
   pub all_follow : AllFollow old new
-  pub exact : (rs : List Skeleton) → HaveForms (map candidate_view new) rs → HaveForms (map candidate_view old) rs
+  pub exact : (rs : List Skeleton) → HaveForms (map skeleton_in new) rs → HaveForms (map skeleton_in old) rs
 
 -- r is the normal form of a settled skeleton: this with its normal pairs, and with the same substitution.
 pub record IsNormalFormOfSettled (l r : Form) : Type 0 where
-  pub settled : IsSettled (form_view l)
+  pub settled : IsSettled l.skeleton
   pub pairs : List OrderPair
-  pub normal : AreNormalPairs (form_view l) pairs
-  pub consistent : IsContradictory (form_view l) → ⊥
-  pub same : form_view r ≡ with_pairs (form_view l) pairs
+  pub normal : AreNormalPairs l.skeleton pairs
+  pub consistent : IsContradictory l.skeleton → ⊥
+  pub same : r.skeleton ≡ with_pairs l.skeleton pairs
   pub variables : r.skeleton.variables ≡ l.skeleton.variables
   pub substitution : r.substitution ≡ l.substitution
 
@@ -90,5 +89,5 @@ pub record PutsForm (l : Form) (old new : List Form) : Type 0 where
 
 -- The normal forms of the candidates, which are settled.
 pub record AreFormsOfSettled (settled : List Candidate) (forms : List Form) : Type 0 where
-  pub exact : HaveForms (map candidate_view settled) (map form_view forms)
+  pub exact : HaveForms (map skeleton_in settled) (map (λ (f : Form). f.skeleton) forms)
   pub each : (r : Form) → IsIn r forms → (c : Candidate) × IsIn c settled × IsNormalFormOfSettled (form_in c) r

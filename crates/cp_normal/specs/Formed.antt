@@ -8,11 +8,8 @@ use Rattle.cp_model.specs.Skeleton.{Skeleton, IsSkeleton}
 use Rattle.cp_model.specs.Standing.{Standing, StandsIn, StandsApart}
 use Rattle.cp_model.specs.Senders.{ArePaired}
 use Rattle.cp_unify.specs.Bindings.{Binding, as_substitution}
-use Rattle.cp_model.specs.Data.{SkeletonData as Program}
-use Rattle.cp_skel.specs.View.{skeleton_view}
 use Rattle.cp_normal.specs.BySubstitution.{ComesBySubstitution}
 use Rattle.cp_normal.specs.Exact.{HasForms}
-use Rattle.cp_normal.specs.FormView.{form_view}
 use Rattle.cp_normal.specs.declared.form.Form.{Form}
 
 -- A skeleton, and a substitution by which it comes from another.
@@ -43,15 +40,15 @@ pub record AreFormedNormalForms (k : Skeleton) (forms : List Formed) : Type 0 wh
 
 -- The program's form says what f says, with the table of variables of k; and its substitution is the given one followed by
 -- that of f, term by term and as a substitution.
-pub record IsFormBeside (k : Program) (given : List Binding) (answer : Form) (f : Formed) : Type 0 where
-  pub skeleton : form_view answer ≡ f.skeleton
+pub record IsFormBeside (k : Skeleton) (given : List Binding) (answer : Form) (f : Formed) : Type 0 where
+  pub skeleton : answer.skeleton ≡ f.skeleton
   pub variables : answer.skeleton.variables ≡ k.variables
   pub terms : (t : Term) → apply_to (as_substitution answer.substitution) t ≡ apply_to f.substitution (apply_to (as_substitution given) t)
   pub substitution : as_substitution answer.substitution ≡ composed (as_substitution given) f.substitution
 
 -- The program's forms are the normal forms of k, place by place, each with the given substitution followed by the one by which
 -- it comes from k.
-pub record AreFormsBeside (k : Program) (given : List Binding) (answers : List Form) : Type 0 where
+pub record AreFormsBeside (k : Skeleton) (given : List Binding) (answers : List Form) : Type 0 where
   pub forms : List Formed
-  pub normal : AreFormedNormalForms (skeleton_view k) forms
+  pub normal : AreFormedNormalForms k forms
   pub each : ArePaired (IsFormBeside k given) answers forms

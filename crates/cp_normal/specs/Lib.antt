@@ -11,4 +11,3 @@ pub mod Candidates
 pub mod Example
 pub mod BySubstitution
 pub mod Formed
-pub mod FormView

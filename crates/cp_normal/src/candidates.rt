@@ -5,7 +5,6 @@ ghost use Rattle.cp_normal.specs.Branches.{IsSettled};
 ghost use Rattle.cp_normal.specs.Candidates.{IsUnnarrowed, PutsNarrowed, IsNarrowingRound};
 ghost use Rattle.cp_collapse.specs.Property.{Has};
 ghost use Rattle.cp_normal.specs.Exact.{IsRefuted};
-ghost use Rattle.cp_normal.specs.FormView.{form_view};
 ghost use Rattle.cp_normal.specs.MisplacedValues.{IsFirstMisplaced};
 ghost use Rattle.cp_normal.specs.declared.candidates.Candidate.TheVariants as variants;
 
@@ -46,9 +45,9 @@ fn put_branches(
     misplaced: &Misplaced,
     next: &mut Vec<Candidate>,
 ) -> Result<(), AllocError>
-    requires listed { occurrences.now ≡ events_of (form_view form.now) }
-    requires consistent { IsRefuted (form_view form.now) → ⊥ }
-    requires misplaced { IsFirstMisplaced (form_view form.now) misplaced.now.value misplaced.now.node }
+    requires listed { occurrences.now ≡ events_of form.now.skeleton }
+    requires consistent { IsRefuted form.now.skeleton → ⊥ }
+    requires misplaced { IsFirstMisplaced form.now.skeleton misplaced.now.value misplaced.now.node }
     ensures { OnOk result (PutsNarrowed (variants.Open form.now) next.old.items next.new.items) }
 {
     let atoms = atoms_received(alloc, occurrences, misplaced.node)?;
@@ -64,9 +63,9 @@ fn put_settled(
     occurrences: &[LocatedEvent],
     next: &mut Vec<Candidate>,
 ) -> Result<(), AllocError>
-    requires listed { occurrences.now ≡ events_of (form_view form) }
-    requires consistent { IsRefuted (form_view form) → ⊥ }
-    requires settled { IsSettled (form_view form) }
+    requires listed { occurrences.now ≡ events_of form.skeleton }
+    requires consistent { IsRefuted form.skeleton → ⊥ }
+    requires settled { IsSettled form.skeleton }
     ensures { OnOk result (PutsNarrowed (variants.Open form) next.old.items next.new.items) }
 {
     match Settled::new(alloc, form, occurrences)? {
@@ -86,9 +85,9 @@ fn stays(
     occurrences: &[LocatedEvent],
     next: &mut Vec<Candidate>,
 ) -> Result<bool, AllocError>
-    requires listed { occurrences.now ≡ events_of (form_view form.now) }
-    ensures consistent { IfOk result (λ stays. IsTrue stays → IsRefuted (form_view form.now) → ⊥) }
-    ensures settled { IfOk result (λ stays. IsTrue stays → IsSettled (form_view form.now)) }
+    requires listed { occurrences.now ≡ events_of form.now.skeleton }
+    ensures consistent { IfOk result (λ stays. IsTrue stays → IsRefuted form.now.skeleton → ⊥) }
+    ensures settled { IfOk result (λ stays. IsTrue stays → IsSettled form.now.skeleton) }
     ensures same { IfOk result (λ stays. IsTrue stays → next.new.items ≡ next.old.items) }
     ensures put { IfOk result (λ stays. stays ≡ false → PutsNarrowed (variants.Open form.now) next.old.items next.new.items) }
 {
@@ -112,9 +111,9 @@ fn put_staying(
     occurrences: &[LocatedEvent],
     next: &mut Vec<Candidate>,
 ) -> Result<(), AllocError>
-    requires listed { occurrences.now ≡ events_of (form_view form) }
-    requires consistent { IsTrue stays → IsRefuted (form_view form) → ⊥ }
-    requires settled { IsTrue stays → IsSettled (form_view form) }
+    requires listed { occurrences.now ≡ events_of form.skeleton }
+    requires consistent { IsTrue stays → IsRefuted form.skeleton → ⊥ }
+    requires settled { IsTrue stays → IsSettled form.skeleton }
     ensures staying { OnOk result (IsTrue stays → PutsNarrowed (variants.Open form) next.old.items next.new.items) }
     ensures another { stays ≡ false → next.new.items ≡ next.old.items }
 {
@@ -132,7 +131,7 @@ fn narrow_among(
     occurrences: &[LocatedEvent],
     next: &mut Vec<Candidate>,
 ) -> Result<(), AllocError>
-    requires listed { occurrences.now ≡ events_of (form_view form) }
+    requires listed { occurrences.now ≡ events_of form.skeleton }
     ensures { OnOk result (PutsNarrowed (variants.Open form) next.old.items next.new.items) }
 {
     let stays = stays(alloc, &form, occurrences, next)?;

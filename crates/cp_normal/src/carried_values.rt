@@ -2,7 +2,6 @@
 ghost use Rattle.std.specs.Prelude.{◌≡◌, ◌↔◌, IsTrue, IfOk};
 ghost use Rattle.cp_model.specs.Term.{atom_term, IsCarriedByTerm};
 ghost use Rattle.cp_model.specs.Strand.{payload};
-ghost use Rattle.cp_skel.specs.View.{skeleton_view};
 ghost use Rattle.cp_skel.specs.Events.{events_of};
 ghost use Rattle.cp_collapse.specs.Property.{Has};
 ghost use Rattle.cp_normal.specs.Events.{CarriesOne};
@@ -42,15 +41,15 @@ fn some_carries_one(occurrences: &[LocatedEvent], values: &[Atom]) -> bool
 
 /// Whether some node carries a non-originating value. `occurrences` are the events of the skeleton.
 pub(crate) fn some_carries_non_originating(k: &Skeleton, occurrences: &[LocatedEvent]) -> bool
-    requires listed { occurrences.now ≡ events_of (skeleton_view k.now) }
-    ensures { IsTrue result ↔ CarriesNonOriginating (skeleton_view k.now) }
+    requires listed { occurrences.now ≡ events_of k.now }
+    ensures { IsTrue result ↔ CarriesNonOriginating k.now }
 {
     some_carries_one(occurrences, k.assumptions().non_originating())
 }
 
 /// Whether some node, of a role strand or a listener, carries a non-originating value.
 pub fn carries_non_originating(alloc: Global, k: &Skeleton) -> Result<bool, AllocError>
-    ensures { IfOk result (λ found. IsTrue found ↔ CarriesNonOriginating (skeleton_view k.now)) }
+    ensures { IfOk result (λ found. IsTrue found ↔ CarriesNonOriginating k.now) }
 {
     let occurrences = k.events(alloc)?;
     Ok(some_carries_non_originating(k, &occurrences))

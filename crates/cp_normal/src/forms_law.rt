@@ -9,7 +9,6 @@ ghost use Rattle.cp_model.specs.Standing.{Standing};
 ghost use Rattle.cp_model.specs.Homomorphism.{FactorsThrough};
 ghost use Rattle.cp_unify.specs.Bindings.{Binding, as_substitution};
 ghost use Rattle.cp_theory.specs.Normal.{LosesNoStanding};
-ghost use Rattle.cp_model.specs.Data.{SkeletonData};
 ghost use Rattle.cp_normal.specs.BySubstitution.{ComesBySubstitution, ComeBySubstitutions};
 ghost use Rattle.cp_normal.specs.Exact.{HasForms};
 ghost use Rattle.cp_normal.specs.Formed.{Formed, StandsAmongFormed, AreFormedNormalForms, IsFormBeside};
@@ -34,5 +33,5 @@ pub fn forms_come_by_substitutions()
 pub fn normal_forms_have_substitutions()
     ensures exist { (k : Skeleton) (rs : List Skeleton) → HasForms k rs → (forms : List Formed) × AreFormedNormalForms k forms × (map (λ f. f.skeleton) forms ≡ rs) }
     ensures factors { (k : Skeleton) (forms : List Formed) (b : Bundle) (h : Standing) → AreFormedNormalForms k forms → (among : StandsAmongFormed forms b h) → FactorsThrough k h among.form.skeleton h }
-    ensures beside { (k : SkeletonData) (given : List Binding) (answer : Form) (f : Formed) (g : Assignment) → IsFormBeside k given answer f → ((t : Term) → value_of (after g f.substitution) t ≡ value_of g t) → (t : Term) → value_of (after g (as_substitution answer.substitution)) t ≡ value_of (after g (as_substitution given)) t }
+    ensures beside { (k : Skeleton) (given : List Binding) (answer : Form) (f : Formed) (g : Assignment) → IsFormBeside k given answer f → ((t : Term) → value_of (after g f.substitution) t ≡ value_of g t) → (t : Term) → value_of (after g (as_substitution answer.substitution)) t ≡ value_of (after g (as_substitution given)) t }
 {}

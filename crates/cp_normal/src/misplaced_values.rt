@@ -3,7 +3,6 @@ ghost use Rattle.std.specs.Prelude.{◌≡◌, ◌↔◌, false, IsTrue, IfOk, M
 ghost use Rattle.cp_model.specs.Given.{listed};
 ghost use Rattle.cp_lists.specs.Lists.{IsIn};
 ghost use Rattle.cp_model.specs.Skeleton.{UniqueAt as Plain};
-ghost use Rattle.cp_skel.specs.View.{skeleton_view};
 ghost use Rattle.cp_normal.specs.Branches.{IsSettled};
 ghost use Rattle.cp_skel.specs.Events.{events_of};
 ghost use Rattle.cp_normal.specs.MisplacedValues.{OriginatesElsewhere, IsFirstMisplacedAt, IsFirstMisplaced};
@@ -27,9 +26,9 @@ fn originates_elsewhere(
     occurrence: &LocatedEvent,
     unique: &UniqueAt,
 ) -> Result<bool, AllocError>
-    requires listed { occurrences.now ≡ events_of (skeleton_view k.now) }
-    requires is_there { IsIn occurrence.now (events_of (skeleton_view k.now)) }
-    ensures { IfOk result (λ found. IsTrue found ↔ OriginatesElsewhere (skeleton_view k.now) occurrence.now.node unique.now) }
+    requires listed { occurrences.now ≡ events_of k.now }
+    requires is_there { IsIn occurrence.now (events_of k.now) }
+    ensures { IfOk result (λ found. IsTrue found ↔ OriginatesElsewhere k.now occurrence.now.node unique.now) }
 {
     if occurrence.node == unique.origin() {
         return Ok(false);
@@ -48,11 +47,11 @@ fn first_at(
     occurrence: &LocatedEvent,
     uniques: &[UniqueAt],
 ) -> Result<Option<Atom>, AllocError>
-    requires listed { occurrences.now ≡ events_of (skeleton_view k.now) }
-    requires is_there { IsIn occurrence.now (events_of (skeleton_view k.now)) }
+    requires listed { occurrences.now ≡ events_of k.now }
+    requires is_there { IsIn occurrence.now (events_of k.now) }
     ensures { IfOk result (λ found. MatchOption found
-        ((u : Plain) → IsIn u uniques.now → OriginatesElsewhere (skeleton_view k.now) occurrence.now.node u → ⊥)
-        (λ v. IsFirstMisplacedAt (skeleton_view k.now) occurrence.now.node uniques.now v)) }
+        ((u : Plain) → IsIn u uniques.now → OriginatesElsewhere k.now occurrence.now.node u → ⊥)
+        (λ v. IsFirstMisplacedAt k.now occurrence.now.node uniques.now v)) }
 {
     for unique in uniques {
         if originates_elsewhere(k, occurrences, occurrence, unique)? {
@@ -67,9 +66,9 @@ pub(crate) fn some_is_misplaced(
     k: &Skeleton,
     occurrences: &[LocatedEvent],
 ) -> Result<bool, AllocError>
-    requires listed { occurrences.now ≡ events_of (skeleton_view k.now) }
-    ensures none { IfOk result (λ found. found ≡ false → IsSettled (skeleton_view k.now)) }
-    ensures some { IfOk result (λ found. IsTrue found → IsSettled (skeleton_view k.now) → ⊥) }
+    requires listed { occurrences.now ≡ events_of k.now }
+    ensures none { IfOk result (λ found. found ≡ false → IsSettled k.now) }
+    ensures some { IfOk result (λ found. IsTrue found → IsSettled k.now → ⊥) }
 {
     let uniques = k.assumptions().uniquely_originating();
     for occurrence in occurrences {
@@ -88,11 +87,11 @@ fn first_among(
     occurrences: &[LocatedEvent],
     uniques: &[UniqueAt],
 ) -> Result<Option<Misplaced>, AllocError>
-    requires listed { occurrences.now ≡ events_of (skeleton_view k.now) }
-    requires in_order { uniques.now ≡ (listed (skeleton_view k.now)).uniquely_originating }
+    requires listed { occurrences.now ≡ events_of k.now }
+    requires in_order { uniques.now ≡ (listed k.now).uniquely_originating }
     ensures { IfOk result (λ found. MatchOption found
-        (IsSettled (skeleton_view k.now))
-        (λ s. IsFirstMisplaced (skeleton_view k.now) s.value s.node)) }
+        (IsSettled k.now)
+        (λ s. IsFirstMisplaced k.now s.value s.node)) }
 {
     for occurrence in occurrences {
         match first_at(k, occurrences, occurrence, uniques)? {
@@ -113,10 +112,10 @@ pub(crate) fn first_misplaced(
     k: &Skeleton,
     occurrences: &[LocatedEvent],
 ) -> Result<Option<Misplaced>, AllocError>
-    requires listed { occurrences.now ≡ events_of (skeleton_view k.now) }
+    requires listed { occurrences.now ≡ events_of k.now }
     ensures { IfOk result (λ found. MatchOption found
-        (IsSettled (skeleton_view k.now))
-        (λ s. IsFirstMisplaced (skeleton_view k.now) s.value s.node)) }
+        (IsSettled k.now)
+        (λ s. IsFirstMisplaced k.now s.value s.node)) }
 {
     if !some_is_misplaced(k, occurrences)? {
         return Ok(None);

@@ -1,7 +1,6 @@
 // Tests whether a skeleton is normal, and computes the pairs of its normal form.
 ghost use Rattle.std.specs.Prelude.{◌≡◌, ◌↔◌, option_map, IsTrue, IfOk};
 ghost use Rattle.cp_skel.specs.Events.{events_of};
-ghost use Rattle.cp_skel.specs.View.{skeleton_view};
 ghost use Rattle.cp_normal.specs.Exact.{IsRefuted};
 ghost use Rattle.cp_normal.specs.Findings.{AreNormalPairs, IsNormalised};
 ghost use Rattle.cp_normal.specs.NormalForms.{IsNormal};
@@ -17,8 +16,8 @@ use std::alloc::{AllocError, Global};
 
 /// Whether the assumptions contradict what the nodes carry. `occurrences` are the events of the skeleton.
 pub(crate) fn is_refuted(k: &Skeleton, occurrences: &[LocatedEvent]) -> bool
-    requires listed { occurrences.now ≡ events_of (skeleton_view k.now) }
-    ensures { IsTrue result ↔ IsRefuted (skeleton_view k.now) }
+    requires listed { occurrences.now ≡ events_of k.now }
+    ensures { IsTrue result ↔ IsRefuted k.now }
 {
     if some_carries_non_originating(k, occurrences) {
         return true;
@@ -35,8 +34,8 @@ fn own_and_added(
     k: &Skeleton,
     occurrences: &[LocatedEvent],
 ) -> Result<Vec<OrderPair>, AllocError>
-    requires listed { occurrences.now ≡ events_of (skeleton_view k.now) }
-    ensures { IfOk result (λ pairs. AreNormalPairs (skeleton_view k.now) pairs.items) }
+    requires listed { occurrences.now ≡ events_of k.now }
+    ensures { IfOk result (λ pairs. AreNormalPairs k.now pairs.items) }
 {
     let added = pairs_among(alloc, k, occurrences)?;
     let own = k.order().pairs();
@@ -53,9 +52,9 @@ pub(crate) fn normal_pairs_among(
     k: &Skeleton,
     occurrences: &[LocatedEvent],
 ) -> Result<Option<Vec<OrderPair>>, AllocError>
-    requires listed { occurrences.now ≡ events_of (skeleton_view k.now) }
-    requires consistent { IsRefuted (skeleton_view k.now) → ⊥ }
-    ensures { IfOk result (λ found. IsNormalised (skeleton_view k.now) (option_map (λ pairs. pairs.items) found)) }
+    requires listed { occurrences.now ≡ events_of k.now }
+    requires consistent { IsRefuted k.now → ⊥ }
+    ensures { IfOk result (λ found. IsNormalised k.now (option_map (λ pairs. pairs.items) found)) }
 {
     k.is_sound();
     let pairs = own_and_added(alloc, k, occurrences)?;
@@ -70,7 +69,7 @@ pub(crate) fn normal_pairs_among(
 /// no normal form: some node carries a non-originating value, a unique value has two recorded origins or does not originate at
 /// its own, or the pairs close a cycle.
 pub fn normal_pairs(alloc: Global, k: &Skeleton) -> Result<Option<Vec<OrderPair>>, AllocError>
-    ensures { IfOk result (λ found. IsNormalised (skeleton_view k.now) (option_map (λ pairs. pairs.items) found)) }
+    ensures { IfOk result (λ found. IsNormalised k.now (option_map (λ pairs. pairs.items) found)) }
 {
     let occurrences = k.events(alloc)?;
     if is_refuted(k, &occurrences) {
@@ -82,7 +81,7 @@ pub fn normal_pairs(alloc: Global, k: &Skeleton) -> Result<Option<Vec<OrderPair>
 /// Whether no rule of normalising changes the skeleton: its assumptions do not contradict what its nodes carry, no unique value
 /// originates elsewhere than at its recorded origin, and its order contains the pairs that unique values add and has no cycle.
 pub fn is_normal(alloc: Global, k: &Skeleton) -> Result<bool, AllocError>
-    ensures { IfOk result (λ normal. IsTrue normal ↔ IsNormal (skeleton_view k.now)) }
+    ensures { IfOk result (λ normal. IsTrue normal ↔ IsNormal k.now) }
 {
     k.is_sound();
     let occurrences = k.events(alloc)?;

@@ -1,11 +1,9 @@
 // The normal forms of a skeleton.
 ghost use Rattle.std.specs.Prelude.{◌≡◌, [], ◌∷◌, map, IfOk, OnOk};
 ghost use Rattle.cp_lists.specs.Lists.{IsIn};
-ghost use Rattle.cp_model.specs.Skeleton.{Skeleton as Plain, IsSkeleton};
+ghost use Rattle.cp_model.specs.Skeleton.{Skeleton as Plain, IsSkeleton, Skeleton};
 ghost use Rattle.cp_model.specs.Strand.{Protocol};
 ghost use Rattle.cp_theory.specs.Normal.{LosesNoStanding};
-ghost use Rattle.cp_skel.specs.View.{skeleton_view};
-ghost use Rattle.cp_model.specs.Data.{SkeletonData};
 ghost use Rattle.cp_normal.specs.BySubstitution.{ComeBySubstitutions};
 ghost use Rattle.cp_collapse.specs.Property.{Has};
 ghost use Rattle.cp_normal.specs.Candidates.{form_in, IsUnnarrowed, PutsForm, AreFormsOfSettled};
@@ -112,11 +110,11 @@ fn skeletons_of(alloc: Global, forms: Vec<Form>) -> Result<Vec<Skeleton>, AllocE
 /// Equal normal forms are kept. Each normal form is the skeleton under one substitution, independent of any bundle, with the
 /// added pairs.
 pub fn normalise(alloc: Global, k: Skeleton) -> Result<Vec<Skeleton>, AllocError>
-    ensures forms { IfOk result (λ ks. (r : Plain) → IsIn r (map skeleton_view ks.items) → IsNormalFormOf (skeleton_view k) r) }
-    ensures loses_none { IfOk result (λ ks. (protocol : Protocol) → IsSkeleton protocol (skeleton_view k) → LosesNoStanding protocol (skeleton_view k) (map skeleton_view ks.items)) }
-    ensures exact { IfOk result (λ ks. HasForms (skeleton_view k) (map skeleton_view ks.items)) }
-    ensures by_substitutions { IfOk result (λ ks. (protocol : Protocol) → IsSkeleton protocol (skeleton_view k) → ComeBySubstitutions protocol (skeleton_view k) (map skeleton_view ks.items)) }
-    ensures variables { IfOk result (λ ks. (r : SkeletonData) → IsIn r ks.items → r.variables ≡ k.variables) }
+    ensures forms { IfOk result (λ ks. (r : Plain) → IsIn r ks.items → IsNormalFormOf k r) }
+    ensures loses_none { IfOk result (λ ks. (protocol : Protocol) → IsSkeleton protocol k → LosesNoStanding protocol k ks.items) }
+    ensures exact { IfOk result (λ ks. HasForms k ks.items) }
+    ensures by_substitutions { IfOk result (λ ks. (protocol : Protocol) → IsSkeleton protocol k → ComeBySubstitutions protocol k ks.items) }
+    ensures variables { IfOk result (λ ks. (r : Skeleton) → IsIn r ks.items → r.variables ≡ k.variables) }
 {
     let nothing = Subst::new(alloc);
     let forms = normalise_beside(alloc, k, &nothing)?;

@@ -1,10 +1,8 @@
 // Recorded origins of unique values: values that have two, and values that do not originate there.
-ghost use Rattle.std.specs.Prelude.{◌≡◌, ◌↔◌, map, IsTrue, IfOk};
+ghost use Rattle.std.specs.Prelude.{◌≡◌, ◌↔◌, IsTrue, IfOk};
 ghost use Rattle.cp_model.specs.Derivable.{IsOnInstance};
 ghost use Rattle.cp_model.specs.Realisation.{OriginatesAtTerm};
 ghost use Rattle.cp_lists.specs.Lists.{item_at};
-ghost use Rattle.cp_strand.specs.View.{strand_view};
-ghost use Rattle.cp_skel.specs.View.{skeleton_view};
 ghost use Rattle.cp_skel.specs.Events.{events_of};
 ghost use Rattle.cp_collapse.specs.Property.{Has};
 ghost use Rattle.cp_collapse.specs.Partitions.{is_some_instance};
@@ -48,7 +46,7 @@ fn some_has_two_origins(uniques: &[UniqueAt]) -> bool
 
 /// Whether a unique value has two recorded origins, at different nodes.
 pub fn has_two_origins(k: &Skeleton) -> bool
-    ensures { IsTrue result ↔ HasTwoOrigins (skeleton_view k.now) }
+    ensures { IsTrue result ↔ HasTwoOrigins k.now }
 {
     some_has_two_origins(k.assumptions().uniquely_originating())
 }
@@ -91,7 +89,7 @@ fn some_is_carried_before(occurrences: &[LocatedEvent], unique: &UniqueAt) -> bo
 
 /// Whether the strand with this number exists and is a role strand.
 fn is_instance_at(strands: &[Strand], number: usize) -> bool
-    ensures { result ≡ is_some_instance (item_at (map strand_view strands.now) number) }
+    ensures { result ≡ is_some_instance (item_at strands.now number) }
 {
     let Some(strand) = strands.get(number) else {
         return false;
@@ -101,15 +99,15 @@ fn is_instance_at(strands: &[Strand], number: usize) -> bool
 
 /// Whether the node is on a role strand.
 fn is_on_instance(k: &Skeleton, node: Node) -> bool
-    ensures { IsTrue result ↔ IsOnInstance (skeleton_view k.now) node }
+    ensures { IsTrue result ↔ IsOnInstance k.now node }
 {
     is_instance_at(k.strands(), node.strand)
 }
 
 /// Whether a unique value originates at its recorded origin. `occurrences` are the events of the skeleton.
 pub(crate) fn originates(k: &Skeleton, occurrences: &[LocatedEvent], unique: &UniqueAt) -> bool
-    requires listed { occurrences.now ≡ events_of (skeleton_view k.now) }
-    ensures { IsTrue result ↔ OriginatesAtTerm (skeleton_view k.now) unique.now.value unique.now.origin }
+    requires listed { occurrences.now ≡ events_of k.now }
+    ensures { IsTrue result ↔ OriginatesAtTerm k.now unique.now.value unique.now.origin }
 {
     if !is_on_instance(k, unique.origin()) {
         return false;
@@ -122,8 +120,8 @@ pub(crate) fn originates(k: &Skeleton, occurrences: &[LocatedEvent], unique: &Un
 
 /// Whether some of these unique values does not originate at its recorded origin. `occurrences` are the events of the skeleton.
 fn one_loses_origin(k: &Skeleton, occurrences: &[LocatedEvent], uniques: &[UniqueAt]) -> bool
-    requires listed { occurrences.now ≡ events_of (skeleton_view k.now) }
-    ensures { IsTrue result ↔ Has (λ u. OriginatesAtTerm (skeleton_view k.now) u.value u.origin → ⊥) uniques.now }
+    requires listed { occurrences.now ≡ events_of k.now }
+    ensures { IsTrue result ↔ Has (λ u. OriginatesAtTerm k.now u.value u.origin → ⊥) uniques.now }
 {
     for unique in uniques {
         if !originates(k, occurrences, unique) {
@@ -135,15 +133,15 @@ fn one_loses_origin(k: &Skeleton, occurrences: &[LocatedEvent], uniques: &[Uniqu
 
 /// Whether some unique value does not originate at its recorded origin. `occurrences` are the events of the skeleton.
 pub(crate) fn some_loses_origin(k: &Skeleton, occurrences: &[LocatedEvent]) -> bool
-    requires listed { occurrences.now ≡ events_of (skeleton_view k.now) }
-    ensures { IsTrue result ↔ LosesOrigin (skeleton_view k.now) }
+    requires listed { occurrences.now ≡ events_of k.now }
+    ensures { IsTrue result ↔ LosesOrigin k.now }
 {
     one_loses_origin(k, occurrences, k.assumptions().uniquely_originating())
 }
 
 /// Whether some unique value does not originate at its recorded origin.
 pub fn loses_origin(alloc: Global, k: &Skeleton) -> Result<bool, AllocError>
-    ensures { IfOk result (λ found. IsTrue found ↔ LosesOrigin (skeleton_view k.now)) }
+    ensures { IfOk result (λ found. IsTrue found ↔ LosesOrigin k.now) }
 {
     let occurrences = k.events(alloc)?;
     Ok(some_loses_origin(k, &occurrences))

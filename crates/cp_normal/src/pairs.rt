@@ -2,7 +2,6 @@
 ghost use Rattle.std.specs.Prelude.{◌≡◌, ◌↔◌, IfOk, OnOk, IfSome, IfNone};
 ghost use Rattle.cp_lists.specs.Lists.{IsIn};
 ghost use Rattle.cp_model.specs.declared.node.OrderPair.{OrderPair as Plain};
-ghost use Rattle.cp_skel.specs.View.{skeleton_view};
 ghost use Rattle.cp_skel.specs.Events.{events_of};
 ghost use Rattle.cp_collapse.specs.Property.{Has};
 ghost use Rattle.cp_normal.specs.Events.{Gathers, IsPairBetween};
@@ -67,8 +66,8 @@ pub(crate) fn pairs_among(
     k: &Skeleton,
     occurrences: &[LocatedEvent],
 ) -> Result<Vec<OrderPair>, AllocError>
-    requires listed { occurrences.now ≡ events_of (skeleton_view k.now) }
-    ensures { IfOk result (λ pairs. (p : Plain) → IsIn p pairs.items ↔ IsAddedPair (skeleton_view k.now) p) }
+    requires listed { occurrences.now ≡ events_of k.now }
+    ensures { IfOk result (λ pairs. (p : Plain) → IsIn p pairs.items ↔ IsAddedPair k.now p) }
 {
     let mut pairs = Vec::new(alloc);
     add_pairs(
@@ -81,7 +80,7 @@ pub(crate) fn pairs_among(
 
 /// The pairs from the recorded origin of each unique value to the receptions of other strands, listeners included, that carry it.
 pub fn added_pairs(alloc: Global, k: &Skeleton) -> Result<Vec<OrderPair>, AllocError>
-    ensures { IfOk result (λ pairs. (p : Plain) → IsIn p pairs.items ↔ IsAddedPair (skeleton_view k.now) p) }
+    ensures { IfOk result (λ pairs. (p : Plain) → IsIn p pairs.items ↔ IsAddedPair k.now p) }
 {
     let occurrences = k.events(alloc)?;
     pairs_among(alloc, k, &occurrences)

@@ -5,7 +5,6 @@ ghost use Rattle.cp_normal.specs.Findings.{IsContradictory, IsNormalised};
 ghost use Rattle.cp_normal.specs.Branches.{IsSettled};
 ghost use Rattle.cp_normal.specs.Candidates.{IsNormalFormOfSettled};
 ghost use Rattle.cp_normal.specs.Exact.{IsRefuted};
-ghost use Rattle.cp_normal.specs.FormView.{form_view};
 
 use crate::form::Form;
 use crate::normal::normal_pairs_among;
@@ -32,21 +31,20 @@ impl Model for Settled {
     ghost view = { λ s. s.form };
 
     ghost use Rattle.cp_normal.specs.Branches.{IsSettled};
-    ghost use Rattle.cp_normal.specs.FormView.{form_view};
     ghost use Rattle.cp_normal.specs.Findings.{IsNormalised};
     ghost use Rattle.std.specs.Prelude.{Some};
 
-    ghost invariant = { λ s. IsSettled (form_view s.form) × IsNormalised (form_view s.form) (Some s.pairs.items) };
+    ghost invariant = { λ s. IsSettled s.form.skeleton × IsNormalised s.form.skeleton (Some s.pairs.items) };
 }
 
 impl Settled {
     /// A skeleton in which no unique value is misplaced, with its substitution and the pairs of its normal form; `None` if it has
     /// no normal form.
     fn beside(form: Form, pairs: Option<Vec<OrderPair>>) -> Option<Settled>
-        requires settled { IsSettled (form_view form) }
-        requires normalised { IsNormalised (form_view form) (option_map (λ pairs. pairs.items) pairs) }
+        requires settled { IsSettled form.skeleton }
+        requires normalised { IsNormalised form.skeleton (option_map (λ pairs. pairs.items) pairs) }
         ensures { MatchOption result
-            (IsContradictory (form_view form))
+            (IsContradictory form.skeleton)
             (λ s. s ≡ form) }
     {
         match pairs {
@@ -62,11 +60,11 @@ impl Settled {
         form: Form,
         occurrences: &[LocatedEvent],
     ) -> Result<Option<Settled>, AllocError>
-        requires listed { occurrences.now ≡ events_of (form_view form) }
-        requires consistent { IsRefuted (form_view form) → ⊥ }
-        requires settled { IsSettled (form_view form) }
+        requires listed { occurrences.now ≡ events_of form.skeleton }
+        requires consistent { IsRefuted form.skeleton → ⊥ }
+        requires settled { IsSettled form.skeleton }
         ensures { IfOk result (λ found. MatchOption found
-            (IsContradictory (form_view form))
+            (IsContradictory form.skeleton)
             (λ s. s ≡ form)) }
     {
         let pairs = normal_pairs_among(alloc, &form.skeleton, occurrences)?;

@@ -4,7 +4,6 @@ ghost use Rattle.cp_model.specs.Term.{Term, apply_to};
 ghost use Rattle.cp_theory.specs.Normal.{skeleton_under};
 ghost use Rattle.cp_unify.specs.Bindings.{as_substitution};
 ghost use Rattle.cp_collapse.specs.SameSkeletons.{SaysTheSame};
-ghost use Rattle.cp_normal.specs.FormView.{form_view};
 ghost use Rattle.cp_normal.specs.Branched.{AreBranchesOf};
 
 use crate::form::Form;
@@ -15,7 +14,7 @@ use std::alloc::{AllocError, Global};
 
 /// The skeleton under `s`, and its own substitution followed by `s`.
 fn branch_by(alloc: Global, form: &Form, s: &Subst) -> Result<Form, AllocError>
-    ensures same { IfOk result (λ l. SaysTheSame (skeleton_under (as_substitution s.now) (form_view form.now)) (form_view l)) }
+    ensures same { IfOk result (λ l. SaysTheSame (skeleton_under (as_substitution s.now) form.now.skeleton) l.skeleton) }
     ensures variables { IfOk result (λ l. l.skeleton.variables ≡ form.now.skeleton.variables) }
     ensures followed { IfOk result (λ l. (t : Term)
         → apply_to (as_substitution l.substitution) t

@@ -16,11 +16,8 @@ use Rattle.cp_model.specs.Same.{has_variable}
 use Rattle.cp_model.proofs.SameTests.{variable_in, in_has_variable}
 use Rattle.cp_model.proofs.LawTerms.{flag_same}
 use Rattle.cp_unify.specs.Beside.{Agrees, MatchesBeside}
-use Rattle.cp_term.specs.Variables.{variable_of_sort}
-use Rattle.cp_unify.specs.Atoms.{atom_of}
-use Rattle.cp_unify.specs.Bindings.{Binding, sort_of, variable_of}
+use Rattle.cp_unify.specs.Bindings.{Binding}
 use Rattle.cp_pattern.specs.Ready.{AgreesBut, AgreesOnFree}
-use Rattle.cp_pattern.proofs.LawMatches.{sort_of_variable}
 
 -- ---- what two substitutions make the same of a term, they make the same of its variables
 
@@ -102,18 +99,18 @@ has_not : (xs : List Variable) (x : Variable) → (IsIn x xs → ⊥) → has_va
 has_not xs x none = false_from_ne_true (has_variable xs x) (λ e. none (variable_in xs x e))
 
 module _ (locals : List Variable) (f s : Substitution) where
-  mixed_agrees_with : (b : Binding) (v : Bool) → has_variable locals (variable_of b) ≡ v → ((IsIn (variable_of b) locals → ⊥) → apply_to f (variable_term (variable_of b)) ≡ atom_term b.term) →
-      apply_to s (variable_term (variable_of b)) ≡ atom_term b.term → apply_to (mixed (has_variable locals) f s) (variable_term (variable_of b)) ≡ atom_term b.term
-  mixed_agrees_with b true e p q = second_at (has_variable locals) f s (variable_of b).sort b.number e ∙ q
-  mixed_agrees_with b false e p q = first_at (has_variable locals) f s (variable_of b).sort b.number e ∙ p (not_among locals (variable_of b) e)
+  mixed_agrees_with : (b : Binding) (v : Bool) → has_variable locals b.variable ≡ v → ((IsIn b.variable locals → ⊥) → apply_to f (variable_term b.variable) ≡ b.term) →
+      apply_to s (variable_term b.variable) ≡ b.term → apply_to (mixed (has_variable locals) f s) (variable_term b.variable) ≡ b.term
+  mixed_agrees_with b true e p q = second_at (has_variable locals) f s b.variable.sort b.variable.number e ∙ q
+  mixed_agrees_with b false e p q = first_at (has_variable locals) f s b.variable.sort b.variable.number e ∙ p (not_among locals b.variable e)
 
   mixed_agrees : (bs : List Binding) → AgreesBut locals f bs → Agrees s bs → Agrees (mixed (has_variable locals) f s) bs
   mixed_agrees [] h k = tt
-  mixed_agrees (b ∷ bs) h k = (mixed_agrees_with b (has_variable locals (variable_of b)) refl h.0 k.0, mixed_agrees bs h.1 k.1)
+  mixed_agrees (b ∷ bs) h k = (mixed_agrees_with b (has_variable locals b.variable) refl h.0 k.0, mixed_agrees bs h.1 k.1)
 
   first_agrees : (bs : List Binding) → Agrees (mixed (has_variable locals) f s) bs → AgreesBut locals f bs
   first_agrees [] h = tt
-  first_agrees (b ∷ bs) h = (λ none. sym (first_at (has_variable locals) f s (variable_of b).sort b.number (has_not locals (variable_of b) none)) ∙ h.0, first_agrees bs h.1)
+  first_agrees (b ∷ bs) h = (λ none. sym (first_at (has_variable locals) f s b.variable.sort b.variable.number (has_not locals b.variable none)) ∙ h.0, first_agrees bs h.1)
 
 -- The bindings that make the pattern what s makes of it, without those of locals, are met by what says the same as s.
 module _ (p : Pattern) (s : Substitution) (q : List Binding) (m : MatchesBeside p.term (apply_to s p.term) [] q) (f : Substitution) where
@@ -147,10 +144,6 @@ said_exactly p s locals of_locals term image given q all is_term is_image nothin
       λ h. k.1 (subst (AgreesBut locals f) (sym same) (subst (λ (xs : List Variable). AgreesBut xs f q) (sym of_locals) (bindings_by_said p s q m1 f h))),
     )
 
--- The sort of a binding.
-pub bound_sort : (k : Sort) (v : AtomTerm) → ((n : ℕ) → variable_of_sort k n ≡ variable_term (record { sort = sort_of v; number = n })) → k ≡ sort_of v
-bound_sort k v h = sym (sort_of_variable k 0) ∙ ap (λ (t : Term). sort_of (atom_of t)) (h 0) ∙ sort_of_variable (sort_of v) 0
-
 -- ---- the loop that keeps bindings
 
 -- What is kept, with what is left, says what all say.
@@ -164,17 +157,17 @@ module _ (locals : List Variable) (all kept : List Binding) (i : ℕ) (b : Bindi
   one_left : IsKept locals all kept (b ∷ drop (i + 1) all)
   one_left = subst (IsKept locals all kept) (drop_read all i b below read) so_far
 
-  pub left_out : has_variable locals (variable_of b) ≡ true → IsKept locals all kept (drop (i + 1) all)
+  pub left_out : has_variable locals b.variable ≡ true → IsKept locals all kept (drop (i + 1) all)
   left_out e f = let h = one_left f in (
-    λ k. h.0 (k.0, ((λ none. absurd (none (variable_in locals (variable_of b) e))), k.1)),
+    λ k. h.0 (k.0, ((λ none. absurd (none (variable_in locals b.variable e))), k.1)),
     λ k. let r = h.1 k in (r.0, r.1.1),
   )
 
-  pub kept_too : has_variable locals (variable_of b) ≡ false → (next : List Binding) → next ≡ b ∷ kept → IsKept locals all next (drop (i + 1) all)
+  pub kept_too : has_variable locals b.variable ≡ false → (next : List Binding) → next ≡ b ∷ kept → IsKept locals all next (drop (i + 1) all)
   kept_too e next is f = subst (λ (bs : List Binding). (Agrees f bs × AgreesBut locals f (drop (i + 1) all)) ↔ AgreesBut locals f all) (sym is)
       (let h = one_left f in (
         λ k. h.0 (k.0.1, ((λ none. k.0.0), k.1)),
-        λ k. let r = h.1 k in ((r.1.0 (not_among locals (variable_of b) e), r.0), r.1.1),
+        λ k. let r = h.1 k in ((r.1.0 (not_among locals b.variable e), r.0), r.1.1),
       ))
 
 pub all_kept : (locals : List Variable) (all kept : List Binding) (i : ℕ) → length all ≤ i → IsKept locals all kept (drop i all) → (f : Substitution) → Agrees f kept ↔ AgreesBut locals f all

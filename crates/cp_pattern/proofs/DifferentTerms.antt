@@ -3,8 +3,7 @@ use Rattle.std.proofs.Common.{◌≡◌, true, false, sym}
 use Rattle.cp_model.specs.Term.{KeyTerm, symmetric_term, asymmetric_term, AtomTerm, text_variable, datum_variable, name_variable, key_term, Term, tag_term, atom_term, pair_term, enc_term, Assignment, value_of_key, value_of_atom}
 use Rattle.cp_model.proofs.CarriedParts.{not_both}
 use Rattle.cp_term.proofs.SameTerms.{bytes_Decides}
-use Rattle.cp_unify.specs.Matched.{is_same_key_sort, is_same_sort}
-use Rattle.cp_pattern.specs.Candidates.{may_equal}
+use Rattle.cp_pattern.specs.Candidates.{is_same_key_sort, is_same_sort, may_equal}
 use Rattle.cp_pattern.specs.Unifiers.{NeverEqual}
 
 keys_differ : (k j : KeyTerm) (g : Assignment) → is_same_key_sort k j ≡ false → value_of_key g j ≡ value_of_key g k → ⊥

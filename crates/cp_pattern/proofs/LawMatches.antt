@@ -2,13 +2,11 @@
 use Rattle.std.proofs.Common.{◌≡◌, ℕ, suc, List, [], ◌∷◌, refl, sym, ap, ◌∙◌}
 use Rattle.cp_lists.specs.Lists.{IsIn, there}
 use Rattle.cp_lists.proofs.Members.{at_head}
-use Rattle.cp_model.specs.Term.{Term, atom_of_variable, variable_term, Substitution, apply_to, composed, atom_term}
-use Rattle.cp_model.specs.declared.sort.Sort.{Sort}
-use Rattle.cp_model.specs.declared.sort.Sort.TheVariants.{Text as text_sort, Datum as datum_sort, Name as name_sort, Skey as skey_sort, Akey as akey_sort}
+use Rattle.cp_model.specs.Term.{Term, variable_term, Substitution, apply_to, composed}
 use Rattle.cp_model.specs.declared.variable.Variable.{Variable}
 use Rattle.cp_model.proofs.LawTerms.{term_composed}
 use Rattle.cp_model.specs.Tree.{Pattern}
-use Rattle.cp_unify.specs.Bindings.{Binding, sort_of, variable_of}
+use Rattle.cp_unify.specs.Bindings.{Binding}
 use Rattle.cp_unify.proofs.VariablesUnder.{other}
 use Rattle.cp_theory.specs.Matches.{Matches}
 use Rattle.cp_pattern.specs.Opened.{with_new, opened_pattern}
@@ -21,22 +19,15 @@ matching_stays p s u e m = record {
   same = term_composed m.filled u p.term ∙ ap (apply_to u) m.same;
 }
 
--- A variable has its own sort.
-pub sort_of_variable : (s : Sort) (n : ℕ) → sort_of (atom_of_variable (record { sort = s; number = n })) ≡ s
-sort_of_variable s n = elim s as (λ (k : Sort). sort_of (atom_of_variable (record { sort = k; number = n })) ≡ k) [ text_sort ↦ refl | datum_sort ↦ refl | name_sort ↦ refl | skey_sort ↦ refl | akey_sort ↦ refl ]
-
 -- The binding of a variable to a new one.
 abbrev pub to_new : ℕ → Variable → Binding
-to_new n x = record { number = x.number; term = atom_of_variable (record { sort = x.sort; number = n }) }
-
-binds_it : (n : ℕ) (x : Variable) → variable_of (to_new n x) ≡ x
-binds_it n x = ap (λ (s : Sort). record { sort = s; number = x.number }) (sort_of_variable x.sort n)
+to_new n x = record { variable = x; term = variable_term (record { sort = x.sort; number = n }) }
 
 -- New variables for the locals leave the others.
 pub others_stay : (n : ℕ) (xs : List Variable) (s : Substitution) (y : Variable) → (IsIn y xs → ⊥) → apply_to (with_new n xs s) (variable_term y) ≡ apply_to s (variable_term y)
 others_stay n [] s y apart = refl
 others_stay n (x ∷ xs) s y apart =
-    ap atom_term (other (to_new n x) (with_new (suc n) xs s) y (λ e. apart (at_head (e ∙ binds_it n x))))
+    other (to_new n x) (with_new (suc n) xs s) y (λ e. apart (at_head e))
     ∙ others_stay (suc n) xs s y (λ i. apart (there i))
 
 -- Where a substitution makes a term and an opened pattern one, the pattern then matches the term.

@@ -8,12 +8,13 @@ use Rattle.cp_lists.proofs.Members.{head_or_behind, item_is_in, next_or_rest, no
 use Rattle.cp_model.proofs.CarriedParts.{not_both}
 use Rattle.cp_model.proofs.SameTests.{variable_is, same_sort_itself}
 use Rattle.cp_model.specs.Same.{same_sort}
-use Rattle.cp_model.specs.Term.{Term, variable_term, Substitution, apply_to, atom_term}
+use Rattle.cp_model.specs.Term.{Term, variable_term, Substitution, apply_to}
 use Rattle.cp_model.specs.declared.variable.Variable.{Variable}
 use Rattle.cp_model.specs.Tree.{Pattern}
+use Rattle.cp_term.specs.Sorts.{is_of_sort}
 use Rattle.cp_unify.specs.Beside.{Agrees, MatchesBeside, NeverMatchesBeside}
-use Rattle.cp_unify.specs.Bindings.{Binding, variable_of, put_term, as_substitution}
-use Rattle.cp_unify.proofs.VariablesUnder.{bound, other}
+use Rattle.cp_unify.specs.Bindings.{Binding, HasItsSort, put_term, as_substitution}
+use Rattle.cp_unify.proofs.VariablesUnder.{sort_matches, bound, other}
 use Rattle.cp_theory.specs.Matches.{Matches}
 use Rattle.cp_pattern.specs.Ready.{IsReadyFor, AreReadyFor, HasMatch}
 use Rattle.cp_pattern.specs.declared.pattern_matches.Ready.{Ready}
@@ -26,22 +27,27 @@ same_variable x y = same_sort x.sort y.sort && (x.number == y.number)
 same_itself : (x y : Variable) → x ≡ y → same_variable x y ≡ true
 same_itself x y e = subst (λ (z : Variable). same_variable x z ≡ true) e (and_from (same_sort x.sort x.sort) (x.number == x.number) (same_sort_itself x.sort) (eq-eqb x.number x.number refl))
 
-module _ (b : Binding) (s f : Substitution) (first : apply_to f (variable_term (variable_of b)) ≡ atom_term b.term) where
-  behind_first : (c : Binding) (v : Bool) → same_variable (variable_of c) (variable_of b) ≡ v → apply_to f (variable_term (variable_of c)) ≡ atom_term c.term →
-      apply_to s (variable_term (variable_of c)) ≡ atom_term c.term → apply_to (put_term b.number b.term s) (variable_term (variable_of c)) ≡ atom_term c.term
-  behind_first c true e h k =
-      let same : variable_of c ≡ variable_of b = variable_is (variable_of c) (variable_of b) e in
-      ap (λ (x : Variable). apply_to (put_term b.number b.term s) (variable_term x)) same ∙ ap atom_term (bound b s) ∙ sym first
-      ∙ ap (λ (x : Variable). apply_to f (variable_term x)) (sym same) ∙ h
-  behind_first c false e h k = ap atom_term (other b s (variable_of c) (λ same. not_both e (same_itself (variable_of c) (variable_of b) same))) ∙ k
+module _ (b : Binding) (s f : Substitution) (first : apply_to f (variable_term b.variable) ≡ b.term) where
+  -- What a substitution gives the variable has its sort.
+  first_sorted : HasItsSort b
+  first_sorted = subst (λ (t : Term). is_of_sort b.variable.sort t ≡ true) first (sort_matches f b.variable.sort b.variable.number)
 
-  all_behind_first : (cs : List Binding) → Agrees f cs → Agrees s cs → Agrees (put_term b.number b.term s) cs
+  behind_first : (c : Binding) (v : Bool) → same_variable c.variable b.variable ≡ v → apply_to f (variable_term c.variable) ≡ c.term →
+      apply_to s (variable_term c.variable) ≡ c.term → apply_to (put_term b.variable b.term s) (variable_term c.variable) ≡ c.term
+  behind_first c true e h k =
+      let same : c.variable ≡ b.variable = variable_is c.variable b.variable e in
+      ap (λ (x : Variable). apply_to (put_term b.variable b.term s) (variable_term x)) same ∙ bound b s first_sorted ∙ sym first
+      ∙ ap (λ (x : Variable). apply_to f (variable_term x)) (sym same) ∙ h
+  behind_first c false e h k = other b s c.variable (λ same. not_both e (same_itself c.variable b.variable same)) ∙ k
+
+  all_behind_first : (cs : List Binding) → Agrees f cs → Agrees s cs → Agrees (put_term b.variable b.term s) cs
   all_behind_first [] h k = tt
-  all_behind_first (c ∷ cs) h k = (behind_first c (same_variable (variable_of c) (variable_of b)) refl h.0 k.0, all_behind_first cs h.1 k.1)
+  all_behind_first (c ∷ cs) h k = (behind_first c (same_variable c.variable b.variable) refl h.0 k.0, all_behind_first cs h.1 k.1)
 
 agrees_itself : (f : Substitution) (r : List Binding) → Agrees f r → Agrees (as_substitution r) r
 agrees_itself f [] h = tt
-agrees_itself f (b ∷ bs) h = (ap atom_term (bound b (as_substitution bs)), all_behind_first b (as_substitution bs) f h.0 bs h.1 (agrees_itself f bs h.1))
+agrees_itself f (b ∷ bs) h =
+    (bound b (as_substitution bs) (first_sorted b (as_substitution bs) f h.0), all_behind_first b (as_substitution bs) f h.0 bs h.1 (agrees_itself f bs h.1))
 
 -- ---- one pattern that is ready
 

@@ -1,18 +1,20 @@
 -- Patterns that are opened.
-use Rattle.std.proofs.Common.{◌≡◌, ℕ, suc, ◌+◌, ◌<◌, List, [], ◌∷◌, ◌++◌, Some, length, drop, take, refl, sym, ap, ap₂, ◌∙◌, arith, append_assoc}
-use Rattle.std.specs.Prelude.{slice_get}
+use Rattle.std.proofs.Common.{◌≡◌, Result, Ok, Err, ℕ, suc, ◌+◌, ◌<◌, List, [], ◌∷◌, ◌++◌, Some, length, drop, take, refl, sym, ap, ap₂, ◌∙◌, arith, append_assoc}
+use Rattle.std.specs.Prelude.{slice_get, OnOk, OnErr}
 use Rattle.std.proofs.lemmas.List.{map-append, length-append}
 use Rattle.std.proofs.Math.Seq.{take-append_seam}
 use Rattle.cp_lists.specs.Lists.{item_at}
 use Rattle.cp_lists.proofs.Items.{slice_get_item, item_of_map, take_of_item, drop_of_item}
 use Rattle.cp_lists.proofs.Fronts.{taken_more}
 use Rattle.cp_model.specs.declared.variable.Declaration.{Declaration}
-use Rattle.cp_model.specs.Term.{Term, atom_of_variable, apply_to}
+use Rattle.cp_model.specs.Term.{Term, variable_term, apply_to}
 use Rattle.cp_model.specs.declared.variable.Variable.{Variable}
 use Rattle.cp_model.specs.Tree.{Pattern}
 use Rattle.cp_model.specs.Data.{roots}
+use Rattle.cp_model.specs.Skeleton.{Skeleton}
+use Rattle.cp_skel.specs.Tables.{DiffersInTable}
+use Rattle.cp_skel.proofs.TableAlone.{table_alone, same_alone}
 use Rattle.cp_term.specs.Variables.{variable_of_sort}
-use Rattle.cp_unify.specs.Atoms.{atom_of}
 use Rattle.cp_unify.specs.Bindings.{Binding, put_term, as_substitution}
 use Rattle.cp_pattern.specs.Opened.{with_new, opened_pattern, identifier_or_x, declared_after, declared_as, new_bindings, HasDeclared}
 
@@ -23,11 +25,15 @@ named_alike ds count n root below e =
     let d = item_of_map (λ (z : Declaration). z.identifier) ds n root (sym (slice_get_item (roots ds) n) ∙ e) in
     sym (ap identifier_or_x (take_of_item count ds n d.0 below d.1) ∙ d.2)
 
+pub declared_alone : {T E : Type 0} (old new : Skeleton) (variables : List Declaration) (r : Result T E) → OnOk r (new ≡ record old { variables = variables }) → OnErr r (new ≡ old) → DiffersInTable old new
+declared_alone old new variables (Ok v) e f = table_alone old new variables e
+declared_alone old new variables (Err x) e f = same_alone old new f
+
 -- ---- the substitution of the bindings
 
 pub bindings_give : (n : ℕ) (xs : List Variable) (from : List Binding) → as_substitution (new_bindings n xs ++ from) ≡ with_new n xs (as_substitution from)
 bindings_give n [] from = refl
-bindings_give n (x ∷ xs) from = ap (put_term x.number (atom_of_variable (record { sort = x.sort; number = n }))) (bindings_give (suc n) xs from)
+bindings_give n (x ∷ xs) from = ap (put_term x (variable_term (record { sort = x.sort; number = n }))) (bindings_give (suc n) xs from)
 
 -- ---- the loop over the locals
 
@@ -65,13 +71,12 @@ module _ (old : List Declaration) (xs : List Variable) (i : ℕ) (k : List Decla
 abbrev pub AreBoundSoFar : ℕ → List Variable → ℕ → List Binding → Type 0
 AreBoundSoFar n xs i bs = bs ++ new_bindings (n + i) (drop i xs) ≡ new_bindings n xs
 
-pub next_bound : (n : ℕ) (xs : List Variable) (i : ℕ) (bs : List Binding) → AreBoundSoFar n xs i bs → (x : Variable) → item_at xs i ≡ Some x → (m : ℕ) → m ≡ x.number →
-    (v : ℕ) → v ≡ n + i → (image : Term) → image ≡ variable_of_sort x.sort v → (next : List Binding) → next ≡ bs ++ (record { number = m; term = atom_of image } ∷ []) → AreBoundSoFar n xs (i + 1) next
-next_bound n xs i bs so_far x listed m is_m v is_v image is_image next e =
-    let one : Binding = record { number = x.number; term = atom_of_variable (record { sort = x.sort; number = n + i }) } in
+pub next_bound : (n : ℕ) (xs : List Variable) (i : ℕ) (bs : List Binding) → AreBoundSoFar n xs i bs → (x : Variable) → item_at xs i ≡ Some x →
+    (v : ℕ) → v ≡ n + i → (image : Term) → image ≡ variable_of_sort x.sort v → (next : List Binding) → next ≡ bs ++ (record { variable = x; term = image } ∷ []) → AreBoundSoFar n xs (i + 1) next
+next_bound n xs i bs so_far x listed v is_v image is_image next e =
+    let one : Binding = record { variable = x; term = variable_of_sort x.sort (n + i) } in
     let same : next ≡ bs ++ (one ∷ []) =
-    e ∙ ap₂ (λ (k : ℕ) t. bs ++ (record { number = k; term = t } ∷ [])) is_m
-    (ap atom_of is_image ∙ ap (λ (k : ℕ). atom_of_variable (record { sort = x.sort; number = k })) is_v) in
+    e ∙ ap (λ (t : Term). bs ++ (record { variable = x; term = t } ∷ [])) (is_image ∙ ap (variable_of_sort x.sort) is_v) in
     let sum : n + (i + 1) ≡ suc (n + i) = omega arith in
     let rest : new_bindings (n + i) (drop i xs) ≡ one ∷ new_bindings (n + (i + 1)) (drop (i + 1) xs) =
     ap (new_bindings (n + i)) (drop_of_item xs i x listed)

@@ -1,8 +1,21 @@
 -- Terms that could equal another.
 use Rattle.std.specs.Prelude.{Bool, true, false, nat_eq}
 use Rattle.std.specs.Cmp.Lexicographic.{pointwise}
-use Rattle.cp_model.specs.Term.{Term, tag_term, atom_term, pair_term, enc_term}
-use Rattle.cp_unify.specs.Matched.{is_same_sort}
+use Rattle.cp_model.specs.Term.{KeyTerm, symmetric_term, asymmetric_term, AtomTerm, text_variable, datum_variable, name_variable, key_term, Term, tag_term, atom_term, pair_term, enc_term}
+
+-- Two keys have the same sort.
+abbrev pub is_same_key_sort : KeyTerm → KeyTerm → Bool
+is_same_key_sort (symmetric_term k) (symmetric_term j) = true
+is_same_key_sort (asymmetric_term f k) (asymmetric_term g j) = true
+is_same_key_sort _ _ = false
+
+-- Two terms of atom sorts have the same sort.
+abbrev pub is_same_sort : AtomTerm → AtomTerm → Bool
+is_same_sort (text_variable m) (text_variable n) = true
+is_same_sort (datum_variable m) (datum_variable n) = true
+is_same_sort (name_variable m) (name_variable n) = true
+is_same_sort (key_term k) (key_term j) = is_same_key_sort k j
+is_same_sort _ _ = false
 
 -- Some values could make the two terms one: both are tags, of the same text; or atoms, of the same sort; or pairs; or
 -- encryptions.

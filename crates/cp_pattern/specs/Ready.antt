@@ -2,18 +2,18 @@
 use Rattle.std.specs.Prelude.{◌≡◌, ◌↔◌, List, [], ◌∷◌}
 use Rattle.cp_lists.specs.Lists.{IsIn}
 use Rattle.cp_model.specs.Senders.{ArePaired}
-use Rattle.cp_model.specs.Term.{Term, atom_term, variable_term, Substitution, apply_to}
+use Rattle.cp_model.specs.Term.{Term, variable_term, Substitution, apply_to}
 use Rattle.cp_model.specs.declared.variable.Variable.{Variable}
 use Rattle.cp_model.specs.Tree.{Pattern}
 use Rattle.cp_unify.specs.Beside.{Agrees}
-use Rattle.cp_unify.specs.Bindings.{Binding, variable_of}
+use Rattle.cp_unify.specs.Bindings.{Binding}
 use Rattle.cp_theory.specs.Matches.{IsFreeIn, Matches}
 use Rattle.cp_pattern.specs.declared.pattern_matches.Ready.{Ready}
 
 -- The substitution gives the variable of each binding its term, but for these variables.
 abbrev pub AgreesBut : List Variable → Substitution → List Binding → Type 0
 AgreesBut locals f [] = Unit {0}
-AgreesBut locals f (b ∷ bs) = ((IsIn (variable_of b) locals → ⊥) → apply_to f (variable_term (variable_of b)) ≡ atom_term b.term) × AgreesBut locals f bs
+AgreesBut locals f (b ∷ bs) = ((IsIn b.variable locals → ⊥) → apply_to f (variable_term b.variable) ≡ b.term) × AgreesBut locals f bs
 
 -- f gives the variables of the pattern that are not local what s says of them.
 abbrev pub AgreesOnFree : Pattern → Substitution → Substitution → Type 0

@@ -1,7 +1,6 @@
 // Tests whether patterns guard a test.
 ghost use Rattle.std.specs.Prelude.{◌↔◌, IsTrue, IfOk};
 ghost use Rattle.cp_theory.specs.Guards.{Guards};
-ghost use Rattle.cp_skel.specs.View.{skeleton_view};
 
 use crate::pattern::all_may_guard;
 use crate::sent::send_inside_alone;
@@ -21,7 +20,7 @@ pub fn is_guarded(
     critical: &Term,
     patterns: &[Pattern],
 ) -> Result<bool, AllocError>
-    ensures { IfOk result (λ answer. IsTrue answer ↔ Guards patterns.now (skeleton_view k.now) node critical.now) }
+    ensures { IfOk result (λ answer. IsTrue answer ↔ Guards patterns.now k.now node critical.now) }
 {
     let used = used_in(alloc, k)?;
     if !all_within(&used, &[], critical) {

@@ -1,7 +1,7 @@
 // Opens patterns: replaces their locals by new variables.
 ghost use Rattle.std.specs.Prelude.{◌≡◌, ◌++◌, [], ◌∷◌, length, take, IfOk, OnOk, OnErr};
 ghost use Rattle.cp_lists.specs.Lists.{item_at};
-ghost use Rattle.cp_skel.specs.View.{skeleton_view};
+ghost use Rattle.cp_skel.specs.Tables.{DiffersInTable};
 ghost use Rattle.cp_unify.specs.Bindings.{as_substitution};
 ghost use Rattle.cp_pattern.specs.Opened.{opened_pattern, identifier_or_x, declared_after, declared_as, new_bindings, HasDeclared};
 
@@ -35,7 +35,7 @@ fn declare_for(
     ensures later { IfOk result (λ v. v ≡ length k.old.variables) }
     ensures declared { OnOk result (k.new.variables ≡ k.old.variables
         ++ declared_after (take count k.old.variables) local ∷ []) }
-    ensures kept { skeleton_view k.new ≡ skeleton_view k.old }
+    ensures kept { DiffersInTable k.old k.new }
     ensures unchanged { OnErr result (k.new.variables ≡ k.old.variables) }
 {
     let root = Text::new(alloc, root_for(k.variables(), count, local.number))?;
@@ -52,14 +52,14 @@ fn declare_locals(
     ensures declared { OnOk result (k.new.variables
         ≡ k.old.variables ++ declared_as k.old.variables pattern.now.locals) }
     ensures grown { HasDeclared k.old.variables pattern.now.locals k.new.variables }
-    ensures kept { skeleton_view k.new ≡ skeleton_view k.old }
+    ensures kept { DiffersInTable k.old k.new }
 {
     let count = k.variables().len();
     let mut bindings = Vec::new(alloc);
     for local in pattern.locals() {
         let variable = declare_for(alloc, *local, count, k)?;
         let image = var(alloc, variable, local.sort)?;
-        bindings.push(Binding::new(VarId::numbered(local.number), image))?;
+        bindings.push(Binding::new(*local, image))?;
     }
     Ok(bindings)
 }
@@ -90,7 +90,7 @@ pub fn open_pattern(
     ensures declared { OnOk result (k.new.variables
         ≡ k.old.variables ++ declared_as k.old.variables pattern.now.locals) }
     ensures grown { HasDeclared k.old.variables pattern.now.locals k.new.variables }
-    ensures rest { skeleton_view k.new ≡ skeleton_view k.old }
+    ensures rest { DiffersInTable k.old k.new }
 {
     let bindings = declare_locals(alloc, pattern, k)?;
     let from = from.copy(alloc)?;

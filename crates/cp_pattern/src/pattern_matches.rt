@@ -4,7 +4,7 @@ ghost use Rattle.cp_model.specs.Term.{Substitution};
 ghost use Rattle.cp_model.specs.Tree.{Pattern as Plain};
 ghost use Rattle.cp_unify.specs.Beside.{Agrees};
 ghost use Rattle.cp_model.specs.Same.{has_variable};
-ghost use Rattle.cp_unify.specs.Bindings.{variable_of, as_substitution};
+ghost use Rattle.cp_unify.specs.Bindings.{as_substitution};
 ghost use Rattle.cp_theory.specs.Matches.{Matches};
 ghost use Rattle.cp_pattern.specs.Ready.{AgreesBut, AgreesOnFree, IsReadyFor, AreReadyFor, HasMatch};
 
@@ -23,13 +23,9 @@ pub(crate) struct Ready {
 
 /// Whether the binding is of one of these variables.
 fn is_of_local(binding: &Binding, locals: &[Variable]) -> bool
-    ensures { result ≡ has_variable locals.now (variable_of binding.now) }
+    ensures { result ≡ has_variable locals.now binding.now.variable }
 {
-    let variable = Variable {
-        sort: binding.sort(),
-        number: binding.variable().number(),
-    };
-    has_variable(locals, variable)
+    has_variable(locals, binding.variable())
 }
 
 /// The bindings, except those of these variables.

@@ -1,7 +1,6 @@
 // Transmissions of role strands before a node.
 ghost use Rattle.std.specs.Prelude.{◌≡◌, ◌↔◌, IsTrue, IfOk};
 ghost use Rattle.cp_model.specs.Skeleton.{IsNodeOf};
-ghost use Rattle.cp_skel.specs.View.{skeleton_view};
 ghost use Rattle.cp_pattern.specs.Sent.{IsGuardedAt, SendInsideAlone};
 
 use crate::first_outside;
@@ -22,9 +21,9 @@ fn is_guarded_at(
     patterns: &[Pattern],
     occurrence: &LocatedEvent,
 ) -> Result<bool, AllocError>
-    requires there { IsNodeOf (skeleton_view k.now).strands node }
-    requires gathered { leading.now ≡ record { pairs = k.now.order; node = node } }
-    ensures { IfOk result (λ answer. IsTrue answer ↔ IsGuardedAt patterns.now (skeleton_view k.now) node critical.now occurrence.now) }
+    requires there { IsNodeOf k.now.strands node }
+    requires gathered { leading.now ≡ record { pairs = k.now.pairs; node = node } }
+    ensures { IfOk result (λ answer. IsTrue answer ↔ IsGuardedAt patterns.now k.now node critical.now occurrence.now) }
 {
     let Event::Send(message) = &occurrence.event else {
         return Ok(true);
@@ -41,7 +40,7 @@ fn is_guarded_at(
 
 /// Whether there is an event at the node.
 fn is_there(alloc: Global, k: &Skeleton, node: Node) -> Result<bool, AllocError>
-    ensures { IfOk result (λ there. IsTrue there ↔ IsNodeOf (skeleton_view k.now).strands node) }
+    ensures { IfOk result (λ there. IsTrue there ↔ IsNodeOf k.now.strands node) }
 {
     match event_at(alloc, k, node)? {
         Some(_) => Ok(true),
@@ -57,7 +56,7 @@ pub(crate) fn send_inside_alone(
     critical: &Term,
     patterns: &[Pattern],
 ) -> Result<bool, AllocError>
-    ensures { IfOk result (λ answer. IsTrue answer ↔ SendInsideAlone patterns.now (skeleton_view k.now) node critical.now) }
+    ensures { IfOk result (λ answer. IsTrue answer ↔ SendInsideAlone patterns.now k.now node critical.now) }
 {
     k.is_sound();
     if !is_there(alloc, k, node)? {

@@ -2,7 +2,6 @@
 ghost use Rattle.std.specs.Prelude.{◌≡◌, ◌↔◌, IsTrue, IfOk};
 ghost use Rattle.cp_theory.specs.Critical.{IsTest};
 ghost use Rattle.cp_model.specs.Skeleton.{term_event_at};
-ghost use Rattle.cp_skel.specs.View.{skeleton_view};
 ghost use Rattle.cp_pattern.specs.HeardTerms.{IsReceivedComponentAt};
 
 use crate::component::is_component;
@@ -13,7 +12,7 @@ use std::alloc::{AllocError, Global};
 
 /// The event at a node, if there is one.
 pub(crate) fn event_at(alloc: Global, k: &Skeleton, node: Node) -> Result<Option<Event>, AllocError>
-    ensures { IfOk result (λ e. e ≡ term_event_at (skeleton_view k.now).strands node) }
+    ensures { IfOk result (λ e. e ≡ term_event_at k.now.strands node) }
 {
     match k.strands().get(node.strand) {
         Some(strand) => strand.event(alloc, node.index),
@@ -23,7 +22,7 @@ pub(crate) fn event_at(alloc: Global, k: &Skeleton, node: Node) -> Result<Option
 
 /// Whether the node receives a message of which the term is a component.
 fn is_heard(alloc: Global, k: &Skeleton, node: Node, term: &Term) -> Result<bool, AllocError>
-    ensures { IfOk result (λ answer. IsTrue answer ↔ IsReceivedComponentAt (skeleton_view k.now) node term.now) }
+    ensures { IfOk result (λ answer. IsTrue answer ↔ IsReceivedComponentAt k.now node term.now) }
 {
     match event_at(alloc, k, node)? {
         Some(Event::Receive(message)) => Ok(is_component(term, &message)),
@@ -34,7 +33,7 @@ fn is_heard(alloc: Global, k: &Skeleton, node: Node, term: &Term) -> Result<bool
 /// Whether the term is a test at the node of the skeleton: it is a component of the message received there, and not derivable
 /// there.
 pub fn is_test(alloc: Global, k: &Skeleton, node: Node, critical: &Term) -> Result<bool, AllocError>
-    ensures { IfOk result (λ answer. IsTrue answer ↔ IsTest (skeleton_view k.now) node critical.now) }
+    ensures { IfOk result (λ answer. IsTrue answer ↔ IsTest k.now node critical.now) }
 {
     if !is_heard(alloc, k, node, critical)? {
         return Ok(false);

@@ -2,10 +2,9 @@
 ghost use Rattle.std.specs.Prelude.{◌≡◌, ◌++◌, IfOk, OnOk};
 ghost use Rattle.cp_theory.specs.Normal.{variables_of_terms};
 ghost use Rattle.cp_theory.specs.Critical.{used_variables};
-ghost use Rattle.cp_model.specs.Problem.{variables_of_atoms, variables_of_uniques, variables_of_strands};
+ghost use Rattle.cp_model.specs.Problem.{variables_of_atoms, variables_of_uniques};
 ghost use Rattle.cp_model.specs.Strand.{variables_of_trace};
 ghost use Rattle.cp_model.specs.Term.{variables_of};
-ghost use Rattle.cp_skel.specs.View.{skeleton_view};
 ghost use Rattle.cp_pattern.specs.Within.{variables_of_occurrences};
 
 use cp_skel::{Atom, Event, LocatedEvent, Skeleton, UniqueAt};
@@ -64,7 +63,7 @@ fn add_messages(occurrences: &[LocatedEvent], events: &mut Vec<Event>) -> Result
 /// Transmissions of all terms in which the skeleton uses variables: its messages, the values of its assumptions, and the values
 /// of its problem's variables.
 pub(crate) fn used_in(alloc: Global, k: &Skeleton) -> Result<Vec<Event>, AllocError>
-    ensures { IfOk result (λ es. variables_of_trace es.items ≡ used_variables (skeleton_view k.now)) }
+    ensures { IfOk result (λ es. variables_of_trace es.items ≡ used_variables k.now) }
 {
     let mut events = Vec::new(alloc);
     let occurrences = k.events(alloc)?;

@@ -1,5 +1,5 @@
 -- The nodes of a strand, counted.
-use Rattle.std.proofs.Common.{◌≡◌, ℕ, suc, ◌+◌, ◌-◌, ◌<◌, List, [], ◌∷◌, ◌++◌, length, map, drop, get_or, sym, ap, ◌∙◌, append_assoc, arith}
+use Rattle.std.proofs.Common.{◌≡◌, ℕ, suc, ◌+◌, ◌-◌, ◌<◌, List, [], ◌∷◌, ◌++◌, length, drop, get_or, sym, ap, ◌∙◌, append_assoc, arith}
 use Rattle.std.proofs.lemmas.List.{drop_more}
 use Rattle.cp_model.specs.Bundle.{node_at}
 use Rattle.cp_model.specs.declared.node.Node.{Node}
@@ -23,17 +23,17 @@ counted_next s i n now more whole within push before =
     ∙ before
 
 -- the nodes of one strand are put behind those of the strands before it
-pub strand_next : {X : Type 0} (f : X → SkeletonStrand) (n count : ℕ) (strands : List X) (x : X) (now more whole : List Node) → n < length strands → x ≡ get_or strands n x → count ≡ length (skeleton_trace (f x)) → more ≡ now ++ nodes_counted n 0 count
-    → now ++ nodes_from n (map f (drop n strands)) ≡ whole → more ++ nodes_from (n + 1) (map f (drop (n + 1) strands)) ≡ whole
-strand_next f n count strands x now more whole within is counted put before =
+pub strand_next : (n count : ℕ) (strands : List SkeletonStrand) (x : SkeletonStrand) (now more whole : List Node) → n < length strands → x ≡ get_or strands n x → count ≡ length (skeleton_trace x) → more ≡ now ++ nodes_counted n 0 count
+    → now ++ nodes_from n (drop n strands) ≡ whole → more ++ nodes_from (n + 1) (drop (n + 1) strands) ≡ whole
+strand_next n count strands x now more whole within is counted put before =
     let next : suc n ≡ n + 1 = omega arith in
     let split : drop n strands ≡ x ∷ drop (n + 1) strands = drop_more strands n x within ∙ ap (λ y. y ∷ drop (n + 1) strands) (sym is) in
-    let here : nodes_on n 0 (skeleton_trace (f x)) ≡ nodes_counted n 0 count = nodes_are n 0 (skeleton_trace (f x)) ∙ ap (nodes_counted n 0) (sym counted) in
-    let whole_now : nodes_from n (map f (drop n strands)) ≡ nodes_counted n 0 count ++ nodes_from (n + 1) (map f (drop (n + 1) strands)) =
-    ap (λ ks. nodes_from n (map f ks)) split
-    ∙ ap (λ ns. ns ++ nodes_from (suc n) (map f (drop (n + 1) strands))) here
-    ∙ ap (λ k. nodes_counted n 0 count ++ nodes_from k (map f (drop (n + 1) strands))) next in
-    ap (λ ns. ns ++ nodes_from (n + 1) (map f (drop (n + 1) strands))) put
-    ∙ append_assoc now (nodes_counted n 0 count) (nodes_from (n + 1) (map f (drop (n + 1) strands)))
+    let here : nodes_on n 0 (skeleton_trace x) ≡ nodes_counted n 0 count = nodes_are n 0 (skeleton_trace x) ∙ ap (nodes_counted n 0) (sym counted) in
+    let whole_now : nodes_from n (drop n strands) ≡ nodes_counted n 0 count ++ nodes_from (n + 1) (drop (n + 1) strands) =
+    ap (nodes_from n) split
+    ∙ ap (λ ns. ns ++ nodes_from (suc n) (drop (n + 1) strands)) here
+    ∙ ap (λ k. nodes_counted n 0 count ++ nodes_from k (drop (n + 1) strands)) next in
+    ap (λ ns. ns ++ nodes_from (n + 1) (drop (n + 1) strands)) put
+    ∙ append_assoc now (nodes_counted n 0 count) (nodes_from (n + 1) (drop (n + 1) strands))
     ∙ ap (λ ns. now ++ ns) (sym whole_now)
     ∙ before

@@ -32,8 +32,8 @@ module _ (of_problem : List (List ℕ)) (l : Label) where
       ++ mark_items l.mark
 
   pub label_whole : (n : ℕ) (names : List (List ℕ)) (vars first second third fourth : List Form) (f : Form)
-      → names ≡ label_names of_problem (occurring l) l.variables
-      → vars ≡ vars_from (label_names of_problem (occurring l) l.variables) (occurring l) 0 l.variables
+      → names ≡ label_names of_problem (occurring l) l.skeleton.variables
+      → vars ≡ vars_from (label_names of_problem (occurring l) l.skeleton.variables) (occurring l) 0 l.skeleton.variables
       → first ≡ numeral n ∷ []
       → second ≡ strand_part names vars first
       → third ≡ assumption_part names second
@@ -41,8 +41,8 @@ module _ (of_problem : List (List ℕ)) (l : Label) where
       → f ≡ headed_list (codes "label") fourth
       → f ≡ label_form of_problem n l
   label_whole n names vars first second third fourth f e v a b c d g =
-      let named = label_names of_problem (occurring l) l.variables in
-      let all = vars_from named (occurring l) 0 l.variables in
+      let named = label_names of_problem (occurring l) l.skeleton.variables in
+      let all = vars_from named (occurring l) 0 l.skeleton.variables in
       let second-is : second ≡ strand_part named all (numeral n ∷ []) =
       b ∙ ap (strand_part names vars) a ∙ ap₂ (λ (xs : List (List ℕ)) (vs : List Form). strand_part xs vs (numeral n ∷ [])) e v in
       let third-is : third ≡ assumption_part named (strand_part named all (numeral n ∷ [])) =

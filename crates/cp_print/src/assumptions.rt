@@ -5,7 +5,6 @@ ghost use Rattle.cp_language.specs.Report.{named_by, unique_form, value_forms, m
 ghost use Rattle.cp_model.specs.declared.variable.Variable.{Variable};
 ghost use Rattle.cp_sexpr.specs.Syntax.{Form as Plain};
 ghost use Rattle.cp_sexpr.specs.View.{view};
-ghost use Rattle.cp_skel.specs.View.{skeleton_view};
 ghost use Rattle.cp_print.specs.Named.{named_in};
 
 use crate::items::{node_form, numerals};
@@ -99,7 +98,7 @@ pub(crate) fn map_form(
     of_problem: &[Text],
     skeleton: &Skeleton,
 ) -> Result<Form, AllocError>
-    ensures { IfOk result (λ f. view f ≡ map_form (named_in naming.now) of_problem.now (skeleton_view skeleton.now)) }
+    ensures { IfOk result (λ f. view f ≡ map_form (named_in naming.now) of_problem.now skeleton.now) }
 {
     let way = skeleton.from_problem();
     let strands = plain_list(numerals(alloc, way.strands())?);

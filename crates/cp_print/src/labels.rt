@@ -4,9 +4,6 @@ ghost use Rattle.cp_language.specs.Printed.{headed_list, numeral, atom_form, pat
 ghost use Rattle.cp_language.specs.Report.{named_by, item_unless_empty, parent_items, operation_words, strand_form, covering_pairs, unique_form, map_form, node_form, test_items, mark_items, label_form};
 ghost use Rattle.cp_model.specs.Given.{listed};
 ghost use Rattle.cp_sexpr.specs.View.{view};
-ghost use Rattle.cp_skel.specs.Trees.{label_view};
-ghost use Rattle.cp_strand.specs.View.{strand_view};
-ghost use Rattle.cp_skel.specs.View.{skeleton_view};
 ghost use Rattle.cp_print.specs.Named.{named_in};
 
 use crate::assumptions::{add_test, forms_of, map_form, pattern_forms};
@@ -17,7 +14,7 @@ use crate::strands::{add_strand_forms, vars};
 use crate::variable_names::Naming;
 use cp_names::variables_of_label;
 use cp_sexpr::Form;
-use cp_skel::{Skeleton, TreeNode, listed};
+use cp_skel::{Label, Skeleton, listed};
 use cp_term::Text;
 use std::alloc::{AllocError, Global};
 
@@ -26,14 +23,14 @@ fn add_strand_items(
     alloc: Global,
     naming: &Naming<'_>,
     vars: Vec<Form>,
-    label: &TreeNode,
+    label: &Label,
     items: &mut Vec<Form>,
 ) -> Result<(), AllocError>
     ensures { OnOk result (map view items.new.items ≡ map view items.old.items
         ++ parent_items label.now.parent
         ++ headed_list (codes "by") (operation_words label.now.operation) ∷ []
         ++ item_unless_empty (codes "vars") (map view vars.items)
-        ++ map (strand_form (named_in naming.now)) (map strand_view label.now.skeleton.strands)) }
+        ++ map (strand_form (named_in naming.now)) label.now.skeleton.strands) }
 {
     add_parent(alloc, label.parent, items)?;
     let operation = operation_words(alloc, &label.operation)?;
@@ -50,10 +47,10 @@ fn add_assumption_items(
     items: &mut Vec<Form>,
 ) -> Result<(), AllocError>
     ensures { OnOk result (map view items.new.items ≡ map view items.old.items
-        ++ item_unless_empty (codes "precedes") (covering_pairs (skeleton_view skeleton.now))
-        ++ item_unless_empty (codes "non-orig") (map (atom_form (named_in naming.now)) (listed (skeleton_view skeleton.now)).non_originating)
-        ++ item_unless_empty (codes "pen-non-orig") (map (atom_form (named_in naming.now)) (listed (skeleton_view skeleton.now)).penetrator_non_originating)
-        ++ item_unless_empty (codes "uniq-orig") (map (unique_form (named_in naming.now)) (listed (skeleton_view skeleton.now)).uniquely_originating)) }
+        ++ item_unless_empty (codes "precedes") (covering_pairs skeleton.now)
+        ++ item_unless_empty (codes "non-orig") (map (atom_form (named_in naming.now)) (listed skeleton.now).non_originating)
+        ++ item_unless_empty (codes "pen-non-orig") (map (atom_form (named_in naming.now)) (listed skeleton.now).penetrator_non_originating)
+        ++ item_unless_empty (codes "uniq-orig") (map (unique_form (named_in naming.now)) (listed skeleton.now).uniquely_originating)) }
 {
     let assumptions = listed(alloc, skeleton)?;
     let precedes = covering_pairs(alloc, skeleton)?;
@@ -71,14 +68,14 @@ fn add_result_items(
     alloc: Global,
     naming: &Naming<'_>,
     of_problem: &[Text],
-    label: &TreeNode,
+    label: &Label,
     items: &mut Vec<Form>,
 ) -> Result<(), AllocError>
     ensures { OnOk result (map view items.new.items ≡ map view items.old.items
-        ++ map_form (named_in naming.now) of_problem.now (skeleton_view label.now.skeleton) ∷ []
+        ++ map_form (named_in naming.now) of_problem.now label.now.skeleton ∷ []
         ++ item_unless_empty (codes "unrealised") (map node_form label.now.unrealised)
         ++ test_items (named_in naming.now) label.now.test
-        ++ item_unless_empty (codes "escape") (map (pattern_form (named_by naming.now.names.now)) label.now.patterns)
+        ++ item_unless_empty (codes "escape") (map (pattern_form (named_by naming.now.names.now)) label.now.escape)
         ++ item_unless_empty (codes "children") (map numeral label.now.children)
         ++ mark_items label.now.mark) }
 {
@@ -86,7 +83,7 @@ fn add_result_items(
     let unrealised = node_forms(alloc, label.unrealised.as_slice())?;
     add_unless_empty(alloc, "unrealised", unrealised, items)?;
     add_test(alloc, naming, &label.test, items)?;
-    let escape = pattern_forms(alloc, naming.names, label.patterns.as_slice())?;
+    let escape = pattern_forms(alloc, naming.names, label.escape.as_slice())?;
     add_unless_empty(alloc, "escape", escape, items)?;
     let children = numerals(alloc, label.children.as_slice())?;
     add_unless_empty(alloc, "children", children, items)?;
@@ -101,9 +98,9 @@ pub(crate) fn label_form(
     alloc: Global,
     of_problem: &[Text],
     number: usize,
-    label: &TreeNode,
+    label: &Label,
 ) -> Result<Form, AllocError>
-    ensures { IfOk result (λ f. view f ≡ label_form of_problem.now number (label_view label.now)) }
+    ensures { IfOk result (λ f. view f ≡ label_form of_problem.now number label.now) }
 {
     let variables = variables_of_label(alloc, of_problem, label)?;
     let vars = vars(

@@ -6,8 +6,6 @@ ghost use Rattle.cp_model.specs.Same.{same_node};
 ghost use Rattle.cp_model.specs.Skeleton.{skeleton_trace};
 ghost use Rattle.cp_sexpr.specs.View.{view};
 ghost use Rattle.cp_print.specs.Order.{nodes_counted, ordered_view, flags_before, in_order, any_between, covers, covered, all_covered, is_on_pair, is_on_pairs, nodes_on_pairs};
-ghost use Rattle.cp_strand.specs.View.{strand_view};
-ghost use Rattle.cp_skel.specs.View.{skeleton_view};
 
 use crate::items::node_form;
 use crate::makers::{plain_list, two};
@@ -119,7 +117,7 @@ fn add_covered(
 /// How many events a strand has.
 #[tactic(auto, using(crate::proofs::CoveringPairs::lengths))]
 fn length_of(strand: &Strand) -> usize
-    ensures { result ≡ length (skeleton_trace (strand_view strand.now)) }
+    ensures { result ≡ length (skeleton_trace strand.now) }
 {
     match strand.shape() {
         StrandShape::Instance(instance) => instance.height().min(instance.role().trace().len()),
@@ -140,7 +138,7 @@ fn add_nodes_on(strand: usize, count: usize, nodes: &mut Vec<Node>) -> Result<()
 /// The nodes of these strands, by strand and index.
 #[tactic(auto, using(crate::proofs::CoveringPairs::nodes_are))]
 fn nodes_of(alloc: Global, strands: &[Strand]) -> Result<Vec<Node>, AllocError>
-    ensures { IfOk result (λ nodes. nodes.items ≡ nodes_from 0 (map strand_view strands.now)) }
+    ensures { IfOk result (λ nodes. nodes.items ≡ nodes_from 0 strands.now) }
 {
     let mut nodes = Vec::new(alloc);
     for number in 0..strands.len() {
@@ -199,7 +197,7 @@ fn covered(alloc: Global, all: &[Ordered]) -> Result<Vec<Form>, AllocError>
 /// The covering pairs between different strands, by first node and then by second.
 #[tactic(auto, using(crate::proofs::NodesOnPairs::covered_on_pairs))]
 pub(crate) fn covering_pairs(alloc: Global, skeleton: &Skeleton) -> Result<Vec<Form>, AllocError>
-    ensures { IfOk result (λ fs. map view fs.items ≡ covering_pairs (skeleton_view skeleton.now)) }
+    ensures { IfOk result (λ fs. map view fs.items ≡ covering_pairs skeleton.now) }
 {
     let pairs = skeleton.order().pairs();
     if pairs.is_empty() {

@@ -1,13 +1,13 @@
 // The report.
-ghost use Rattle.std.specs.Prelude.{◌≡◌, ◌++◌, [], ◌∷◌, length, map, option_map, IfOk, OnOk, OnErr};
+ghost use Rattle.std.specs.Prelude.{◌≡◌, ◌++◌, [], ◌∷◌, length, map, IfOk, OnOk, OnErr};
+ghost use Rattle.cp_language.specs.Input.{form_of, stated};
 ghost use Rattle.cp_language.specs.Printed.{word, numeral};
 ghost use Rattle.cp_language.specs.Report.{status_form, report_forms, report_text, shape_count, text_of_forms};
 ghost use Rattle.cp_language.specs.ShapesText.{chosen_from, chosen_tree_forms, chosen_report_forms, chosen_text, shapes_forms, shapes_text};
-ghost use Rattle.cp_load.specs.Inputs.{problem_view, problem_in, input_entries};
+ghost use Rattle.cp_load.specs.Inputs.{problem_view, entry_view, input_entries};
 ghost use Rattle.cp_model.specs.Tree.{expanded_count};
 ghost use Rattle.cp_sexpr.specs.Spelling.{AppendsFront};
 ghost use Rattle.cp_sexpr.specs.View.{view};
-ghost use Rattle.cp_skel.specs.Trees.{label_view, tree_view};
 ghost use Rattle.cp_print.specs.Chosen.{chosen_by};
 ghost use Rattle.cp_print.specs.WrittenForms.{ends_from, HasAppendedForms, entry_forms, trees_behind};
 
@@ -17,7 +17,7 @@ use crate::makers::{headed_list, numeral, word};
 use cp_load::{Entry, Input, Problem};
 use cp_names::problem_names;
 use cp_sexpr::{Form, write_top};
-use cp_skel::{Mark, Tree, TreeNode};
+use cp_skel::{Label, Mark, Tree};
 use cp_term::Text;
 use std::alloc::{AllocError, Global};
 
@@ -29,8 +29,8 @@ enum Labels {
 }
 
 /// Whether the label is one of those that are printed.
-fn is_chosen(labels: Labels, label: &TreeNode) -> bool
-    ensures { result ≡ chosen_by labels (label_view label.now) }
+fn is_chosen(labels: Labels, label: &Label) -> bool
+    ensures { result ≡ chosen_by labels label.now }
 {
     match labels {
         Labels::All => true,
@@ -54,12 +54,12 @@ fn put_labels(
     alloc: Global,
     chosen: Labels,
     of_problem: &[Text],
-    labels: &[TreeNode],
+    labels: &[Label],
     out: &mut Vec<u8>,
     ends: &mut Vec<usize>,
 ) -> Result<(), AllocError>
-    ensures ok { OnOk result (HasAppendedForms out.old.items ends.old.items out.new.items ends.new.items (chosen_from (chosen_by chosen) of_problem.now 0 (map label_view labels.now))) }
-    ensures err { OnErr result (AppendsFront out.old.items out.new.items (text_of_forms (chosen_from (chosen_by chosen) of_problem.now 0 (map label_view labels.now)))) }
+    ensures ok { OnOk result (HasAppendedForms out.old.items ends.old.items out.new.items ends.new.items (chosen_from (chosen_by chosen) of_problem.now 0 labels.now)) }
+    ensures err { OnErr result (AppendsFront out.old.items out.new.items (text_of_forms (chosen_from (chosen_by chosen) of_problem.now 0 labels.now))) }
 {
     for number in 0..labels.len() {
         let label = &labels[number];
@@ -73,8 +73,8 @@ fn put_labels(
 }
 
 /// How many of the labels were expanded.
-fn expanded_count(labels: &[TreeNode]) -> usize
-    ensures { result ≡ expanded_count (map label_view labels.now) }
+fn expanded_count(labels: &[Label]) -> usize
+    ensures { result ≡ expanded_count labels.now }
 {
     let mut count = 0;
     for label in labels {
@@ -86,8 +86,8 @@ fn expanded_count(labels: &[TreeNode]) -> usize
 }
 
 /// How many of the labels are shapes.
-fn shape_count(labels: &[TreeNode]) -> usize
-    ensures { result ≡ shape_count (map label_view labels.now) }
+fn shape_count(labels: &[Label]) -> usize
+    ensures { result ≡ shape_count labels.now }
 {
     let mut count = 0;
     for label in labels {
@@ -114,12 +114,13 @@ fn add_count(
 
 /// The outcome, the number of labels, how many were expanded, and how many are shapes.
 fn status_form(alloc: Global, tree: &Tree) -> Result<Form, AllocError>
-    ensures { IfOk result (λ f. view f ≡ status_form (tree_view tree.now)) }
+    ensures { IfOk result (λ f. view f ≡ status_form tree.now) }
 {
+    let labels = tree.labels.as_slice();
     let mut words = outcome_words(alloc, tree.outcome)?;
-    add_count(alloc, "labels", tree.nodes.len(), &mut words)?;
-    add_count(alloc, "expanded", expanded_count(&tree.nodes), &mut words)?;
-    add_count(alloc, "shapes", shape_count(&tree.nodes), &mut words)?;
+    add_count(alloc, "labels", labels.len(), &mut words)?;
+    add_count(alloc, "expanded", expanded_count(labels), &mut words)?;
+    add_count(alloc, "shapes", shape_count(labels), &mut words)?;
     headed_list(alloc, "status", words)
 }
 
@@ -133,12 +134,12 @@ fn put_tree(
     out: &mut Vec<u8>,
     ends: &mut Vec<usize>,
 ) -> Result<(), AllocError>
-    ensures ok { OnOk result (HasAppendedForms out.old.items ends.old.items out.new.items ends.new.items (chosen_tree_forms (chosen_by chosen) (problem_view problem.now) (tree_view tree.now))) }
-    ensures err { OnErr result (AppendsFront out.old.items out.new.items (text_of_forms (chosen_tree_forms (chosen_by chosen) (problem_view problem.now) (tree_view tree.now)))) }
+    ensures ok { OnOk result (HasAppendedForms out.old.items ends.old.items out.new.items ends.new.items (chosen_tree_forms (chosen_by chosen) (problem_view problem.now) tree.now)) }
+    ensures err { OnErr result (AppendsFront out.old.items out.new.items (text_of_forms (chosen_tree_forms (chosen_by chosen) (problem_view problem.now) tree.now))) }
 {
     let names = problem_names(alloc, problem.declared, problem.skeleton.variables())?;
     let status = status_form(alloc, tree)?;
-    put_labels(alloc, chosen, &names, &tree.nodes, out, ends)?;
+    put_labels(alloc, chosen, &names, tree.labels.as_slice(), out, ends)?;
     put(&status, out, ends)?;
     Ok(())
 }
@@ -153,29 +154,29 @@ fn put_problem(
     out: &mut Vec<u8>,
     ends: &mut Vec<usize>,
 ) -> Result<(), AllocError>
-    ensures ok { OnOk result (HasAppendedForms out.old.items ends.old.items out.new.items ends.new.items (view form.now ∷ chosen_tree_forms (chosen_by chosen) (problem_view problem.now) (tree_view tree.now))) }
-    ensures err { OnErr result (AppendsFront out.old.items out.new.items (text_of_forms (view form.now ∷ chosen_tree_forms (chosen_by chosen) (problem_view problem.now) (tree_view tree.now)))) }
+    ensures ok { OnOk result (HasAppendedForms out.old.items ends.old.items out.new.items ends.new.items (view form.now ∷ chosen_tree_forms (chosen_by chosen) (problem_view problem.now) tree.now)) }
+    ensures err { OnErr result (AppendsFront out.old.items out.new.items (text_of_forms (view form.now ∷ chosen_tree_forms (chosen_by chosen) (problem_view problem.now) tree.now))) }
 {
     put(form, out, ends)?;
     put_tree(alloc, chosen, problem, tree, out, ends)?;
     Ok(())
 }
 
-/// Writes a form of the input and, after that of a problem, the first of these trees, if there is one. Returns the
+/// Writes the form of an entry and, if it states a problem, the first of these trees, if there is one. Returns the
 /// trees that follow.
 fn put_entry<'a>(
     alloc: Global,
     chosen: Labels,
-    form: &Form,
-    entry: &Entry,
+    entry: &Entry<'_>,
     trees: &'a [Tree],
     out: &mut Vec<u8>,
     ends: &mut Vec<usize>,
 ) -> Result<&'a [Tree], AllocError>
-    ensures ok { OnOk result (HasAppendedForms out.old.items ends.old.items out.new.items ends.new.items (entry_forms (chosen_by chosen) (view form.now) (option_map problem_view (problem_in entry.now)) (map tree_view trees.now))) }
-    ensures rest { IfOk result (λ rest. map tree_view rest.now ≡ trees_behind (option_map problem_view (problem_in entry.now)) (map tree_view trees.now)) }
-    ensures err { OnErr result (AppendsFront out.old.items out.new.items (text_of_forms (entry_forms (chosen_by chosen) (view form.now) (option_map problem_view (problem_in entry.now)) (map tree_view trees.now)))) }
+    ensures ok { OnOk result (HasAppendedForms out.old.items ends.old.items out.new.items ends.new.items (entry_forms (chosen_by chosen) (form_of (entry_view entry.now)) (stated (entry_view entry.now)) trees.now)) }
+    ensures rest { IfOk result (λ rest. rest.now ≡ trees_behind (stated (entry_view entry.now)) trees.now) }
+    ensures err { OnErr result (AppendsFront out.old.items out.new.items (text_of_forms (entry_forms (chosen_by chosen) (form_of (entry_view entry.now)) (stated (entry_view entry.now)) trees.now))) }
 {
+    let form = entry.form();
     let Some(problem) = entry.problem() else {
         put(form, out, ends)?;
         return Ok(trees);
@@ -197,21 +198,12 @@ fn put_report(
     out: &mut Vec<u8>,
     ends: &mut Vec<usize>,
 ) -> Result<(), AllocError>
-    ensures ok { OnOk result (HasAppendedForms out.old.items ends.old.items out.new.items ends.new.items (chosen_report_forms (chosen_by chosen) (input_entries input.now) (map tree_view trees.now))) }
-    ensures err { OnErr result (AppendsFront out.old.items out.new.items (chosen_text (chosen_by chosen) (input_entries input.now) (map tree_view trees.now))) }
+    ensures ok { OnOk result (HasAppendedForms out.old.items ends.old.items out.new.items ends.new.items (chosen_report_forms (chosen_by chosen) (input_entries input.now) trees.now)) }
+    ensures err { OnErr result (AppendsFront out.old.items out.new.items (chosen_text (chosen_by chosen) (input_entries input.now) trees.now)) }
 {
-    let forms = input.forms;
     let mut rest = trees;
-    for number in 0..forms.len().min(input.entries.len()) {
-        rest = put_entry(
-            alloc,
-            chosen,
-            &forms[number],
-            &input.entries[number],
-            rest,
-            out,
-            ends,
-        )?;
+    for entry in &input.entries {
+        rest = put_entry(alloc, chosen, entry, rest, out, ends)?;
     }
     Ok(())
 }
@@ -226,9 +218,9 @@ pub fn print_pieces(
     out: &mut Vec<u8>,
     ends: &mut Vec<usize>,
 ) -> Result<(), AllocError>
-    ensures ok { OnOk result (out.new.items ≡ out.old.items ++ report_text (input_entries input.now) (map tree_view trees.now)) }
-    ensures ends { OnOk result (ends.new.items ≡ ends.old.items ++ ends_from (length out.old.items) (report_forms (input_entries input.now) (map tree_view trees.now))) }
-    ensures err { OnErr result (AppendsFront out.old.items out.new.items (report_text (input_entries input.now) (map tree_view trees.now))) }
+    ensures ok { OnOk result (out.new.items ≡ out.old.items ++ report_text (input_entries input.now) trees.now) }
+    ensures ends { OnOk result (ends.new.items ≡ ends.old.items ++ ends_from (length out.old.items) (report_forms (input_entries input.now) trees.now)) }
+    ensures err { OnErr result (AppendsFront out.old.items out.new.items (report_text (input_entries input.now) trees.now)) }
 {
     put_report(alloc, Labels::All, input, trees, out, ends)
 }
@@ -241,8 +233,8 @@ pub fn print(
     trees: &[Tree],
     out: &mut Vec<u8>,
 ) -> Result<(), AllocError>
-    ensures ok { OnOk result (out.new.items ≡ out.old.items ++ report_text (input_entries input.now) (map tree_view trees.now)) }
-    ensures err { OnErr result (AppendsFront out.old.items out.new.items (report_text (input_entries input.now) (map tree_view trees.now))) }
+    ensures ok { OnOk result (out.new.items ≡ out.old.items ++ report_text (input_entries input.now) trees.now) }
+    ensures err { OnErr result (AppendsFront out.old.items out.new.items (report_text (input_entries input.now) trees.now)) }
 {
     let mut ends = Vec::new(alloc);
     print_pieces(alloc, input, trees, out, &mut ends)?;
@@ -259,9 +251,9 @@ pub fn print_shape_pieces(
     out: &mut Vec<u8>,
     ends: &mut Vec<usize>,
 ) -> Result<(), AllocError>
-    ensures ok { OnOk result (out.new.items ≡ out.old.items ++ shapes_text (input_entries input.now) (map tree_view trees.now)) }
-    ensures ends { OnOk result (ends.new.items ≡ ends.old.items ++ ends_from (length out.old.items) (shapes_forms (input_entries input.now) (map tree_view trees.now))) }
-    ensures err { OnErr result (AppendsFront out.old.items out.new.items (shapes_text (input_entries input.now) (map tree_view trees.now))) }
+    ensures ok { OnOk result (out.new.items ≡ out.old.items ++ shapes_text (input_entries input.now) trees.now) }
+    ensures ends { OnOk result (ends.new.items ≡ ends.old.items ++ ends_from (length out.old.items) (shapes_forms (input_entries input.now) trees.now)) }
+    ensures err { OnErr result (AppendsFront out.old.items out.new.items (shapes_text (input_entries input.now) trees.now)) }
 {
     put_report(alloc, Labels::Shapes, input, trees, out, ends)
 }
@@ -274,8 +266,8 @@ pub fn print_shapes(
     trees: &[Tree],
     out: &mut Vec<u8>,
 ) -> Result<(), AllocError>
-    ensures ok { OnOk result (out.new.items ≡ out.old.items ++ shapes_text (input_entries input.now) (map tree_view trees.now)) }
-    ensures err { OnErr result (AppendsFront out.old.items out.new.items (shapes_text (input_entries input.now) (map tree_view trees.now))) }
+    ensures ok { OnOk result (out.new.items ≡ out.old.items ++ shapes_text (input_entries input.now) trees.now) }
+    ensures err { OnErr result (AppendsFront out.old.items out.new.items (shapes_text (input_entries input.now) trees.now)) }
 {
     let mut ends = Vec::new(alloc);
     print_shape_pieces(alloc, input, trees, out, &mut ends)?;

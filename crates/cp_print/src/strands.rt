@@ -6,7 +6,7 @@ ghost use Rattle.cp_language.specs.Names.{sort_text};
 ghost use Rattle.cp_language.specs.Printed.{variable, word, plain_list, term_form};
 ghost use Rattle.cp_language.specs.Report.{strand_form};
 ghost use Rattle.cp_sexpr.specs.View.{view};
-ghost use Rattle.cp_strand.specs.View.{strand_view, instance_view};
+ghost use Rattle.cp_strand.specs.View.{instance_view};
 ghost use Rattle.cp_print.specs.MarkedForms.{vars_by, maplets_by};
 ghost use Rattle.cp_print.specs.Named.{named_in};
 
@@ -126,7 +126,7 @@ fn instance_form(
 
 /// A strand as a form.
 fn strand_form(alloc: Global, naming: &Naming<'_>, strand: &Strand) -> Result<Form, AllocError>
-    ensures { IfOk result (λ f. view f ≡ strand_form (named_in naming.now) (strand_view strand.now)) }
+    ensures { IfOk result (λ f. view f ≡ strand_form (named_in naming.now) strand.now) }
 {
     match strand.shape() {
         StrandShape::Instance(instance) => instance_form(alloc, naming, instance),
@@ -144,7 +144,7 @@ pub(crate) fn add_strand_forms(
     strands: &[Strand],
     items: &mut Vec<Form>,
 ) -> Result<(), AllocError>
-    ensures { OnOk result (map view items.new.items ≡ map view items.old.items ++ map (strand_form (named_in naming.now)) (map strand_view strands.now)) }
+    ensures { OnOk result (map view items.new.items ≡ map view items.old.items ++ map (strand_form (named_in naming.now)) strands.now) }
 {
     for strand in strands {
         items.push(strand_form(alloc, naming, strand)?)?;

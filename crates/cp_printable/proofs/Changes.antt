@@ -5,6 +5,7 @@ use Rattle.cp_lists.specs.Lists.{item_at, IsIn, here, there}
 use Rattle.cp_lists.proofs.Members.{not_in_none, in_append, in_pushed, into_map}
 use Rattle.cp_lists.proofs.Items.{place_of, at_place}
 use Rattle.cp_model.specs.Term.{apply_to, variable_term, AtomTerm, Term, Substitution}
+use Rattle.cp_model.specs.Bindings.{Binding, as_substitution}
 use Rattle.cp_model.specs.declared.variable.Variable.{Variable}
 use Rattle.cp_model.specs.Strand.{Role, variables_of_prefix}
 use Rattle.cp_model.specs.declared.node.Node.{Node}
@@ -15,7 +16,7 @@ use Rattle.cp_model.proofs.LawPrefixes.{in_front_of_trace}
 use Rattle.cp_model.specs.PrefixVariables.{prefix_variables, added_variables, terms_of}
 use Rattle.cp_model.specs.Extensions.{AddsListener, AddsStrand, Extends}
 use Rattle.cp_model.specs.GivenAssumptions.{IsGivenFrom, IsOriginFrom, AddsOnce, AddsGiven}
-use Rattle.cp_strand.specs.Declares.{DeclaresItsVariables}
+use Rattle.cp_model.specs.Declares.{DeclaresItsVariables}
 use Rattle.cp_model.proofs.PrefixVariables.{in-prefix, in-added}
 use Rattle.cp_model.proofs.UnderVariables.{applies_at}
 use Rattle.cp_theory.specs.Fresh.{fresh_terms}
@@ -48,13 +49,13 @@ module _ (S I : List ℕ → Type 0) where
 
   -- ---- what an instance gives
 
-  module _ (role : Role) (height : ℕ) (terms : Substitution) (of_role : IsSpelledRole S I role) (each : (z : Variable) → IsIn z (variables_of_prefix role height) → IsSpelledTerm S (apply_to terms (variable_term z))) where
+  module _ (role : Role) (height : ℕ) (terms : List Binding) (of_role : IsSpelledRole S I role) (each : (z : Variable) → IsIn z (variables_of_prefix role height) → IsSpelledTerm S (apply_to (as_substitution terms) (variable_term z))) where
     given_spelled : (stated : List AtomTerm) → AreSpelledAtoms S stated → (v : AtomTerm) → IsGivenFrom stated role height terms v → IsSpelledAtom S v
-    given_spelled stated are v g = subst (λ (w : AtomTerm). IsSpelledAtom S w) (sym g.same) (of_atom S terms g.atom (are g.atom g.listed) (λ z m. each z (g.applies z m)))
+    given_spelled stated are v g = subst (λ (w : AtomTerm). IsSpelledAtom S w) (sym g.same) (of_atom S (as_substitution terms) g.atom (are g.atom g.listed) (λ z m. each z (g.applies z m)))
 
     origin_spelled : (stated : List AtomTerm) → AreSpelledAtoms S stated → (s : ℕ) (u : UniqueAt) → IsOriginFrom stated role height terms s u → IsSpelledAtom S u.value
     origin_spelled stated are s u g =
-        subst (λ (w : UniqueAt). IsSpelledAtom S w.value) (sym g.same) (of_atom S terms g.atom (are g.atom g.listed) (λ z m. each z (applies_at role height g.atom g.index g.applies z m)))
+        subst (λ (w : UniqueAt). IsSpelledAtom S w.value) (sym g.same) (of_atom S (as_substitution terms) g.atom (are g.atom g.listed) (λ z m. each z (applies_at role height g.atom g.index g.applies z m)))
 
     grown_assumptions : (s : ℕ) (old new : Assumptions) → AddsGiven role height terms s old new → AreSpelledAssumptions S old → AreSpelledAssumptions S new
     grown_assumptions s old new a before = record {
@@ -84,27 +85,27 @@ module _ (S I : List ℕ → Type 0) where
   strand_spelled role height n k l declares of_role adds is =
       behind k l (instance role height adds.terms) is adds.strands adds.from_problem (of_role, each) (grown_assumptions role height adds.terms of_role each (length k.strands) k.assumptions l.assumptions adds.assumptions is.assumptions)
     where
-      each : (z : Variable) → IsIn z (variables_of_prefix role height) → IsSpelledTerm S (apply_to adds.terms (variable_term z))
-      each z i s j = absurd (new_has_none adds.terms (prefix_variables role height) n (prefix_variables role height) adds.gives z ((in-prefix role z height).1 (declares z (in_front_of_trace height role.trace z i), i)) s j)
+      each : (z : Variable) → IsIn z (variables_of_prefix role height) → IsSpelledTerm S (apply_to (as_substitution adds.terms) (variable_term z))
+      each z i s j = absurd (new_has_none (as_substitution adds.terms) (prefix_variables role height) n (prefix_variables role height) adds.gives z ((in-prefix role z height).1 (declares z (in_front_of_trace height role.trace z i), i)) s j)
 
   module _ (s height n : ℕ) (k l : Skeleton) (role : Role) (before : ℕ) (declares : DeclaresItsVariables role) (ext : Extends s height (fresh_terms n (added_variables role before height)) k l) (same_role : ext.role ≡ role) (same_before : ext.before ≡ before)
       (is : IsSpelledSkeleton S I k) where
     declares_too : DeclaresItsVariables ext.role
     declares_too = subst DeclaresItsVariables (sym same_role) declares
 
-    gives_new : terms_of ext.terms (added_variables ext.role ext.before height) ≡ fresh_terms n (added_variables role before height)
+    gives_new : terms_of (as_substitution ext.terms) (added_variables ext.role ext.before height) ≡ fresh_terms n (added_variables role before height)
     gives_new = ext.gives
 
     was : IsSpelledStrand S I (instance ext.role ext.before ext.old_terms)
     was = is.strands (instance ext.role ext.before ext.old_terms) (at_place k.strands s (instance ext.role ext.before ext.old_terms) ext.was_instance)
 
-    each_term : (z : Variable) → IsIn z (variables_of_prefix ext.role height) → IsSpelledTerm S (apply_to ext.terms (variable_term z))
+    each_term : (z : Variable) → IsIn z (variables_of_prefix ext.role height) → IsSpelledTerm S (apply_to (as_substitution ext.terms) (variable_term z))
     each_term z i = by_test (has_variable (variables_of_prefix ext.role ext.before) z) refl
       where
-        by_test : (b : Bool) → has_variable (variables_of_prefix ext.role ext.before) z ≡ b → IsSpelledTerm S (apply_to ext.terms (variable_term z))
+        by_test : (b : Bool) → has_variable (variables_of_prefix ext.role ext.before) z ≡ b → IsSpelledTerm S (apply_to (as_substitution ext.terms) (variable_term z))
         by_test true e = let m = variable_in (variables_of_prefix ext.role ext.before) z e in subst (λ (t : Term). IsSpelledTerm S t) (ext.keeps z m) (was.1 z m)
         by_test false e = λ t j.
-            absurd (new_has_none ext.terms (added_variables ext.role ext.before height) n (added_variables role before height) gives_new z
+            absurd (new_has_none (as_substitution ext.terms) (added_variables ext.role ext.before height) n (added_variables role before height) gives_new z
             ((in-added ext.role z ext.before height).1 (
               declares_too z (in_front_of_trace height ext.role.trace z i),
               i,

@@ -4,6 +4,7 @@ use Rattle.cp_lists.specs.Lists.{item_at, IsIn, here, there}
 use Rattle.cp_lists.proofs.Items.{at_place, place_of}
 use Rattle.cp_lists.proofs.Members.{from_map}
 use Rattle.cp_model.specs.Term.{value_of, variable_term, AtomTerm, AgreeOnTerms, Assignment, after, Substitution, apply_to_atom, apply_to, composed}
+use Rattle.cp_model.specs.Bindings.{Binding, as_substitution}
 use Rattle.cp_model.specs.declared.variable.Variable.{Variable}
 use Rattle.cp_model.specs.Strand.{Role, variables_of_prefix}
 use Rattle.cp_model.specs.Skeleton.{SkeletonStrand, instance, listener, UniqueAt, Assumptions, Skeleton}
@@ -47,13 +48,13 @@ module _ (S I : List ℕ → Type 0) (f : Substitution) (gives : GivesStrings S 
   }
 
   -- An instance whose terms are those of another under the substitution.
-  instance_image : (role : Role) (height : ℕ) (terms to : Substitution) → AgreeOnTerms (variables_of_prefix role height) (composed terms f) to →
+  instance_image : (role : Role) (height : ℕ) (terms to : List Binding) → AgreeOnTerms (variables_of_prefix role height) (composed (as_substitution terms) f) (as_substitution to) →
       IsSpelledStrand S I (instance role height terms) → IsSpelledStrand S I (instance role height to)
   instance_image role height terms to agree is = (
     is.0,
     λ x i.
-        let e : apply_to f (apply_to terms (variable_term x)) ≡ apply_to to (variable_term x) = sym (term_composed terms f (variable_term x)) ∙ agree x i in
-        subst (IsSpelledTerm S) e (term_under S I f (apply_to terms (variable_term x)) gives (is.1 x i)),
+        let e : apply_to f (apply_to (as_substitution terms) (variable_term x)) ≡ apply_to (as_substitution to) (variable_term x) = sym (term_composed (as_substitution terms) f (variable_term x)) ∙ agree x i in
+        subst (IsSpelledTerm S) e (term_under S I f (apply_to (as_substitution terms) (variable_term x)) gives (is.1 x i)),
   )
 
 module _ (S I : List ℕ → Type 0) (decide : (t : List ℕ) → S t ⊎ (S t → ⊥)) where
@@ -66,28 +67,28 @@ module _ (S I : List ℕ → Type 0) (decide : (t : List ℕ) → S t ⊎ (S t �
     strand_spelled : (n : ℕ) (st : SkeletonStrand) → item_at k.strands n ≡ Some st → IsSpelledStrand S I st
     strand_spelled n st at = is.strands st (at_place k.strands n st at)
 
-    term_of_instance : (n : ℕ) (role : Role) (height : ℕ) (terms : Substitution) → item_at k.strands n ≡ Some (instance role height terms) → (x : Variable) → IsIn x (variables_of_prefix role height) →
-        IsSpelledTerm S (apply_to terms (variable_term x))
+    term_of_instance : (n : ℕ) (role : Role) (height : ℕ) (terms : List Binding) → item_at k.strands n ≡ Some (instance role height terms) → (x : Variable) → IsIn x (variables_of_prefix role height) →
+        IsSpelledTerm S (apply_to (as_substitution terms) (variable_term x))
     term_of_instance n role height terms at = (strand_spelled n (instance role height terms) at).1
 
     -- Where other purposes are left out equal values stay equal.
     still_identifies : (g : Assignment) → IdentifiesValues k p g → IdentifiesValues k p (leaving_out S decide g)
     still_identifies g identifies n m role height terms height' terms' at au together x i j =
         let h = leaving_out S decide g in
-        let a = apply_to terms (variable_term x) in
-        let b = apply_to terms' (variable_term x) in
+        let a = apply_to (as_substitution terms) (variable_term x) in
+        let b = apply_to (as_substitution terms') (variable_term x) in
         let equal : value_of g a ≡ value_of g b =
-        sym (value_after g terms (variable_term x)) ∙ identifies n m role height terms height' terms' at au together x i j ∙ value_after g terms' (variable_term x) in
-        value_after h terms (variable_term x)
+        sym (value_after g (as_substitution terms) (variable_term x)) ∙ identifies n m role height terms height' terms' at au together x i j ∙ value_after g (as_substitution terms') (variable_term x) in
+        value_after h (as_substitution terms) (variable_term x)
         ∙ same_left S decide g a b (term_of_instance n role height terms at x i) (term_of_instance m role height' terms' au x j) equal
-        ∙ sym (value_after h terms' (variable_term x))
+        ∙ sym (value_after h (as_substitution terms') (variable_term x))
 
     -- The values under the unifier are equal.
     identifies_itself : IdentifiesValues k p (after free f)
     identifies_itself n m role height terms height' terms' at au together x i j =
-        value_composed f terms x
+        value_composed f (as_substitution terms) x
         ∙ ap (value_of free) (collapsed.most_general.identifies n m role height terms height' terms' at au together x i j)
-        ∙ sym (value_composed f terms' x)
+        ∙ sym (value_composed f (as_substitution terms') x)
 
     gives : GivesStrings S f
     gives = gives_only S decide (IdentifiesValues k p) f still_identifies identifies_itself collapsed.most_general.general

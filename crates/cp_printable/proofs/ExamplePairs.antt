@@ -5,6 +5,7 @@ use Rattle.cp_lists.proofs.Members.{only_item}
 use Rattle.cp_lists.proofs.Mapped.{map_same}
 use Rattle.cp_model.specs.Senders.{ArePaired}
 use Rattle.cp_model.specs.Term.{variable_term, AtomTerm, apply_to, apply_to_atom}
+use Rattle.cp_model.specs.Bindings.{as_substitution}
 use Rattle.cp_model.specs.Identity.{unchanged}
 use Rattle.cp_model.specs.declared.strand.Event.TheVariants.{Send as send}
 use Rattle.cp_model.specs.declared.node.Node.{Node}
@@ -26,7 +27,7 @@ use Rattle.cp_printable.specs.PairedTree.{along_listener, paired_label, paired_t
 own_strands : (ks : List SkeletonStrand) → ArePaired (IsSameStrandUnder unchanged) ks ks
 own_strands [] = tt
 own_strands (instance role height terms ∷ ks) = (
-  ((λ i. role), (λ i. height), λ x m. term_composed terms unchanged (variable_term x) ∙ term_unchanged (apply_to terms (variable_term x))),
+  ((λ i. role), (λ i. height), λ x m. term_composed (as_substitution terms) unchanged (variable_term x) ∙ term_unchanged (apply_to (as_substitution terms) (variable_term x))),
   own_strands ks,
 )
 own_strands (listener t ∷ ks) = (term_unchanged t, own_strands ks)

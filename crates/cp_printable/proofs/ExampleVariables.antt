@@ -27,14 +27,14 @@ heard_variables : HasItsVariables heard_problem heard_label
 heard_variables = record {
   later = [];
   variables = refl;
-  declared = each_declared heard_label.variables (occurring heard_label) (refl, (refl, (refl, (refl, (refl, (refl, (refl, (refl, (refl, tt)))))))));
+  declared = each_declared heard_label.skeleton.variables (occurring heard_label) (refl, (refl, (refl, (refl, (refl, (refl, (refl, (refl, (refl, tt)))))))));
 }
 
 sent_variables : HasItsVariables heard_problem sent_label
 sent_variables = record {
   later = declarations_among locker (prefix_variables locker 1);
   variables = refl;
-  declared = each_declared sent_label.variables (occurring sent_label) (refl, (refl, (refl, (refl, (refl, (refl, (refl, (refl, (refl, tt)))))))));
+  declared = each_declared sent_label.skeleton.variables (occurring sent_label) (refl, (refl, (refl, (refl, (refl, (refl, (refl, (refl, (refl, tt)))))))));
 }
 
 pub have_variables : (l : Label) → IsIn l heard_tree.labels → HasItsVariables heard_problem l
@@ -42,7 +42,7 @@ have_variables l here = heard_variables
 have_variables l (there here) = sent_variables
 have_variables l (there (there i)) = absurd (not_in_none i)
 
-pub are_few : (l : Label) → IsIn l heard_tree.labels → length l.variables < 2 ^ 64
+pub are_few : (l : Label) → IsIn l heard_tree.labels → length l.skeleton.variables < 2 ^ 64
 are_few l here = omega arith
 are_few l (there here) = omega arith
 are_few l (there (there i)) = absurd (not_in_none i)

@@ -14,11 +14,11 @@ use Rattle.cp_model.specs.Problem.{IsDeclared}
 use Rattle.cp_model.specs.PointOfView.{HasDeclaredVariables}
 use Rattle.cp_model.specs.Tree.{Pattern}
 use Rattle.cp_model.specs.declared.step.Step.{Step}
-use Rattle.cp_strand.specs.Declares.{DeclaresItsVariables}
+use Rattle.cp_model.specs.Declares.{DeclaresItsVariables}
 use Rattle.cp_skel.specs.Events.{events_of}
 use Rattle.cp_skel.specs.declared.events.LocatedEvent.{LocatedEvent}
 use Rattle.cp_skel.proofs.EventLists.{listed_event}
-use Rattle.cp_cohort.specs.CoveringChildren.{Child}
+use Rattle.cp_cohort.specs.declared.child.Child.{Child}
 use Rattle.cp_cohort.specs.Cohort.{GuardedTest, IsCohort}
 use Rattle.cp_cohort.specs.GatheredLists.{EachGives, terms_onto}
 use Rattle.cp_cohort.specs.Way.{DeclaresMore}
@@ -33,13 +33,13 @@ use Rattle.cp_expansion.specs.Expansion.{IsWidening, asked_under, AreWidened, ha
 use Rattle.cp_escape.proofs.EscapeGuards.{first_is_in}
 use Rattle.cp_tree.proofs.AskedOn.{IsWellAsked, asked_on}
 use Rattle.cp_printable.specs.Spelled.{IsSpelledTerm, AreSpelledDeclarations, IsSpelledRole, IsSpelledSkeleton}
-use Rattle.cp_printable.proofs.Under.{event_spelled}
+use Rattle.cp_printable.proofs.Under.{event_spelled, table_spelled}
 use Rattle.cp_printable.proofs.Enclosed.{first_above_spelled, underivable_spelled}
 use Rattle.cp_printable.proofs.OpenedPatterns.{AreNamed, still_named, named_as_declared}
 use Rattle.cp_printable.proofs.Children.{IsSpelledGuardedTest, IsSpelledChild, cohort_spelled}
 
 pub record IsSpelledExpansion (S I : List ℕ → Type 0) (e : Expansion) : Type 0 where
-  pub variables : AreSpelledDeclarations I e.variables
+  pub variables : AreSpelledDeclarations I e.skeleton.variables
   pub critical : IsSpelledTerm S e.test.critical
   pub patterns : (p : Pattern) → IsIn p e.patterns → IsSpelledTerm S p.term
   pub children : (c : Child) → IsIn c e.children → IsSpelledChild S I c
@@ -99,11 +99,11 @@ module _ (S I : List ℕ → Type 0) (decide : (t : List ℕ) → S t ⊎ (S t �
   widened_on : (q : GuardedTest) (c : Child) → IsSpelledGuardedTest S I q → IsSpelledChild S I c → IsSoundChild protocol q c → (w : IsWidening q c) → IsSpelledGuardedTest S I (asked_under q c w.pattern)
   widened_on q c asked child sound w = record {
     variables = child.variables;
-    skeleton = asked.skeleton;
+    skeleton = table_spelled S I q.skeleton c.skeleton.variables asked.skeleton;
     critical = asked.critical;
     patterns = patterns_have (λ p. IsSpelledTerm S p.term) q.patterns w.pattern asked.patterns (widening_spelled S I q.skeleton c.skeleton c.path w.pattern child.skeleton w.widens);
-    named = patterns_have (AreNamed I c.variables) q.patterns w.pattern (λ p i. named_on q.variables c.variables p sound.more child.variables (asked.named p i))
-        (named_as_declared I c.variables w.pattern child.variables (local_declared q.skeleton c.skeleton c.path w.pattern c.variables sound.declared w.widens));
+    named = patterns_have (AreNamed I c.skeleton.variables) q.patterns w.pattern (λ p i. named_on q.skeleton.variables c.skeleton.variables p sound.more child.variables (asked.named p i))
+        (named_as_declared I c.skeleton.variables w.pattern child.variables (local_declared q.skeleton c.skeleton c.path w.pattern c.skeleton.variables sound.declared w.widens));
   }
 
   -- The test that is asked last, and its children.
@@ -123,16 +123,16 @@ module _ (S I : List ℕ → Type 0) (decide : (t : List ℕ) → S t ⊎ (S t �
   whole_named : (ds : List Declaration) (es : List Term) (p : Pattern) → IsIn p (map whole_pattern es) → AreNamed I ds p
   whole_named ds es p i x local = let m = from_map whole_pattern es i in absurd (not_in_none (subst (λ (q : Pattern). IsIn x q.locals) (sym m.2) local))
 
-  asked_first : (variables : List Declaration) (k : Skeleton) (e : Expansion) → AreSpelledDeclarations I variables → IsSpelledSkeleton S I k → (of : IsExpansionOf protocol variables k e) → IsSpelledGuardedTest S I (guarded_test_about variables k e.test of.escape)
-  asked_first variables k e declared is of = record {
+  asked_first : (k : Skeleton) (e : Expansion) → AreSpelledDeclarations I k.variables → IsSpelledSkeleton S I k → (of : IsExpansionOf protocol k e) → IsSpelledGuardedTest S I (guarded_test_about k e.test of.escape)
+  asked_first k e declared is of = record {
     variables = declared;
     skeleton = is;
     critical = test_spelled S I k e.test.node e.test.critical is of.test;
     patterns = escape_spelled S I k e.test.node e.test.critical of.escape is of.is_escape;
-    named = λ p i. whole_named variables (terms_onto [] of.is_escape.encryptions) p (subst (IsIn p) of.is_escape.once i);
+    named = λ p i. whole_named k.variables (terms_onto [] of.is_escape.encryptions) p (subst (IsIn p) of.is_escape.once i);
   }
 
-  pub expansion_spelled : (variables : List Declaration) (k : Skeleton) (e : Expansion) → AreSpelledDeclarations I variables → IsSpelledSkeleton S I k → (of : IsExpansionOf protocol variables k e) → IsWellAsked protocol (guarded_test_about variables k e.test of.escape) → IsSpelledExpansion S I e
-  expansion_spelled variables k e declared is of well =
-      let last = last_spelled of.widened well (asked_first variables k e declared is of) in
+  pub expansion_spelled : (k : Skeleton) (e : Expansion) → AreSpelledDeclarations I k.variables → IsSpelledSkeleton S I k → (of : IsExpansionOf protocol k e) → IsWellAsked protocol (guarded_test_about k e.test of.escape) → IsSpelledExpansion S I e
+  expansion_spelled k e declared is of well =
+      let last = last_spelled of.widened well (asked_first k e declared is of) in
       record { variables = last.question.variables; critical = last.question.critical; patterns = last.question.patterns; children = last.each }

@@ -1,10 +1,11 @@
 -- The substitution by which a normal form comes gives variables admitted strings, where the normal form has them: it changes
 -- the skeleton's own variables alone, and all that it gives them stands in the normal form.
-use Rattle.std.proofs.Common.{◌≡◌, ℕ, List, [], ◌++◌, Bool, true, false, refl, sym, subst, ⊎_elim}
+use Rattle.std.proofs.Common.{◌≡◌, ℕ, List, [], ◌++◌, Bool, true, false, refl, sym, ◌∙◌, subst, ⊎_elim}
 use Rattle.cp_lists.specs.Lists.{IsIn}
 use Rattle.cp_lists.proofs.Items.{at_place}
 use Rattle.cp_lists.proofs.Members.{not_in_none, in_append, into_map}
 use Rattle.cp_model.specs.Term.{Term, variable_term, AtomTerm, variables_of, Substitution, apply_to, apply_to_atom}
+use Rattle.cp_model.specs.Bindings.{Binding, as_substitution}
 use Rattle.cp_model.specs.declared.sort.Sort.TheVariants.{Akey as akey_sort}
 use Rattle.cp_model.specs.declared.variable.Variable.{Variable}
 use Rattle.cp_model.specs.Strand.{Role, prefix_of, variables_of_trace, variables_of_prefix}
@@ -14,6 +15,7 @@ use Rattle.cp_model.specs.Same.{has_variable}
 use Rattle.cp_model.proofs.LawTerms.{term_composed}
 use Rattle.cp_model.proofs.SameTests.{variable_in, in_has_variable}
 use Rattle.cp_theory.specs.Normal.{strand_under, unique_under, skeleton_under, with_pairs, variables_of_terms}
+use Rattle.cp_theory.proofs.Under.{terms_kept}
 use Rattle.cp_collapse.specs.SameSkeletons.{IsSameStrand, same_instance, same_listener, AreSameStrands, no_strands, same_strands, SaysTheSame}
 use Rattle.cp_model.proofs.OccurringVariables.{strand_with, atom_with, unique_with, term_with}
 use Rattle.cp_model.proofs.UnderVariables.{of_trace}
@@ -44,11 +46,11 @@ module _ (S I : List ℕ → Type 0) where
     abbrev Gives : Variable → Type 0
     Gives = GivesAdmitted S f
 
-    of_instance : (role : Role) (height : ℕ) (terms : Substitution) → IsSpelledStrand S I (strand_under f (instance role height terms)) → (x : Variable) → IsIn x (variables_of_trace (skeleton_trace (instance role height terms))) → Gives x
-    of_instance role height terms is = of_trace Gives terms (prefix_of role height) each
+    of_instance : (role : Role) (height : ℕ) (terms : List Binding) → IsSpelledStrand S I (strand_under f (instance role height terms)) → (x : Variable) → IsIn x (variables_of_trace (skeleton_trace (instance role height terms))) → Gives x
+    of_instance role height terms is = of_trace Gives (as_substitution terms) (prefix_of role height) each
       where
-        each : (z : Variable) → IsIn z (variables_of_prefix role height) → (y : Variable) → IsIn y (variables_of (apply_to terms (variable_term z))) → Gives y
-        each z i y j s m = is.1 z i s (subst (λ (t : Term). IsIn s (strings_of t)) (sym (term_composed terms f (variable_term z))) (in_term f y s m (apply_to terms (variable_term z)) j))
+        each : (z : Variable) → IsIn z (variables_of_prefix role height) → (y : Variable) → IsIn y (variables_of (apply_to (as_substitution terms) (variable_term z))) → Gives y
+        each z i y j s m = is.1 z i s (subst (λ (t : Term). IsIn s (strings_of t)) (sym (terms_kept f role height terms z i ∙ term_composed (as_substitution terms) f (variable_term z))) (in_term f y s m (apply_to (as_substitution terms) (variable_term z)) j))
 
     of_strand : (st : SkeletonStrand) → IsSpelledStrand S I (strand_under f st) → (x : Variable) → IsIn x (variables_of_trace (skeleton_trace st)) → Gives x
     of_strand (instance role height terms) is x i s j = of_instance role height terms is x i s j

@@ -14,7 +14,8 @@ use Rattle.cp_normal.specs.NormalForms.{NarrowsTo, none, one, IsNormalFormOf}
 use Rattle.cp_normal.specs.Exact.{HasForms}
 use Rattle.cp_normal.specs.Formed.{Formed}
 use Rattle.cp_normal.proofs.FormsOf.{are_normal_forms}
-use Rattle.cp_cohort.specs.Releases.{Release, PartialSolution}
+use Rattle.cp_cohort.specs.declared.release.PartialSolution.{PartialSolution}
+use Rattle.cp_cohort.specs.Releases.{Release}
 use Rattle.cp_cohort.specs.Stages.{Stage, SolvesRelease}
 use Rattle.cp_cohort.proofs.EachSettled.{settles_each}
 
@@ -53,6 +54,7 @@ pub nodes_settle : (r : Release) {stage : Stage} {x : PartialSolution} {ys : Lis
 nodes_settle r {x = x} settles y i =
     let k = x.skeleton in
     (settles_each r (λ (z : PartialSolution). KeepsNodes k z.skeleton) (record {
-      branch = λ z keeps c choice u m l same. nodes_then k z.skeleton l keeps (nodes_like_under u z.skeleton l same);
-      form = λ z keeps forms are f listed. nodes_then k z.skeleton f.skeleton keeps (nodes_forms z.skeleton (map (λ (g : Formed). g.skeleton) forms) are.exact f.skeleton (into_map (λ (g : Formed). g.skeleton) listed));
+      branch = λ z keeps c choice u m y next. nodes_then k z.skeleton y.skeleton keeps (nodes_like_under u z.skeleton y.skeleton next.same);
+      form = λ z keeps forms are f listed a beside.
+          subst (KeepsNodes k) (sym beside.skeleton) (nodes_then k z.skeleton f.skeleton keeps (nodes_forms z.skeleton (map (λ (g : Formed). g.skeleton) forms) are.exact f.skeleton (into_map (λ (g : Formed). g.skeleton) listed)));
     }) settles (λ n is. is) y i).0

@@ -12,7 +12,7 @@ use Rattle.cp_model.specs.Tree.{Label, Tree}
 use Rattle.cp_model.specs.declared.tree.Mark.{Mark}
 use Rattle.cp_model.specs.declared.tree.Limits.{Limits}
 use Rattle.cp_derive.specs.Unrealised.{ListsUnrealised}
-use Rattle.cp_roots.specs.Roots.{Root}
+use Rattle.cp_roots.specs.declared.root.Root.{Root}
 use Rattle.cp_tree.specs.Candidates.{IsCandidate}
 use Rattle.cp_tree.specs.Made.{Made, LabelLink, link_of}
 use Rattle.cp_tree.specs.Searched.{mark_by_children, Becomes, is_dead, is_seen, is_realised, is_generalised, above_bound, at_limit, is_tested, IsMarkedAmong, as_shape, as_instance, IsTreeFrom}

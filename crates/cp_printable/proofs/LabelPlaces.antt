@@ -10,10 +10,12 @@ use Rattle.cp_model.specs.Tree.{Label, Tree}
 use Rattle.cp_model.specs.declared.tree.Operation.{Operation}
 use Rattle.cp_model.specs.declared.tree.Operation.TheVariants.{Problem as by_problem, Collapsed as by_collapse, Contracted as by_contraction, Displaced as by_displacement, AddedStrand as by_added_strand, AddedListener as by_added_listener, Generalised as by_generalising}
 use Rattle.cp_model.specs.declared.tree.Limits.{Limits}
+use Rattle.cp_skel.specs.Tables.{DiffersInTable}
 use Rattle.cp_collapse.specs.Collapses.{AreCollapsesBy, no_collapses, collapse_by}
-use Rattle.cp_roots.specs.Roots.{Root, living, in_report_order, first_roots, AreFormsOfCollapses, forms_of_one, AreRoots}
+use Rattle.cp_roots.specs.declared.root.Root.{Root}
+use Rattle.cp_roots.specs.Roots.{living, in_report_order, first_roots, AreFormsOfCollapses, forms_of_one, AreRoots}
 use Rattle.cp_roots.specs.Roots as rooting
-use Rattle.cp_cohort.specs.CoveringChildren.{Child}
+use Rattle.cp_cohort.specs.declared.child.Child.{Child}
 use Rattle.cp_expansion.specs.Expansion.{guarded_test_about, Expansion, IsExpansionOf, AreWidened, has_most, none_widens, one_widens}
 use Rattle.cp_cohort.specs.Cohort.{GuardedTest, IsCohort}
 use Rattle.cp_tree.specs.Made.{Made, made_of_root, made_of_child, LabelLink, link_of}
@@ -77,9 +79,23 @@ pub record IsPlaced (p : Problem) (labels : List Label) (i : ℕ) (k : Skeleton)
   pub operation : IsOperationOn p k by
   pub parents : IsParentOf labels i by parent
 
-same_placed : {p : Problem} {labels : List Label} {i : ℕ} {k l : Skeleton} {by of : Operation} {m n : Option ℕ} → l ≡ k → of ≡ by → n ≡ m → IsPlaced p labels i k by m → IsPlaced p labels i l of n
-same_placed {p = p} {labels = labels} {i = i} {k = k} {by = by} {of = of} {n = n} same_k same_by same_m is =
-    subst (λ (y : Skeleton). IsPlaced p labels i y of n) (sym same_k) (subst (λ (y : Operation). IsPlaced p labels i k y n) (sym same_by) (subst (IsPlaced p labels i k by) (sym same_m) is))
+-- The table of the skeleton does not matter.
+operation_tabled : (p : Problem) (k : Skeleton) (ds : List Declaration) (by : Operation) → IsOperationOn p k by → IsOperationOn p (record k { variables = ds }) by
+operation_tabled p k ds by_problem is = is
+operation_tabled p k ds (by_collapse ps) is = is
+operation_tabled p k ds (by_contraction n) is = is
+operation_tabled p k ds (by_displacement n) is = is
+operation_tabled p k ds (by_added_strand s) is = is
+operation_tabled p k ds (by_added_listener s) is = is
+operation_tabled p k ds by_generalising is = is
+
+placed_tabled : {p : Problem} {labels : List Label} {i : ℕ} {k l : Skeleton} {by : Operation} {m : Option ℕ} → DiffersInTable k l → IsPlaced p labels i k by m → IsPlaced p labels i l by m
+placed_tabled {p = p} {labels = labels} {i = i} {k = k} {l = l} {by = by} {m = m} differs is =
+    subst (λ (y : Skeleton). IsPlaced p labels i y by m) (sym differs) (record { operation = operation_tabled p k l.variables by is.operation; parents = is.parents })
+
+same_placed : {p : Problem} {labels : List Label} {i : ℕ} {k l : Skeleton} {by of : Operation} {m n : Option ℕ} → DiffersInTable k l → of ≡ by → n ≡ m → IsPlaced p labels i k by m → IsPlaced p labels i l of n
+same_placed {p = p} {labels = labels} {i = i} {k = k} {l = l} {by = by} {of = of} {n = n} differs same_by same_m is =
+    placed_tabled {p = p} {labels = labels} {i = i} {k = k} {l = l} {by = of} {m = n} differs (subst (λ (y : Operation). IsPlaced p labels i k y n) (sym same_by) (subst (IsPlaced p labels i k by) (sym same_m) is))
 
 root_placed : (p : Problem) (labels : List Label) (i : ℕ) (k : Skeleton) (by : Operation) → IsOfRoot (length p.skeleton.strands) by → IsPlaced p labels i k by None
 root_placed p labels i k by_problem is = record { operation = tt; parents = refl }
@@ -134,18 +150,18 @@ module _ (p : Problem) (limits : Limits) (roots : List Root) (tree : Tree) (are 
   last_cohort (none_widens fewer is none) = is
   last_cohort (one_widens fewer is first w rest) = last_cohort rest
 
-  child_placed : (i j : ℕ) (ds : List Declaration) (k : Skeleton) (e : Expansion) → IsExpansionOf p.protocol ds k e → (c : Child) → IsIn c e.children → HasParent tree.labels j (Some i)
+  child_placed : (i j : ℕ) (k : Skeleton) (e : Expansion) → IsExpansionOf p.protocol k e → (c : Child) → IsIn c e.children → HasParent tree.labels j (Some i)
       → IsPlaced p tree.labels j (made_of_child i c).skeleton (made_of_child i c).operation (made_of_child i c).parent
-  child_placed i j ds k e is c listed has =
+  child_placed i j k e is c listed has =
       let m = made_of_child i c in
-      step_placed p tree.labels j m.skeleton c.operation (Some i) (named_in c.skeleton c.operation (named_child (guarded_test_about e.variables k e.test e.patterns) p.protocol e.children (last_cohort is.widened) c listed)) has
+      step_placed p tree.labels j m.skeleton c.operation (Some i) (named_in c.skeleton c.operation (named_child (guarded_test_about e.skeleton e.test e.patterns) p.protocol e.children (last_cohort is.widened) c listed)) has
 
   abbrev IsPlacedMade : ℕ → Made → Type 0
   IsPlacedMade j x = IsPlaced p tree.labels j x.skeleton x.operation x.parent
 
   given_placed : (i j : ℕ) (so x : Made) → x.parent ≡ Some i → IsMadeOfChild p.protocol limits links (IsMarkedAmong from.candidates) i so x ⊎ IsMadeOfGeneralisation p.protocol limits links (IsMarkedAmong from.candidates) i so x
       → HasParent tree.labels j (Some i) → IsPlacedMade j x
-  given_placed i j so x parent (inl c) has = subst (IsPlacedMade j) c.is_made (child_placed i j so.variables so.skeleton c.expansion c.is_expansion c.child c.listed has)
+  given_placed i j so x parent (inl c) has = subst (IsPlacedMade j) c.is_made (child_placed i j so.skeleton c.expansion c.is_expansion c.child c.listed has)
   given_placed i j so x parent (inr c) has = subst (IsPlacedMade j) c.is_made (record { operation = tt; parents = has })
 
   -- ---- all labels
@@ -153,8 +169,8 @@ module _ (p : Problem) (limits : Limits) (roots : List Root) (tree : Tree) (are 
   made_placed : (i : ℕ) (l : Label) → item_at tree.labels i ≡ Some l → (m : Made) → item_at MadeHere i ≡ Some m → l.parent ≡ m.parent → IsPlacedMade i m
   made_placed i l at m made_at same =
       ⊎_elim
-      (λ (front : item_at (map (made_of_root p.variables) roots) i ≡ Some m).
-      let r = item_of_map (made_of_root p.variables) roots i m front in
+      (λ (front : item_at (map made_of_root roots) i ≡ Some m).
+      let r = item_of_map made_of_root roots i m front in
       subst (IsPlacedMade i) r.2 (root_placed p tree.labels i r.0.skeleton r.0.operation (roots_are_of p.skeleton roots are r.0 (at_place roots i r.0 r.1))))
       (λ (listed : IsIn m from.children).
       let f = made_from p.protocol limits links (IsMarkedAmong from.candidates) 0 0 MadeHere tree.labels from.children from.settled m listed in
@@ -162,13 +178,13 @@ module _ (p : Problem) (limits : Limits) (roots : List Root) (tree : Tree) (are 
       let parent = label_here p.protocol p.variables limits roots tree from f.number f.so (subst (λ (n : ℕ). item_at MadeHere n ≡ Some f.so) number f.at_made) in
       let child : IsIn i parent.0.children = (children_are p.protocol p.variables limits roots tree from f.number i parent.0 l parent.1 at).1 (same ∙ f.is_made.parent) in
       given_placed f.number i f.so m f.is_made.parent f.is_made.way (parent.0, parent.1, child))
-      (front_or_behind (map (made_of_root p.variables) roots) from.children i m made_at)
+      (front_or_behind (map made_of_root roots) from.children i m made_at)
 
   pub label_placed : (i : ℕ) (l : Label) → item_at tree.labels i ≡ Some l → IsPlaced p tree.labels i l.skeleton l.operation l.parent
   label_placed i l at =
       let s = settled_here p.protocol p.variables limits roots tree from i l at in
       let o : IsOfMade p.protocol limits links (IsMarkedAmong from.candidates) s.expanded_before s.so l s.gives = of_made_here p.protocol p.variables limits roots tree from i l s in
-      same_placed o.skeleton o.operation o.parent (made_placed i l at s.so s.at_made o.parent)
+      same_placed {k = s.so.skeleton} {l = l.skeleton} o.skeleton o.operation o.parent (made_placed i l at s.so s.at_made o.parent)
 
   -- ---- children
 

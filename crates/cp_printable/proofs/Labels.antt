@@ -11,10 +11,12 @@ use Rattle.cp_model.specs.PointOfView.{HasDeclaredVariables, IsPointOfView}
 use Rattle.cp_model.specs.Tree.{Test, Label, Tree}
 use Rattle.cp_model.specs.declared.tree.Mark.{Mark}
 use Rattle.cp_model.specs.declared.tree.Limits.{Limits}
-use Rattle.cp_strand.specs.Declares.{DeclaresItsVariables}
-use Rattle.cp_roots.specs.Roots.{Root, AreRoots}
+use Rattle.cp_model.specs.Declares.{DeclaresItsVariables}
+use Rattle.cp_roots.specs.declared.root.Root.{Root}
+use Rattle.cp_roots.specs.Roots.{AreRoots}
 use Rattle.cp_roots.specs.Sound.{AreSound}
 use Rattle.cp_expansion.specs.Expansion.{Expansion, IsExpansionOf}
+use Rattle.cp_general.proofs.SoundGeneralisations.{same_table}
 use Rattle.cp_tree.specs.Made.{Made, made_of_root, LabelLink, link_of}
 use Rattle.cp_tree.specs.Searched.{IsMarkedAmong, Becomes, is_dead, is_seen, is_realised, is_generalised, above_bound, at_limit, is_tested, IsTreeFrom, IsTreeOf}
 use Rattle.cp_tree.proofs.Settled.{IsMadeOfChild, IsMadeOfGeneralisation, made_from}
@@ -22,7 +24,7 @@ use Rattle.cp_tree.proofs.SoundOrGeneralised.{IsSoundLabel, where_unrealised}
 use Rattle.cp_tree.proofs.SoundExpansions.{well_asked, expands_soundly}
 use Rattle.cp_tree.proofs.SoundLabels.{made, settled_here, becomes_here, comes_behind, sound_below}
 use Rattle.cp_printable.specs.Spelled.{IsSpelledTerm, AreSpelledDeclarations, IsSpelledRole, IsSpelledSkeleton, IsSpelledLabel}
-use Rattle.cp_printable.proofs.Under.{in_order_spelled}
+use Rattle.cp_printable.proofs.Under.{table_spelled, in_order_spelled}
 use Rattle.cp_printable.proofs.Roots.{roots_spelled}
 use Rattle.cp_printable.proofs.Generalised.{generalised_spelled}
 use Rattle.cp_printable.proofs.Expansions.{IsSpelledExpansion, expansion_spelled}
@@ -31,7 +33,7 @@ use Rattle.cp_roots.proofs.RootsAreSound.{roots_sound}
 
 -- What was made so has admitted strings and identifiers.
 record IsSpelledMade (S I : List ℕ → Type 0) (m : Made) : Type 0 where
-  variables : AreSpelledDeclarations I m.variables
+  variables : AreSpelledDeclarations I m.skeleton.variables
   skeleton : IsSpelledSkeleton S I m.skeleton
 
 module _ (S I : List ℕ → Type 0) (decide : (t : List ℕ) → S t ⊎ (S t → ⊥)) (protocol : Protocol) (declares : (role : Role) → IsIn role protocol.roles → DeclaresItsVariables role)
@@ -39,9 +41,9 @@ module _ (S I : List ℕ → Type 0) (decide : (t : List ℕ) → S t ⊎ (S t �
   -- ---- one label
 
   -- What is made of it expands as such.
-  made_expands : (k : Skeleton) (m : Made) (e : Expansion) → IsSoundLabel protocol k m → IsUnrealised m.skeleton → IsSpelledMade S I m → IsExpansionOf protocol m.variables m.skeleton e → IsSpelledExpansion S I e
+  made_expands : (k : Skeleton) (m : Made) (e : Expansion) → IsSoundLabel protocol k m → IsUnrealised m.skeleton → IsSpelledMade S I m → IsExpansionOf protocol m.skeleton e → IsSpelledExpansion S I e
   made_expands k m e sound unrealised is of =
-      expansion_spelled S I decide protocol declares roles m.variables m.skeleton e is.variables is.skeleton of (well_asked protocol k m e (where_unrealised protocol k m sound unrealised) of)
+      expansion_spelled S I decide protocol declares roles m.skeleton e is.variables is.skeleton of (well_asked protocol k m e (where_unrealised protocol k m sound unrealised) of)
 
   -- What is made from a label.
   given_spelled : (k : Skeleton) (limits : Limits) (links : List LabelLink) (marks : ℕ → Option Mark → Type 0) (i : ℕ) (so x : Made) → IsSoundLabel protocol k so → IsSpelledMade S I so
@@ -50,12 +52,15 @@ module _ (S I : List ℕ → Type 0) (decide : (t : List ℕ) → S t ⊎ (S t �
       let child = (made_expands k so c.expansion sound c.unrealised is c.is_expansion).children c.child c.listed in
       subst (IsSpelledMade S I) c.is_made (record { variables = child.variables; skeleton = in_order_spelled S I c.child.skeleton child.skeleton })
   given_spelled k limits links marks i so x sound is (inr c) =
-      subst (IsSpelledMade S I) c.is_made (record { variables = is.variables; skeleton = generalised_spelled S I c.generalises is.skeleton })
+      subst (IsSpelledMade S I) c.is_made (record {
+        variables = subst (λ (ds : List Declaration). AreSpelledDeclarations I ds) (sym (same_table so.skeleton.variables c.generalises refl)) is.variables;
+        skeleton = generalised_spelled S I c.generalises is.skeleton;
+      })
 
   -- What becomes of it, where it is not expanded.
-  leaf_spelled : (m : Made) (l : Label) → IsSpelledMade S I m → l.variables ≡ m.variables → l.skeleton ≡ m.skeleton → l.test ≡ None → l.escape ≡ [] → IsSpelledLabel S I l
-  leaf_spelled m l is same_variables same_skeleton no_test no_pattern = record {
-    variables = subst (AreSpelledDeclarations I) (sym same_variables) is.variables;
+  leaf_spelled : (m : Made) (l : Label) → IsSpelledMade S I m → l.skeleton ≡ m.skeleton → l.test ≡ None → l.escape ≡ [] → IsSpelledLabel S I l
+  leaf_spelled m l is same_skeleton no_test no_pattern = record {
+    variables = subst (λ (k : Skeleton). AreSpelledDeclarations I k.variables) (sym same_skeleton) is.variables;
     skeleton = subst (IsSpelledSkeleton S I) (sym same_skeleton) is.skeleton;
     test = λ t e. absurd (cc (e, no_test));
     escape = λ p i. absurd (not_in_none (subst (IsIn p) no_pattern i));
@@ -63,17 +68,17 @@ module _ (S I : List ℕ → Type 0) (decide : (t : List ℕ) → S t ⊎ (S t �
 
   becomes_spelled : (k : Skeleton) (limits : Limits) (links : List LabelLink) (marks : ℕ → Option Mark → Type 0) (i before : ℕ) (m : Made) (l : Label) (gives : List Made) → Becomes protocol limits links marks i before m l gives
       → IsSoundLabel protocol k m → IsSpelledMade S I m → IsSpelledLabel S I l
-  becomes_spelled k limits links marks i before m _ _ (is_dead d) sound is = leaf_spelled m _ is refl refl refl refl
-  becomes_spelled k limits links marks i before m _ _ (is_seen lives lists least) sound is = leaf_spelled m _ is refl refl refl refl
-  becomes_spelled k limits links marks i before m _ _ (is_realised lives new derivable own mark) sound is = leaf_spelled m _ is refl refl refl refl
-  becomes_spelled k limits links marks i before m _ _ (is_generalised lives new derivable generalises) sound is = leaf_spelled m _ is refl refl refl refl
-  becomes_spelled k limits links marks i before m _ _ (above_bound lives new lists unrealised above) sound is = leaf_spelled m _ is refl refl refl refl
-  becomes_spelled k limits links marks i before m _ _ (at_limit lives new lists unrealised within steps) sound is = leaf_spelled m _ is refl refl refl refl
+  becomes_spelled k limits links marks i before m _ _ (is_dead d) sound is = leaf_spelled m _ is refl refl refl
+  becomes_spelled k limits links marks i before m _ _ (is_seen lives lists least) sound is = leaf_spelled m _ is refl refl refl
+  becomes_spelled k limits links marks i before m _ _ (is_realised lives new derivable own mark) sound is = leaf_spelled m _ is refl refl refl
+  becomes_spelled k limits links marks i before m _ _ (is_generalised lives new derivable generalises) sound is = leaf_spelled m _ is refl refl refl
+  becomes_spelled k limits links marks i before m _ _ (above_bound lives new lists unrealised above) sound is = leaf_spelled m _ is refl refl refl
+  becomes_spelled k limits links marks i before m _ _ (at_limit lives new lists unrealised within steps) sound is = leaf_spelled m _ is refl refl refl
   becomes_spelled k limits links marks i before m _ _ (is_tested {e = e} lives new lists unrealised within steps of count) sound is =
       let x = made_expands k m e sound unrealised is of in
       record {
         variables = x.variables;
-        skeleton = is.skeleton;
+        skeleton = table_spelled S I m.skeleton e.skeleton.variables is.skeleton;
         test = λ t same. subst (λ (u : Test). IsSpelledTerm S u.critical) (let f : Some e.test ≡ Some t = same in let g : e.test ≡ t = cc in g) x.critical;
         escape = x.patterns;
       }
@@ -95,23 +100,26 @@ module _ (S I : List ℕ → Type 0) (decide : (t : List ℕ) → S t ⊎ (S t �
     made_sound : (i : ℕ) (m : Made) → item_at made_here i ≡ Some m → IsSoundLabel protocol k m
     made_sound i m at = sound_below protocol variables limits roots tree from k sound_roots declared_roots (expands_soundly protocol variables k declares own) (suc i) i m (omega arith) at
 
-    root_spelled : (i : ℕ) (m : Made) → item_at (map (made_of_root variables) roots) i ≡ Some m → IsSpelledMade S I m
+    root_spelled : (i : ℕ) (m : Made) → item_at (map made_of_root roots) i ≡ Some m → IsSpelledMade S I m
     root_spelled i m at =
-        let r = item_of_map (made_of_root variables) roots i m at in
-        subst (IsSpelledMade S I) r.2 (record { variables = declared; skeleton = roots_spelled S I decide k roots is are r.0 (at_place roots i r.0 r.1) })
+        let r = item_of_map made_of_root roots i m at in
+        subst (IsSpelledMade S I) r.2 (record {
+          variables = subst (λ (ds : List Declaration). AreSpelledDeclarations I ds) (sym (from.declared r.0 (at_place roots i r.0 r.1))) declared;
+          skeleton = roots_spelled S I decide k roots is are r.0 (at_place roots i r.0 r.1);
+        })
 
     -- What was made at each place below n: a label comes behind the one from which it was made.
     spelled_below : (n i : ℕ) (m : Made) → i < n → item_at made_here i ≡ Some m → IsSpelledMade S I m
     spelled_below zero i m l at = absurd (omega (arith, l))
     spelled_below (suc n) i m l at =
         ⊎_elim
-        (λ (front : item_at (map (made_of_root variables) roots) i ≡ Some m). root_spelled i m front)
+        (λ (front : item_at (map made_of_root roots) i ≡ Some m). root_spelled i m front)
         (λ (listed : IsIn m from.children).
         let f = made_from protocol limits (map link_of tree.labels) (IsMarkedAmong from.candidates) 0 0 made_here tree.labels from.children from.settled m listed in
         let number : f.number ≡ f.place = (let w = f.number_is in omega (arith, w)) in
         let before : f.place < i = comes_behind protocol variables limits roots tree from f.place i m at (f.is_made.parent ∙ ap Some number) in
         given_spelled k limits (map link_of tree.labels) (IsMarkedAmong from.candidates) f.number f.so m (made_sound f.place f.so f.at_made) (spelled_below n f.place f.so (omega (arith, l, before)) f.at_made) f.is_made.way)
-        (front_or_behind (map (made_of_root variables) roots) from.children i m at)
+        (front_or_behind (map made_of_root roots) from.children i m at)
 
     label_spelled : (i : ℕ) (l : Label) → item_at tree.labels i ≡ Some l → IsSpelledLabel S I l
     label_spelled i l at =

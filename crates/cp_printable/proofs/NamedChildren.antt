@@ -5,7 +5,6 @@ use Rattle.cp_lists.proofs.Items.{item_below, item_last, there_or_none}
 use Rattle.cp_model.specs.Term.{Term}
 use Rattle.cp_model.specs.Strand.{Role, Protocol}
 use Rattle.cp_model.specs.declared.strand.Event.TheVariants.{Send as send}
-use Rattle.cp_model.specs.declared.variable.Declaration.{Declaration}
 use Rattle.cp_model.specs.Bundle.{node_at}
 use Rattle.cp_model.specs.declared.node.Node.{Node}
 use Rattle.cp_model.specs.Skeleton.{SkeletonStrand, listener, skeleton_trace_or_none, IsNodeOf, Skeleton}
@@ -18,7 +17,8 @@ use Rattle.cp_skel.specs.declared.events.LocatedEvent.{LocatedEvent}
 use Rattle.cp_skel.proofs.EventLists.{listed_event}
 use Rattle.cp_theory.specs.Covering.{put_before}
 use Rattle.cp_cohort.specs.Releases.{Release}
-use Rattle.cp_cohort.specs.CoveringChildren.{Child, child}
+use Rattle.cp_cohort.specs.declared.child.Child.{Child}
+use Rattle.cp_cohort.specs.CoveringChildren.{child}
 use Rattle.cp_cohort.specs.Cohort.{GuardedTest, release_at, AddsAt, IsCohort}
 use Rattle.cp_cohort.specs.Cohort as cohort
 use Rattle.cp_cohort.proofs.EachChild.{DisplacesAt, ComesOfContracting, ComesOfListening, of_contracted, of_released, of_listened, each_child}
@@ -54,7 +54,7 @@ listener_node t k l adds =
 module _ (q : GuardedTest) where
   -- ---- contracted
 
-  contracted_named : (o : LocatedEvent) → IsIn o (events_of q.skeleton) → (path : List Step) (r : Skeleton) → ComesOfContracting q o path r → IsNamed (child q.variables (by_contraction o.node) path r)
+  contracted_named : (o : LocatedEvent) → IsIn o (events_of q.skeleton) → (path : List Step) (r : Skeleton) → ComesOfContracting q o path r → IsNamed (child (by_contraction o.node) path r)
   contracted_named o there_is path r c = nodes_forms c.under c.forms c.has r c.listed o.node (nodes_like_under c.unifier q.skeleton c.under c.same o.node (o.event, listed_event q.skeleton o there_is))
 
   -- ---- released
@@ -64,29 +64,29 @@ module _ (q : GuardedTest) where
     by : d.operation ≡ operation
     node : IsNodeOf d.skeleton.strands n
 
-  releases_node : (variables : List Declaration) (operation : Operation) (r : Release) (grown : Skeleton) (children : List Child) → cohort.Releases q variables operation r grown children
+  releases_node : (operation : Operation) (r : Release) (grown : Skeleton) (children : List Child) → cohort.Releases q operation r grown children
       → (d : Child) → IsIn d children → HasReleased operation (node_at r.strand r.index) d
-  releases_node variables operation r grown =
-      of_released q (HasReleased operation (node_at r.strand r.index)) variables operation r grown
+  releases_node operation r grown =
+      of_released q (HasReleased operation (node_at r.strand r.index)) operation r grown
       (λ x c.
       let n = node_at r.strand r.index in
       let put : Skeleton = put_before n q.node grown in
-      record { by = refl; node = nodes_settle r c.settles x c.listed n (nodes_like_under c.unifier put c.under c.same n (send c.message, c.sent)) })
+      record { by = refl; node = nodes_settle r c.settles x c.listed n (nodes_like_under c.unifier put c.first.skeleton c.is_first.same n (send c.message, c.sent)) })
 
   displaced_at : (s : ℕ) (role : Role) (height j : ℕ) (path : List Step) (children : List Child) → DisplacesAt q s role height j path children → (d : Child) → IsIn d children → IsNamed d
   displaced_at s role height j path children a d i =
-      let h = releases_node a.variables (by_displacement (node_at s j)) (release_at q s j path) a.grown children a.releases d i in
+      let h = releases_node (by_displacement (node_at s j)) (release_at q s j path) a.grown children a.releases d i in
       subst (NamesIn d.skeleton) (sym h.by) h.node
 
   added_at : (role : Role) (j : ℕ) (path : List Step) (children : List Child) → AddsAt q role j path children → (d : Child) → IsIn d children → IsNamed d
   added_at role j path children a d i =
       let s = length q.skeleton.strands in
-      let h = releases_node _ (by_added_strand s) (release_at q s j path) a.grown children a.releases d i in
+      let h = releases_node (by_added_strand s) (release_at q s j path) a.grown children a.releases d i in
       subst (NamesIn d.skeleton) (sym h.by) (strand_of_node d.skeleton.strands (node_at s j) h.node)
 
   -- ---- listeners
 
-  listened_named : (t : Term) (r : Skeleton) → ComesOfListening q t r → IsNamed (child q.variables (by_added_listener (length q.skeleton.strands)) [] r)
+  listened_named : (t : Term) (r : Skeleton) → ComesOfListening q t r → IsNamed (child (by_added_listener (length q.skeleton.strands)) [] r)
   listened_named t r l =
       let s = length q.skeleton.strands in
       let put : Skeleton = put_before (node_at s 1) q.node l.added in

@@ -1,10 +1,11 @@
 -- Patterns with new variables for their locals: their strings, and the identifiers of the new variables.
 use Rattle.std.proofs.Common.{◌≡◌, ◌==◌, ℕ, zero, suc, List, [], ◌∷◌, ◌++◌, codes, Option, Some, None, Bool, true, false, if◌then◌else◌, refl, sym, ap, ◌∙◌, subst, ⊎_elim}
-use Rattle.cp_unify.specs.Bindings.{put_term}
+use Rattle.cp_term.specs.Variables.{variable_of_sort}
+use Rattle.cp_unify.specs.Bindings.{put_of_sort}
 use Rattle.cp_lists.specs.Lists.{item_at, IsIn}
 use Rattle.cp_lists.proofs.Items.{at_place}
 use Rattle.cp_lists.proofs.Members.{not_in_none, from_map, in_append}
-use Rattle.cp_model.specs.Term.{PairTerm, akey_variable, pubk_term, atom_of_variable, Substitution, apply_to_half, composed}
+use Rattle.cp_model.specs.Term.{PairTerm, akey_variable, pubk_term, Substitution, apply_to_half, composed}
 use Rattle.cp_model.specs.declared.sort.Sort.{Sort}
 use Rattle.cp_model.specs.declared.sort.Sort.TheVariants.{Text as text_sort, Datum as datum_sort, Name as name_sort, Skey as skey_sort, Akey as akey_sort}
 use Rattle.cp_model.specs.declared.variable.Variable.{Variable}
@@ -32,7 +33,7 @@ module _ (S : List ℕ → Type 0) where
   one_new true m old is s i = absurd (not_in_none i)
   one_new false m old is s i = is s i
 
-  put_new : (k : Sort) (m n : ℕ) (f : Substitution) → GivesStrings S f → GivesStrings S (put_term m (atom_of_variable (record { sort = k; number = n })) f)
+  put_new : (k : Sort) (m n : ℕ) (f : Substitution) → GivesStrings S f → GivesStrings S (put_of_sort k m (variable_of_sort k n) f)
   put_new text_sort m n f gives z = gives z
   put_new datum_sort m n f gives z = gives z
   put_new name_sort m n f gives z = gives z

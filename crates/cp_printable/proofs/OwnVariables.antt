@@ -4,7 +4,8 @@ use Rattle.cp_lists.specs.Lists.{item_at}
 use Rattle.cp_model.specs.declared.variable.Declaration.{Declaration}
 use Rattle.cp_model.specs.Skeleton.{Skeleton}
 use Rattle.cp_model.specs.PointOfView.{IsPointOfView, HasDeclaredVariables}
-use Rattle.cp_roots.specs.Roots.{Root, AreRoots}
+use Rattle.cp_roots.specs.declared.root.Root.{Root}
+use Rattle.cp_roots.specs.Roots.{AreRoots}
 use Rattle.cp_roots.proofs.VariablesOfRoots.{roots_declared}
 use Rattle.cp_tree.proofs.OwnVariables.{own_declared}
 

@@ -5,7 +5,8 @@ use Rattle.std.specs.List.{filter}
 use Rattle.cp_lists.specs.Lists.{IsIn, here, there}
 use Rattle.cp_lists.proofs.Items.{place_of}
 use Rattle.cp_lists.proofs.Members.{in_append, in_append_left, from_filter}
-use Rattle.cp_model.specs.Term.{Term, apply_to, variable_term, AtomTerm, variables_of, Substitution}
+use Rattle.cp_model.specs.Term.{Term, apply_to, variable_term, AtomTerm, variables_of}
+use Rattle.cp_model.specs.Bindings.{Binding, as_substitution}
 use Rattle.cp_model.specs.declared.variable.Variable.{Variable}
 use Rattle.cp_model.specs.Strand.{prefix_of, variables_of_trace, variables_of_prefix}
 use Rattle.cp_model.specs.declared.variable.Declaration.{Declaration}
@@ -29,14 +30,14 @@ use Rattle.cp_printable.proofs.ProperTerms.{AreNamed, proper_atom, proper_term}
 module _ (named : Variable → Form) where
   -- ---- strands
 
-  module _ (prefix : List Variable) (terms : Substitution)
-      (each : (x : Variable) → IsIn x prefix → AreNamed named (variables_of (apply_to terms (variable_term x))) × IsSpelledTerm IsStringText (apply_to terms (variable_term x))) where
+  module _ (prefix : List Variable) (terms : List Binding)
+      (each : (x : Variable) → IsIn x prefix → AreNamed named (variables_of (apply_to (as_substitution terms) (variable_term x))) × IsSpelledTerm IsStringText (apply_to (as_substitution terms) (variable_term x))) where
     proper_maplets : (n : ℕ) (ds : List Declaration) → AreSpelledDeclarations IsSymbolText ds → AreProperForms (maplets_from named prefix terms n ds)
     proper_maplets n [] own = tt
     proper_maplets n (d ∷ ds) own = by (has_variable prefix (variable d.sort n)) refl (proper_maplets (suc n) ds (λ c m. own c (there m)))
       where
         value : Term
-        value = apply_to terms (variable_term (variable d.sort n))
+        value = apply_to (as_substitution terms) (variable_term (variable d.sort n))
 
         by : (b : Bool) → has_variable prefix (variable d.sort n) ≡ b → AreProperForms (maplets_from named prefix terms (suc n) ds)
             → AreProperForms (if b then plain_list (word d.identifier ∷ term_form named value ∷ []) ∷ maplets_from named prefix terms (suc n) ds else maplets_from named prefix terms (suc n) ds)
@@ -46,7 +47,7 @@ module _ (named : Variable → Form) where
   proper_strand : (s : SkeletonStrand) → AreNamed named (variables_of_trace (skeleton_trace s)) → IsSpelledStrand IsStringText IsSymbolText s → IsProper (strand_form named s)
   proper_strand (instance role height terms) h (own, values) = (
     proper_word (codes "defstrand") refl,
-    (own.name, (tt, proper_maplets (variables_of_prefix role height) terms (λ x m. (λ y i. h y (in_trace_under terms (prefix_of role height) x y m i), values x m)) 0 role.variables own.variables)),
+    (own.name, (tt, proper_maplets (variables_of_prefix role height) terms (λ x m. (λ y i. h y (in_trace_under (as_substitution terms) (prefix_of role height) x y m i), values x m)) 0 role.variables own.variables)),
   )
   proper_strand (listener t) h s = (proper_word (codes "deflistener") refl, (proper_term named t (λ x m. h x (in_append_left (variables_of t ++ []) m)) s, tt))
 

@@ -24,10 +24,10 @@ use Rattle.cp_printable.proofs.ProperItems.{proper_unless_empty, proper_vars, pr
 
 -- ---- labels
 
-module _ (of_problem : List (List ℕ)) (l : Label) (own : AreSymbolTexts of_problem) (declared : (x : Variable) → IsIn x (occurring l) → IsDeclared l.variables x)
+module _ (of_problem : List (List ℕ)) (l : Label) (own : AreSymbolTexts of_problem) (declared : (x : Variable) → IsIn x (occurring l) → IsDeclared l.skeleton.variables x)
     (spelled : IsSpelledLabel IsStringText IsSymbolText l) where
   abbrev names : List (List ℕ)
-  names = label_names of_problem (occurring l) l.variables
+  names = label_names of_problem (occurring l) l.skeleton.variables
 
   abbrev named : Variable → Form
   named = named_by names
@@ -37,7 +37,7 @@ module _ (of_problem : List (List ℕ)) (l : Label) (own : AreSymbolTexts of_pro
 
   -- each variable that occurs in the label form has a proper name
   all_named : AreNamed named (occurring l)
-  all_named x m = let r = has_declaration l.variables x (declared x m) in label_named (occurring l) of_problem l.variables own spelled.variables x.number r.0 r.1 (number_occurs (occurring l) x m)
+  all_named x m = let r = has_declaration l.skeleton.variables x (declared x m) in label_named (occurring l) of_problem l.skeleton.variables own spelled.variables x.number r.0 r.1 (number_occurs (occurring l) x m)
 
   -- the variables of each part of a label form are among these
   in_skeleton : AreNamed named (variables_of_skeleton k)
@@ -69,11 +69,11 @@ module _ (of_problem : List (List ℕ)) (l : Label) (own : AreSymbolTexts of_pro
       (in_append_right (variables_of_atoms k.assumptions.non_originating ++ variables_of_atoms k.assumptions.penetrator_non_originating) m))
 
   -- items of a label form, and then all of them, one behind another
-  proper_vars_item : AreProperForms (item_unless_empty (codes "vars") (vars_from names (occurring l) 0 l.variables))
-  proper_vars_item = proper_unless_empty (codes "vars") (vars_from names (occurring l) 0 l.variables) refl (proper_vars names (occurring l) 0 l.variables each)
+  proper_vars_item : AreProperForms (item_unless_empty (codes "vars") (vars_from names (occurring l) 0 l.skeleton.variables))
+  proper_vars_item = proper_unless_empty (codes "vars") (vars_from names (occurring l) 0 l.skeleton.variables) refl (proper_vars names (occurring l) 0 l.skeleton.variables each)
     where
-      each : (j : ℕ) (d : Declaration) → item_at l.variables j ≡ Some d → has_number (occurring l) (0 + j) ≡ true → IsNamedAt names (0 + j)
-      each j d e h = let z : j ≡ 0 + j = omega arith in subst (λ (i : ℕ). has_number (occurring l) i ≡ true → IsNamedAt names i) z (label_named (occurring l) of_problem l.variables own spelled.variables j d e) h
+      each : (j : ℕ) (d : Declaration) → item_at l.skeleton.variables j ≡ Some d → has_number (occurring l) (0 + j) ≡ true → IsNamedAt names (0 + j)
+      each j d e h = let z : j ≡ 0 + j = omega arith in subst (λ (i : ℕ). has_number (occurring l) i ≡ true → IsNamedAt names i) z (label_named (occurring l) of_problem l.skeleton.variables own spelled.variables j d e) h
 
   proper_non : AreProperForms (item_unless_empty (codes "non-orig") (map (atom_form named) (listed k).non_originating))
   proper_non =
@@ -109,7 +109,7 @@ module _ (of_problem : List (List ℕ)) (l : Label) (own : AreSymbolTexts of_pro
   pub proper_label : (n : ℕ) → IsProper (label_form of_problem n l)
   proper_label n = (proper_word (codes "label") refl, (tt, proper_items))
 
-proper_labels : (of_problem : List (List ℕ)) (n : ℕ) (ls : List Label) → AreSymbolTexts of_problem → ((l : Label) → IsIn l ls → (x : Variable) → IsIn x (occurring l) → IsDeclared l.variables x)
+proper_labels : (of_problem : List (List ℕ)) (n : ℕ) (ls : List Label) → AreSymbolTexts of_problem → ((l : Label) → IsIn l ls → (x : Variable) → IsIn x (occurring l) → IsDeclared l.skeleton.variables x)
     → ((l : Label) → IsIn l ls → IsSpelledLabel IsStringText IsSymbolText l) → AreProperForms (labels_from of_problem n ls)
 proper_labels of_problem n [] own declared spelled = tt
 proper_labels of_problem n (l ∷ ls) own declared spelled =

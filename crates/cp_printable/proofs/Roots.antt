@@ -2,7 +2,8 @@
 use Rattle.std.proofs.Common.{◌⊎◌, ℕ, List}
 use Rattle.cp_lists.specs.Lists.{IsIn}
 use Rattle.cp_model.specs.Skeleton.{Skeleton}
-use Rattle.cp_roots.specs.Roots.{Root, AreRoots}
+use Rattle.cp_roots.specs.declared.root.Root.{Root}
+use Rattle.cp_roots.specs.Roots.{AreRoots}
 use Rattle.cp_roots.proofs.EachRoot.{each_root}
 use Rattle.cp_printable.specs.Spelled.{IsSpelledSkeleton}
 use Rattle.cp_printable.proofs.Under.{in_order_spelled}

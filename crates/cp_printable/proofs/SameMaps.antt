@@ -6,6 +6,7 @@ use Rattle.cp_lists.specs.Lists.{item_at, IsIn}
 use Rattle.cp_lists.proofs.Members.{in_append_left, in_append_right}
 use Rattle.cp_lists.proofs.Mapped.{map_same}
 use Rattle.cp_model.specs.Term.{variable_term, AtomTerm, Term, variables_of_atom, variables_of, Substitution, apply_to, apply_to_atom}
+use Rattle.cp_model.specs.Bindings.{Binding, as_substitution}
 use Rattle.cp_model.specs.declared.variable.Variable.{Variable}
 use Rattle.cp_model.specs.Strand.{payload, Role, Protocol, prefix_of, variables_of_trace, Applies}
 use Rattle.cp_model.specs.declared.strand.Event.{Event}
@@ -58,8 +59,8 @@ module _ (s : Substitution) (k n : Skeleton) (same : IsSameSkeleton s k n) where
   -- ---- over the protocol
 
   -- A value of a role whose variables occur in the prefix.
-  value_renamed : (role : Role) (height : ℕ) (terms terms' : Substitution) → HasTerms s role height terms terms' → (v : AtomTerm) → Applies role height v → apply_to_atom s (apply_to_atom terms v) ≡ apply_to_atom terms' v
-  value_renamed role height terms terms' has v applies = sym (atom_composed terms s v) ∙ agree_atom _ terms' v (λ x m. has x (applies x m))
+  value_renamed : (role : Role) (height : ℕ) (terms terms' : List Binding) → HasTerms s role height terms terms' → (v : AtomTerm) → Applies role height v → apply_to_atom s (apply_to_atom (as_substitution terms) v) ≡ apply_to_atom (as_substitution terms') v
+  value_renamed role height terms terms' has v applies = sym (atom_composed (as_substitution terms) s v) ∙ agree_atom _ (as_substitution terms') v (λ x m. has x (applies x m))
 
   -- A recorded origin of the first skeleton is one of the second.
   origin_renamed : (u : UniqueAt) → IsOrigin k u → IsOrigin n (unique_renamed s u)
@@ -76,14 +77,14 @@ module _ (s : Substitution) (k n : Skeleton) (same : IsSameSkeleton s k n) where
       }
 
   -- The assumptions that a role gives to the first skeleton, it gives to the second.
-  given_renamed : (a : ℕ) (role : Role) (height : ℕ) (terms terms' : Substitution) → HasTerms s role height terms terms' → GivesAssumptions k a role height terms → GivesAssumptions n a role height terms'
+  given_renamed : (a : ℕ) (role : Role) (height : ℕ) (terms terms' : List Binding) → HasTerms s role height terms terms' → GivesAssumptions k a role height terms → GivesAssumptions n a role height terms'
   given_renamed a role height terms terms' has gives = record {
-    non = λ v m applies. subst (λ (w : AtomTerm). IsIn w n.assumptions.non_originating) (value_renamed role height terms terms' has v applies) (forth_homomorphism.non (apply_to_atom terms v) (gives.non v m applies));
+    non = λ v m applies. subst (λ (w : AtomTerm). IsIn w n.assumptions.non_originating) (value_renamed role height terms terms' has v applies) (forth_homomorphism.non (apply_to_atom (as_substitution terms) v) (gives.non v m applies));
     penetrator_non = λ v m applies.
-        subst (λ (w : AtomTerm). IsIn w n.assumptions.penetrator_non_originating) (value_renamed role height terms terms' has v applies) (forth_homomorphism.penetrator_non (apply_to_atom terms v) (gives.penetrator_non v m applies));
+        subst (λ (w : AtomTerm). IsIn w n.assumptions.penetrator_non_originating) (value_renamed role height terms terms' has v applies) (forth_homomorphism.penetrator_non (apply_to_atom (as_substitution terms) v) (gives.penetrator_non v m applies));
     unique = λ v i m at.
         subst (λ (w : AtomTerm). IsIn (record { value = w; origin = node_at a i }) n.assumptions.uniquely_originating) (value_renamed role height terms terms' has v (applies_at role height v i at))
-        (forth_homomorphism.unique (record { value = apply_to_atom terms v; origin = node_at a i }) (gives.unique v i m at));
+        (forth_homomorphism.unique (record { value = apply_to_atom (as_substitution terms) v; origin = node_at a i }) (gives.unique v i m at));
   }
 
   -- Where the pairs of the second go from transmissions to receptions of other strands, it is a skeleton over the protocol.
@@ -151,10 +152,10 @@ module _ (number : Variable → ℕ) (xs : List Variable) (one : IsOneToOne numb
       strand_within m.strand x st.0 st.1 (in_trace (skeleton_trace st.0) m.index e x (event_on k m st.0 e st.1 at) i)
 
   -- The terms of an instance, renamed and back, are these terms.
-  instance_returned : (a : ℕ) (role : Role) (height : ℕ) (terms terms' : Substitution) → item_at k.strands a ≡ Some (instance role height terms) → HasTerms to role height terms terms' → HasTerms from role height terms' terms
+  instance_returned : (a : ℕ) (role : Role) (height : ℕ) (terms terms' : List Binding) → item_at k.strands a ≡ Some (instance role height terms) → HasTerms to role height terms terms' → HasTerms from role height terms' terms
   instance_returned a role height terms terms' at has x i =
-      term_composed terms' from (variable_term x) ∙ ap (apply_to from) (sym (has x i) ∙ term_composed terms to (variable_term x))
-      ∙ term_returned number xs one (apply_to terms (variable_term x)) (λ y m. strand_within a y (instance role height terms) at (in_trace_under terms (prefix_of role height) x y i m))
+      term_composed (as_substitution terms') from (variable_term x) ∙ ap (apply_to from) (sym (has x i) ∙ term_composed (as_substitution terms) to (variable_term x))
+      ∙ term_returned number xs one (apply_to (as_substitution terms) (variable_term x)) (λ y m. strand_within a y (instance role height terms) at (in_trace_under (as_substitution terms) (prefix_of role height) x y i m))
 
   -- The way back is a homomorphism from the second skeleton to the first.
   pub back_homomorphism : IsHomomorphism n k (with_terms from)

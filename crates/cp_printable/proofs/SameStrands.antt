@@ -4,6 +4,7 @@ use Rattle.std.specs.Prelude.{option_map}
 use Rattle.cp_lists.specs.Lists.{item_at}
 use Rattle.cp_model.specs.Senders.{ArePaired}
 use Rattle.cp_model.specs.Term.{Term, Substitution, apply_to, composed, AgreeOnTerms}
+use Rattle.cp_model.specs.Bindings.{Binding, as_substitution}
 use Rattle.cp_model.specs.Strand.{event_map, Role, variables_of_prefix}
 use Rattle.cp_model.specs.declared.strand.Event.{Event}
 use Rattle.cp_model.specs.declared.node.Node.{Node}
@@ -21,23 +22,23 @@ paired_from R (x ∷ xs) (z ∷ ys) p zero y e = let same : z ≡ y = cc in (x, 
 paired_from R (x ∷ xs) (z ∷ ys) p (suc i) y e = paired_from R xs ys p.1 i y e
 
 -- Strand number s is an instance of the role at the height, with terms that have the property.
-abbrev pub HasInstance : List SkeletonStrand → ℕ → Role → ℕ → (Substitution → Type 0) → Type 0
-HasInstance ks s role height P = (terms : Substitution) × (item_at ks s ≡ Some (instance role height terms)) × P terms
+abbrev pub HasInstance : List SkeletonStrand → ℕ → Role → ℕ → (List Binding → Type 0) → Type 0
+HasInstance ks s role height P = (terms : List Binding) × (item_at ks s ≡ Some (instance role height terms)) × P terms
 
 module _ (f : Substitution) where
   -- ---- one strand
 
   -- The first terms, renamed, are the second ones for the variables of the prefix.
-  abbrev pub HasTerms : Role → ℕ → Substitution → Substitution → Type 0
-  HasTerms role height terms terms' = AgreeOnTerms (variables_of_prefix role height) (composed terms f) terms'
+  abbrev pub HasTerms : Role → ℕ → List Binding → List Binding → Type 0
+  HasTerms role height terms terms' = AgreeOnTerms (variables_of_prefix role height) (composed (as_substitution terms) f) (as_substitution terms')
 
   -- Only an instance is renamed to an instance,
-  is_instance : (a : SkeletonStrand) (role : Role) (height : ℕ) (terms' : Substitution) → IsSameStrandUnder f a (instance role height terms') → (terms : Substitution) × (a ≡ instance role height terms) × HasTerms role height terms terms'
+  is_instance : (a : SkeletonStrand) (role : Role) (height : ℕ) (terms' : List Binding) → IsSameStrandUnder f a (instance role height terms') → (terms : List Binding) × (a ≡ instance role height terms) × HasTerms role height terms terms'
   is_instance (instance r h t) role height terms' p = (t, (λ i. instance (p.0 i) (p.1 i) t), subst (λ (n : ℕ). HasTerms role n t terms') p.1 (subst (λ (q : Role). HasTerms q h t terms') p.0 p.2))
   is_instance (listener t) role height terms' p = absurd p
 
   -- and an instance is renamed to nothing else.
-  to_instance : (role : Role) (height : ℕ) (terms : Substitution) (b : SkeletonStrand) → IsSameStrandUnder f (instance role height terms) b → (terms' : Substitution) × (b ≡ instance role height terms') × HasTerms role height terms terms'
+  to_instance : (role : Role) (height : ℕ) (terms : List Binding) (b : SkeletonStrand) → IsSameStrandUnder f (instance role height terms) b → (terms' : List Binding) × (b ≡ instance role height terms') × HasTerms role height terms terms'
   to_instance role height terms (instance r h t) p = (t, (λ i. instance (sym p.0 i) (sym p.1 i) t), p.2)
   to_instance role height terms (listener t) p = absurd p
 
@@ -62,14 +63,14 @@ module _ (f : Substitution) where
 
   module _ (ks ls : List SkeletonStrand) (paired : ArePaired (IsSameStrandUnder f) ks ls) where
     -- An instance in the second list is one in the first.
-    pub instance_from : (s : ℕ) (role : Role) (height : ℕ) (terms' : Substitution) → item_at ls s ≡ Some (instance role height terms') → HasInstance ks s role height (λ terms. HasTerms role height terms terms')
+    pub instance_from : (s : ℕ) (role : Role) (height : ℕ) (terms' : List Binding) → item_at ls s ≡ Some (instance role height terms') → HasInstance ks s role height (λ terms. HasTerms role height terms terms')
     instance_from s role height terms' at =
         let r = paired_from (IsSameStrandUnder f) ks ls paired s (instance role height terms') at in
         let q = is_instance r.0 role height terms' r.2 in
         (q.0, r.1 ∙ ap Some q.1, q.2)
 
     -- An instance in the first list is one in the second.
-    pub instance_onto : (s : ℕ) (role : Role) (height : ℕ) (terms : Substitution) → item_at ks s ≡ Some (instance role height terms) → HasInstance ls s role height (λ terms'. HasTerms role height terms terms')
+    pub instance_onto : (s : ℕ) (role : Role) (height : ℕ) (terms : List Binding) → item_at ks s ≡ Some (instance role height terms) → HasInstance ls s role height (λ terms'. HasTerms role height terms terms')
     instance_onto s role height terms at =
         let r = paired_item (IsSameStrandUnder f) ks ls paired s (instance role height terms) at in
         let q = to_instance role height terms r.0 r.2 in

@@ -1,20 +1,21 @@
 -- The results of a release that is solved are skeletons with no other strings and no other identifiers.
-use Rattle.std.proofs.Common.{◌⊎◌, ℕ, List, length, subst}
+use Rattle.std.proofs.Common.{◌⊎◌, ℕ, List, length, sym, subst}
 use Rattle.cp_lists.specs.Lists.{IsIn}
 use Rattle.cp_lists.proofs.Members.{in_append_left, in_append_right}
 use Rattle.cp_model.specs.Term.{Term, Substitution}
 use Rattle.cp_model.specs.Bundle.{node_at}
-use Rattle.cp_model.specs.Skeleton.{Skeleton}
+use Rattle.cp_model.specs.declared.variable.Declaration.{Declaration}
 use Rattle.cp_model.specs.Tree.{Pattern}
 use Rattle.cp_model.specs.declared.step.Step.{Step}
 use Rattle.cp_theory.specs.Normal.{skeleton_under}
-use Rattle.cp_collapse.specs.SameSkeletons.{SaysTheSame}
 use Rattle.cp_theory.specs.Above.{encryptions_above}
-use Rattle.cp_normal.specs.Formed.{Formed, AreFormedNormalForms}
+use Rattle.cp_normal.specs.Formed.{Formed, AreFormedNormalForms, IsFormBeside}
+use Rattle.cp_normal.specs.declared.form.Form.{Form}
 use Rattle.cp_pattern.specs.Unifiers.{UnifiesMostGenerally}
 use Rattle.cp_pattern.specs.Opened.{declared_as}
-use Rattle.cp_cohort.specs.Releases.{Release, PartialSolution, IsFirstOutside}
-use Rattle.cp_cohort.specs.Stages.{Choice, choices, pattern_in, branch_of, with_form_of, Stage, SolvesRelease}
+use Rattle.cp_cohort.specs.declared.release.PartialSolution.{PartialSolution}
+use Rattle.cp_cohort.specs.Releases.{Release, came_by, IsFirstOutside}
+use Rattle.cp_cohort.specs.Stages.{Choice, choices, pattern_in, IsNextUnder, of_form, Stage, SolvesRelease}
 use Rattle.cp_cohort.proofs.EachSettled.{settles_each}
 use Rattle.cp_cohort.proofs.Settled.{above_has, of_choices}
 use Rattle.cp_printable.specs.Strings.{strings_of, strings_of_key}
@@ -27,8 +28,8 @@ use Rattle.cp_printable.proofs.OpenedPatterns.{then_gives, opened_spelled, AreNa
 
 -- The partial solution has admitted strings and identifiers, its substitution among it.
 pub record IsSpelledPartialSolution (S I : List ℕ → Type 0) (x : PartialSolution) : Type 0 where
-  pub variables : AreSpelledDeclarations I x.variables
-  pub substitution : GivesStrings S x.substitution
+  pub variables : AreSpelledDeclarations I x.skeleton.variables
+  pub substitution : GivesStrings S (came_by x)
   pub skeleton : IsSpelledSkeleton S I x.skeleton
 
 -- ---- enclosing encryptions, and choices
@@ -41,7 +42,7 @@ module _ (S I : List ℕ → Type 0) (decide : (t : List ℕ) → S t ⊎ (S t �
   module _ (r : Release) (patterns : (p : Pattern) → IsIn p r.patterns → IsSpelledTerm S p.term) where
     -- The patterns' locals are named with admitted identifiers.
     abbrev AreAllNamed : PartialSolution → Type 0
-    AreAllNamed x = (p : Pattern) → IsIn p r.patterns → AreNamed I x.variables p
+    AreAllNamed x = (p : Pattern) → IsIn p r.patterns → AreNamed I x.skeleton.variables p
 
     abbrev IsRight : PartialSolution → Type 0
     IsRight x = IsSpelledPartialSolution S I x × AreAllNamed x
@@ -52,18 +53,19 @@ module _ (S I : List ℕ → Type 0) (decide : (t : List ℕ) → S t ⊎ (S t �
     IsChoiceOf c = IsSpelledTerm S c.encryption × IsIn c.pattern r.patterns
 
     module _ (x : PartialSolution) (right : IsRight x) where
-      branch_spelled : (c : Choice) → IsChoiceOf c → (u : Substitution) → UnifiesMostGenerally c.encryption (pattern_in x c.pattern) u → (l : Skeleton) → SaysTheSame (skeleton_under u x.skeleton) l → IsRight (branch_of x c.pattern u l)
-      branch_spelled c of u m l same =
+      branch_spelled : (c : Choice) → IsChoiceOf c → (u : Substitution) → UnifiesMostGenerally c.encryption (pattern_in x c.pattern) u → (y : PartialSolution) → IsNextUnder x c.pattern u y → IsRight y
+      branch_spelled c of u m y next =
           let is = right.0 in
-          let opened_is : IsSpelledTerm S (pattern_in x c.pattern) = opened_spelled S c.pattern x.substitution (length x.variables) (patterns c.pattern of.1) is.substitution in
+          let ds = x.skeleton.variables in
+          let opened_is : IsSpelledTerm S (pattern_in x c.pattern) = opened_spelled S c.pattern (came_by x) (length ds) (patterns c.pattern of.1) is.substitution in
           let gives : GivesStrings S u = unifier_gives S decide c.encryption (pattern_in x c.pattern) u of.0 opened_is m in
-          let new : AreSpelledDeclarations I (declared_as x.variables c.pattern.locals) = new_declared I x.variables c.pattern (right.1 c.pattern of.1) in (
+          let new : AreSpelledDeclarations I (declared_as ds c.pattern.locals) = new_declared I ds c.pattern (right.1 c.pattern of.1) in (
             record {
-              variables = both_declared I x.variables (declared_as x.variables c.pattern.locals) is.variables new;
-              substitution = then_gives S x.substitution u is.substitution gives;
-              skeleton = same_spelled S I (skeleton_under u x.skeleton) l same (under_spelled S I u x.skeleton gives is.skeleton);
+              variables = subst (λ (es : List Declaration). AreSpelledDeclarations I es) (sym next.variables) (both_declared I ds (declared_as ds c.pattern.locals) is.variables new);
+              substitution = subst (λ (s : Substitution). GivesStrings S s) (sym next.by) (then_gives S (came_by x) u is.substitution gives);
+              skeleton = same_spelled S I (skeleton_under u x.skeleton) y.skeleton next.same (under_spelled S I u x.skeleton gives is.skeleton);
             },
-            λ p i. still_named I x.variables (declared_as x.variables c.pattern.locals) p new (right.1 p i),
+            λ p i. subst (λ (es : List Declaration). AreNamed I es p) (sym next.variables) (still_named I ds (declared_as ds c.pattern.locals) p new (right.1 p i)),
           )
 
       are_choices : (t : Term) (path : List Step) → IsFirstOutside r x t path → (c : Choice) → IsIn c (choices (encryptions_above t path) r.patterns) → IsChoiceOf c
@@ -76,12 +78,16 @@ module _ (S I : List ℕ → Type 0) (decide : (t : List ℕ) → S t ⊎ (S t �
 
       -- ---- a normal form
 
-      form_spelled : (forms : List Formed) → AreFormedNormalForms x.skeleton forms → (f : Formed) → IsIn f forms → IsRight (with_form_of x f)
-      form_spelled forms are f i =
+      form_spelled : (forms : List Formed) → AreFormedNormalForms x.skeleton forms → (f : Formed) → IsIn f forms → (a : Form) → IsFormBeside x.skeleton x.substitution a f → IsRight (of_form a)
+      form_spelled forms are f i a beside =
           let is = right.0 in
-          let of_form : IsSpelledSkeleton S I f.skeleton = normal_forms_spelled S I decide x.skeleton forms are is.skeleton f i in (
-            record { variables = is.variables; substitution = then_gives S x.substitution f.substitution is.substitution (form_gives S I x.skeleton forms are f i of_form); skeleton = of_form },
-            right.1,
+          let of_f : IsSpelledSkeleton S I f.skeleton = normal_forms_spelled S I decide x.skeleton forms are is.skeleton f i in (
+            record {
+              variables = subst (λ (ds : List Declaration). AreSpelledDeclarations I ds) (sym beside.variables) is.variables;
+              substitution = subst (λ (s : Substitution). GivesStrings S s) (sym beside.substitution) (then_gives S (came_by x) f.substitution is.substitution (form_gives S I x.skeleton forms are f i of_f));
+              skeleton = subst (IsSpelledSkeleton S I) (sym beside.skeleton) of_f;
+            },
+            λ p j. subst (λ (ds : List Declaration). AreNamed I ds p) (sym beside.variables) (right.1 p j),
           )
 
     -- ---- its results
@@ -89,11 +95,11 @@ module _ (S I : List ℕ → Type 0) (decide : (t : List ℕ) → S t ⊎ (S t �
     settles_right : {stage : Stage} {x : PartialSolution} {ys : List PartialSolution} → SolvesRelease r stage x ys → IsRight x → (y : PartialSolution) → IsIn y ys → IsRight y
     settles_right settles right y i =
         (settles_each r IsRight (record {
-          branch = λ x right c choice u m l same. branch_spelled x right c (are_choices x right choice.term choice.path choice.outside c choice.listed) u m l same;
+          branch = λ x right c choice u m y next. branch_spelled x right c (are_choices x right choice.term choice.path choice.outside c choice.listed) u m y next;
           form = form_spelled;
         }) settles right y i).0
 
   -- The last premise: what names the patterns' locals as new variables is admitted.
-  pub settles_spelled : (r : Release) → ((p : Pattern) → IsIn p r.patterns → IsSpelledTerm S p.term) → {stage : Stage} {x : PartialSolution} {ys : List PartialSolution} → SolvesRelease r stage x ys → IsSpelledPartialSolution S I x → ((p : Pattern) → IsIn p r.patterns → AreNamed I x.variables p)
+  pub settles_spelled : (r : Release) → ((p : Pattern) → IsIn p r.patterns → IsSpelledTerm S p.term) → {stage : Stage} {x : PartialSolution} {ys : List PartialSolution} → SolvesRelease r stage x ys → IsSpelledPartialSolution S I x → ((p : Pattern) → IsIn p r.patterns → AreNamed I x.skeleton.variables p)
       → (y : PartialSolution) → IsIn y ys → IsSpelledPartialSolution S I y
   settles_spelled r patterns settles is named y i = (settles_right r patterns settles (is, named) y i).0

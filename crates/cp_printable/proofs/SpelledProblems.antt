@@ -2,7 +2,8 @@
 -- declarations are.
 use Rattle.std.proofs.Common.{◌≡◌, ℕ, suc, List, [], ◌∷◌, ◌++◌, length, Bool, true, false, nat_lt, Option, Some, None, refl, sym, subst, ⊎_elim, if◌then◌else◌}
 use Rattle.cp_lists.specs.Lists.{IsIn, here, there}
-use Rattle.cp_model.specs.Term.{variable_term, AtomTerm, atom_term, Substitution, apply_to_atom, variables_of_atom}
+use Rattle.cp_model.specs.Term.{variable_term, AtomTerm, atom_term, apply_to_atom, variables_of_atom}
+use Rattle.cp_model.specs.Bindings.{Binding, as_substitution}
 use Rattle.cp_model.specs.Strand.{Role, Protocol, variables_of_prefix}
 use Rattle.cp_model.specs.declared.variable.Declaration.{Declaration}
 use Rattle.cp_model.specs.Bundle.{node_at}
@@ -27,11 +28,11 @@ one_applying : (b : Bool) (v : AtomTerm) (vs : List AtomTerm) → IsSpelledAtom 
 one_applying true v vs h hs = each_more (IsSpelledAtom IsStringText) v vs h hs
 one_applying false v vs h hs = hs
 
-applying_strings : (role : Role) (height : ℕ) (terms : Substitution) → GivesStrings terms → (vs : List AtomTerm) → AreSpelledAtoms IsStringText vs → AreSpelledAtoms IsStringText (applying role height terms vs)
+applying_strings : (role : Role) (height : ℕ) (terms : List Binding) → GivesStrings (as_substitution terms) → (vs : List AtomTerm) → AreSpelledAtoms IsStringText vs → AreSpelledAtoms IsStringText (applying role height terms vs)
 applying_strings role height terms gives [] h = each_of_none (IsSpelledAtom IsStringText)
 applying_strings role height terms gives (v ∷ vs) h =
-    one_applying (has_variables (variables_of_prefix role height) (variables_of_atom v)) (apply_to_atom terms v) (applying role height terms vs)
-    (atom_applied terms gives v (h v here)) (applying_strings role height terms gives vs (λ w i. h w (there i)))
+    one_applying (has_variables (variables_of_prefix role height) (variables_of_atom v)) (apply_to_atom (as_substitution terms) v) (applying role height terms vs)
+    (atom_applied (as_substitution terms) gives v (h v here)) (applying_strings role height terms gives vs (λ w i. h w (there i)))
 
 -- The values of one kind that roles give.
 module _ (of_kind : Role → List AtomTerm) (spelled : (role : Role) → IsSpelledRole IsStringText IsSymbolText role → AreSpelledAtoms IsStringText (of_kind role)) where
@@ -56,11 +57,11 @@ below_strings : (height s : ℕ) (v : AtomTerm) (o : Option ℕ) → IsSpelledAt
 below_strings height s v None h = each_of_none HasStrings
 below_strings height s v (Some i) h = unique_if (nat_lt i height) (record { value = v; origin = node_at s i }) h
 
-applying_uniques_strings : (role : Role) (height : ℕ) (terms : Substitution) (s : ℕ) → GivesStrings terms → (vs : List AtomTerm) → AreSpelledAtoms IsStringText vs → Each HasStrings (applying_uniques role height terms s vs)
+applying_uniques_strings : (role : Role) (height : ℕ) (terms : List Binding) (s : ℕ) → GivesStrings (as_substitution terms) → (vs : List AtomTerm) → AreSpelledAtoms IsStringText vs → Each HasStrings (applying_uniques role height terms s vs)
 applying_uniques_strings role height terms s gives [] h = each_of_none HasStrings
 applying_uniques_strings role height terms s gives (v ∷ vs) h =
-    each_of_both HasStrings (unique_if_below height s (apply_to_atom terms v) (origin_in role.trace (atom_term v))) (applying_uniques role height terms s vs)
-    (below_strings height s (apply_to_atom terms v) (origin_in role.trace (atom_term v)) (atom_applied terms gives v (h v here)))
+    each_of_both HasStrings (unique_if_below height s (apply_to_atom (as_substitution terms) v) (origin_in role.trace (atom_term v))) (applying_uniques role height terms s vs)
+    (below_strings height s (apply_to_atom (as_substitution terms) v) (origin_in role.trace (atom_term v)) (atom_applied (as_substitution terms) gives v (h v here)))
     (applying_uniques_strings role height terms s gives vs (λ w i. h w (there i)))
 
 given_uniques_strings : (n : ℕ) (ks : List SkeletonStrand) → AreProperStrands ks → Each HasStrings (given_uniques n ks)
@@ -72,7 +73,7 @@ given_uniques_strings n (instance role height terms ∷ ks) h =
     (applying_uniques_strings role height terms n p.1 role.uniquely_originating p.0.unique) (given_uniques_strings (suc n) ks (λ s i. h s (there i)))
 
 -- a value at its origin on a strand
-origin_strings : (role : Role) (height : ℕ) (terms : Substitution) (s : ℕ) (v : AtomTerm) (o : Option ℕ) → origin_in (skeleton_trace (instance role height terms)) (atom_term v) ≡ o → IsSpelledAtom IsStringText v →
+origin_strings : (role : Role) (height : ℕ) (terms : List Binding) (s : ℕ) (v : AtomTerm) (o : Option ℕ) → origin_in (skeleton_trace (instance role height terms)) (atom_term v) ≡ o → IsSpelledAtom IsStringText v →
     Each HasStrings (origins_on (instance role height terms) s v)
 origin_strings role height terms s v None e h u i = let q : IsIn u [] = rw e at i in elim q [ ]
 origin_strings role height terms s v (Some j) e h u i =

@@ -1,16 +1,18 @@
 -- The strings and identifiers of the strands that proper forms state are proper, and so are the variables that are made
 -- for them, which are named after those of their roles.
-use Rattle.std.proofs.Common.{◌≡◌, ℕ, suc, ◌+◌, List, [], ◌∷◌, ◌++◌, length, Bool, true, false, Option, Some, None, refl, subst, if◌then◌else◌}
+use Rattle.std.proofs.Common.{◌≡◌, ℕ, suc, ◌+◌, List, [], ◌∷◌, ◌++◌, length, Bool, true, false, Option, Some, None, refl, sym, subst, if◌then◌else◌}
 use Rattle.cp_lists.specs.Lists.{item_at, here, there}
 use Rattle.cp_lists.proofs.Items.{at_place}
 use Rattle.cp_model.specs.Term.{apply_to, variable_term, PairTerm, akey_variable, pubk_term, symmetric_term, asymmetric_term, AtomTerm, text_variable, datum_variable, name_variable, key_term, Term, tag_term, atom_term, pair_term, enc_term, Substitution, apply_to_key, apply_to_atom}
+use Rattle.cp_model.specs.Bindings.{as_substitution, bindings_of}
 use Rattle.cp_model.specs.declared.sort.Sort.{Sort}
 use Rattle.cp_model.specs.declared.sort.Sort.TheVariants.{Text as text_sort, Datum as datum_sort, Name as name_sort, Skey as skey_sort, Akey as akey_sort}
 use Rattle.cp_model.specs.declared.variable.Variable.{Variable}
 use Rattle.cp_model.specs.Strand.{Role, variables_of_prefix}
 use Rattle.cp_model.specs.declared.variable.Declaration.{Declaration}
 use Rattle.cp_model.specs.Skeleton.{SkeletonStrand, instance, listener}
-use Rattle.cp_model.specs.Homomorphism.{akey_in, substitution_by}
+use Rattle.cp_model.specs.Values.{akey_in, substitution_by}
+use Rattle.cp_model.proofs.DeclaredTerms.{bindings_are}
 use Rattle.cp_sexpr.specs.Syntax.{Form, symbol, string, number, list, none, more}
 use Rattle.cp_language.specs.declared.words.ItemHead.{ItemHead}
 use Rattle.cp_language.specs.Words.{is_one_of}
@@ -65,8 +67,8 @@ numbered_gives ts h name_sort n = no_strings
 numbered_gives ts h skey_sort n = no_strings
 numbered_gives ts h akey_sort n = option_strings n (item_at ts n) (λ t e. h t (at_place ts n t e))
 
-by_terms : (ts : List Term) → HaveStrings ts → GivesStrings (substitution_by ts)
-by_terms ts h x = numbered_gives ts h x.sort x.number
+by_terms : (ts : List Term) → HaveStrings ts → GivesStrings (as_substitution (bindings_of ts))
+by_terms ts h = subst (λ (s : Substitution). GivesStrings s) (sym (bindings_are ts)) (λ x. numbered_gives ts h x.sort x.number)
 
 pair_applied : (s : Substitution) → GivesStrings s → (flag : Bool) (k : PairTerm) → AreStrings (strings_of_pair k) → AreStrings (strings_of_key (apply_to_key s (asymmetric_term flag k)))
 pair_applied s gives flag (akey_variable n) h = gives (record { sort = akey_sort; number = n })
@@ -137,7 +139,7 @@ module _ (prefix : List Variable) (ds : List Declaration) (maplets : List Form) 
 
 -- Of an instance the role and all terms are proper, of a listener its term.
 abbrev pub IsProperStrand : SkeletonStrand → Type 0
-IsProperStrand (instance role height terms) = IsSpelledRole IsStringText IsSymbolText role × GivesStrings terms
+IsProperStrand (instance role height terms) = IsSpelledRole IsStringText IsSymbolText role × GivesStrings (as_substitution terms)
 IsProperStrand (listener t) = AreStrings (strings_of t)
 
 abbrev pub AreProperStrands : List SkeletonStrand → Type 0

@@ -7,7 +7,7 @@ use Rattle.cp_model.specs.Strand.{Role}
 use Rattle.cp_model.specs.PointOfView.{IsPointOfView}
 use Rattle.cp_model.specs.Tree.{Label, Tree, IsTrueOf}
 use Rattle.cp_model.specs.declared.tree.Limits.{Limits}
-use Rattle.cp_strand.specs.Declares.{DeclaresItsVariables}
+use Rattle.cp_model.specs.Declares.{DeclaresItsVariables}
 use Rattle.cp_tree.specs.Searched.{IsTreeOf}
 use Rattle.cp_language.specs.Problems.{Problem}
 use Rattle.cp_language.specs.Report.{HasItsVariables}
@@ -19,7 +19,7 @@ use Rattle.cp_printable.proofs.LabelFields.{label_unrealised, label_test, label_
 
 module _ (p : Problem) (limits : Limits) (t : Tree) (declares : (role : Role) → IsIn role p.protocol.roles → DeclaresItsVariables role) (own : IsPointOfView p.variables p.skeleton)
     (truth : IsTrueOf p.protocol p.skeleton limits t) (of : IsTreeOf p.protocol p.skeleton p.variables limits t) (variables : (l : Label) → IsIn l t.labels → HasItsVariables p l)
-    (few : (l : Label) → IsIn l t.labels → length l.variables < 2 ^ 64) where
+    (few : (l : Label) → IsIn l t.labels → length l.skeleton.variables < 2 ^ 64) where
   pub tree_fits : TreeFits p t
   tree_fits i l at =
       let from = of.from_roots in

@@ -4,9 +4,11 @@ use Rattle.cp_lists.specs.Lists.{item_at, IsIn, here, there}
 use Rattle.cp_lists.proofs.Members.{in_append, in_append_left, in_append_right, from_map}
 use Rattle.cp_lists.proofs.Items.{at_place, item_of_map, item_of_take}
 use Rattle.cp_model.specs.Term.{variable_term, akey_variable, pubk_term, symmetric_term, asymmetric_term, AtomTerm, text_variable, datum_variable, name_variable, key_term, Term, tag_term, atom_term, pair_term, enc_term, variables_of_atom, variables_of_key, variables_of, IsCarriedByTerm, itself_term, in_left_term, in_right_term, in_plaintext_term, Substitution, apply_to_key, apply_to_atom, apply_to, composed}
+use Rattle.cp_model.specs.Bindings.{Binding, as_substitution}
 use Rattle.cp_model.specs.declared.sort.Sort.{Sort}
 use Rattle.cp_model.specs.declared.sort.Sort.TheVariants.{Text as text_sort, Datum as datum_sort, Name as name_sort, Skey as skey_sort, Akey as akey_sort}
 use Rattle.cp_model.specs.declared.variable.Variable.{Variable}
+use Rattle.cp_model.specs.declared.variable.Declaration.{Declaration}
 use Rattle.cp_model.specs.Strand.{payload, event_map, Role, prefix_of}
 use Rattle.cp_model.specs.declared.strand.Event.{Event}
 use Rattle.cp_model.specs.declared.strand.Event.TheVariants.{Send as send, Receive as recv}
@@ -21,6 +23,7 @@ use Rattle.cp_model.specs.declared.step.Step.{Step}
 use Rattle.cp_model.specs.declared.step.Step.TheVariants.{Left, Right, Plaintext}
 use Rattle.cp_model.specs.Positions.{term_at}
 use Rattle.cp_theory.specs.Normal.{strand_under, unique_under, assumptions_under, skeleton_under, with_pairs}
+use Rattle.cp_theory.proofs.Under.{terms_kept}
 use Rattle.cp_skel.proofs.EachOnce.{listed-non, listed-penetrator-non, listed-unique}
 use Rattle.cp_collapse.specs.SameSkeletons.{IsSameStrand, same_instance, same_listener, AreSameStrands, no_strands, same_strands, SaysTheSame}
 use Rattle.cp_roots.specs.Roots.{in_report_order}
@@ -100,12 +103,15 @@ module _ (S I : List ℕ → Type 0) where
     unique = uniques_under f a.uniquely_originating gives are.unique;
   }
 
-  composed_spelled : (f terms : Substitution) (x : Variable) → GivesStrings S f → IsSpelledTerm S (apply_to terms (variable_term x)) → IsSpelledTerm S (apply_to (composed terms f) (variable_term x))
-  composed_spelled f terms x gives is =
-      subst (IsSpelledTerm S) (sym (term_composed terms f (variable_term x))) (term_under f (apply_to terms (variable_term x)) gives is)
+  composed_spelled : (f s : Substitution) (x : Variable) → GivesStrings S f → IsSpelledTerm S (apply_to s (variable_term x)) → IsSpelledTerm S (apply_to (composed s f) (variable_term x))
+  composed_spelled f s x gives is =
+      subst (IsSpelledTerm S) (sym (term_composed s f (variable_term x))) (term_under f (apply_to s (variable_term x)) gives is)
 
   pub strand_under_spelled : (f : Substitution) (st : SkeletonStrand) → GivesStrings S f → IsSpelledStrand S I st → IsSpelledStrand S I (strand_under f st)
-  strand_under_spelled f (instance role height terms) gives is = (is.0, λ x i. composed_spelled f terms x gives (is.1 x i))
+  strand_under_spelled f (instance role height terms) gives is = (
+    is.0,
+    λ x i. subst (IsSpelledTerm S) (sym (terms_kept f role height terms x i)) (composed_spelled f (as_substitution terms) x gives (is.1 x i)),
+  )
   strand_under_spelled f (listener t) gives is = term_under f t gives is
 
   strands_under : (f : Substitution) (ss : List SkeletonStrand) → GivesStrings S f → ((st : SkeletonStrand) → IsIn st ss → IsSpelledStrand S I st) → (st : SkeletonStrand) → IsIn st (map (strand_under f) ss) → IsSpelledStrand S I st
@@ -148,6 +154,10 @@ module _ (S I : List ℕ → Type 0) where
   pub with_pairs_spelled : (k : Skeleton) (pairs : List OrderPair) → IsSpelledSkeleton S I k → IsSpelledSkeleton S I (with_pairs k pairs)
   with_pairs_spelled k pairs is = record { strands = is.strands; assumptions = is.assumptions; values = is.values; own = is.own }
 
+  -- So has a skeleton with another table.
+  pub table_spelled : (k : Skeleton) (variables : List Declaration) → IsSpelledSkeleton S I k → IsSpelledSkeleton S I (record k { variables = variables })
+  table_spelled k variables is = record { strands = is.strands; assumptions = is.assumptions; values = is.values; own = is.own }
+
   listed_spelled : (k : Skeleton) → AreSpelledAssumptions S k.assumptions → AreSpelledAssumptions S (listed k)
   listed_spelled k are = record {
     non = λ v i. are.non v (((listed-non k).same v).0 i);
@@ -164,12 +174,12 @@ module _ (S I : List ℕ → Type 0) where
   event_by f (send t) gives is = term_by f t gives is
   event_by f (recv t) gives is = term_by f t gives is
 
-  instance_event : (role : Role) (height : ℕ) (terms : Substitution) (i : ℕ) (e : Event Term) → IsSpelledStrand S I (instance role height terms) → item_at (skeleton_trace (instance role height terms)) i ≡ Some e → IsSpelledTerm S (payload e)
+  instance_event : (role : Role) (height : ℕ) (terms : List Binding) (i : ℕ) (e : Event Term) → IsSpelledStrand S I (instance role height terms) → item_at (skeleton_trace (instance role height terms)) i ≡ Some e → IsSpelledTerm S (payload e)
   instance_event role height terms i e is at =
-      let m = item_of_map (event_map (apply_to terms)) (prefix_of role height) i e at in
+      let m = item_of_map (event_map (apply_to (as_substitution terms))) (prefix_of role height) i e at in
       let own = item_of_take height role.trace i m.0 m.1 in
       subst (λ (d : Event Term). IsSpelledTerm S (payload d)) m.2
-      (event_by terms m.0 (λ x j. is.1 x (in_trace (prefix_of role height) i m.0 x m.1 j)) (is.0.trace m.0 (at_place role.trace i m.0 own.1)))
+      (event_by (as_substitution terms) m.0 (λ x j. is.1 x (in_trace (prefix_of role height) i m.0 x m.1 j)) (is.0.trace m.0 (at_place role.trace i m.0 own.1)))
 
   listener_events : (t : Term) (e : Event Term) → IsIn e (skeleton_trace (listener t)) → payload e ≡ t
   listener_events t e here = refl

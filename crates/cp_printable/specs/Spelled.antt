@@ -3,6 +3,7 @@
 use Rattle.std.specs.Prelude.{◌≡◌, ℕ, List, Some}
 use Rattle.cp_lists.specs.Lists.{IsIn}
 use Rattle.cp_model.specs.Term.{apply_to, variable_term, AtomTerm, Term}
+use Rattle.cp_model.specs.Bindings.{as_substitution}
 use Rattle.cp_model.specs.declared.variable.Variable.{Variable}
 use Rattle.cp_model.specs.Strand.{payload, Role, variables_of_prefix}
 use Rattle.cp_model.specs.declared.strand.Event.{Event}
@@ -36,7 +37,7 @@ pub record IsSpelledRole (S I : List ℕ → Type 0) (role : Role) : Type 0 wher
 
 -- Of an instance its role, and the terms of the variables of its prefix; of a listener its term.
 abbrev pub IsSpelledStrand : (S I : List ℕ → Type 0) → SkeletonStrand → Type 0
-IsSpelledStrand S I (instance role height terms) = IsSpelledRole S I role × ((x : Variable) → IsIn x (variables_of_prefix role height) → IsSpelledTerm S (apply_to terms (variable_term x)))
+IsSpelledStrand S I (instance role height terms) = IsSpelledRole S I role × ((x : Variable) → IsIn x (variables_of_prefix role height) → IsSpelledTerm S (apply_to (as_substitution terms) (variable_term x)))
 IsSpelledStrand S I (listener t) = IsSpelledTerm S t
 
 pub record AreSpelledAssumptions (S : List ℕ → Type 0) (a : Assumptions) : Type 0 where
@@ -57,7 +58,7 @@ pub record IsSpelledProblem (S I : List ℕ → Type 0) (p : Problem) : Type 0 w
   pub skeleton : IsSpelledSkeleton S I p.skeleton
 
 pub record IsSpelledLabel (S I : List ℕ → Type 0) (l : Label) : Type 0 where
-  pub variables : AreSpelledDeclarations I l.variables
+  pub variables : AreSpelledDeclarations I l.skeleton.variables
   pub skeleton : IsSpelledSkeleton S I l.skeleton
   pub test : (t : Test) → l.test ≡ Some t → IsSpelledTerm S t.critical
   pub escape : (p : Pattern) → IsIn p l.escape → IsSpelledTerm S p.term

@@ -19,7 +19,7 @@ pub fn heard_encryption_can_be_stated()
     ensures roots { AreRoots heard_problem.skeleton (heard_root ∷ []) }
     ensures searched { IsTreeOf heard_problem.protocol heard_problem.skeleton heard_problem.variables one_step_limits heard_tree }
     ensures variables { (l : Label) → IsIn l heard_tree.labels → HasItsVariables heard_problem l }
-    ensures few { (l : Label) → IsIn l heard_tree.labels → length l.variables < 2 ^ 64 }
+    ensures few { (l : Label) → IsIn l heard_tree.labels → length l.skeleton.variables < 2 ^ 64 }
     ensures fits { TreeFits heard_problem heard_tree }
 {
     heard_encryption_has_a_tree();

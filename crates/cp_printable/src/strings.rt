@@ -7,7 +7,7 @@ ghost use Rattle.cp_model.specs.Skeleton.{Skeleton, IsSkeleton};
 ghost use Rattle.cp_model.specs.PointOfView.{IsPointOfView};
 ghost use Rattle.cp_model.specs.Tree.{Label, Tree};
 ghost use Rattle.cp_model.specs.declared.tree.Limits.{Limits};
-ghost use Rattle.cp_strand.specs.Declares.{DeclaresItsVariables};
+ghost use Rattle.cp_model.specs.Declares.{DeclaresItsVariables};
 ghost use Rattle.cp_tree.specs.Searched.{IsTreeOf};
 ghost use Rattle.cp_printable.specs.Spelled.{AreSpelledDeclarations, IsSpelledRole, IsSpelledSkeleton, IsSpelledLabel};
 

@@ -5,7 +5,7 @@ ghost use Rattle.cp_model.specs.Strand.{Role};
 ghost use Rattle.cp_model.specs.PointOfView.{IsPointOfView};
 ghost use Rattle.cp_model.specs.Tree.{Label, Tree, IsTrueOf};
 ghost use Rattle.cp_model.specs.declared.tree.Limits.{Limits};
-ghost use Rattle.cp_strand.specs.Declares.{DeclaresItsVariables};
+ghost use Rattle.cp_model.specs.Declares.{DeclaresItsVariables};
 ghost use Rattle.cp_tree.specs.Searched.{IsTreeOf};
 ghost use Rattle.cp_language.specs.Problems.{Problem};
 ghost use Rattle.cp_language.specs.Report.{HasItsVariables};
@@ -19,5 +19,5 @@ ghost use Rattle.cp_report.specs.FittingTrees.{TreeFits};
 pub fn search_trees_can_be_stated()
     ensures { (p : Problem) (limits : Limits) (t : Tree) → ((role : Role) → IsIn role p.protocol.roles → DeclaresItsVariables role) → IsPointOfView p.variables p.skeleton
         → IsTrueOf p.protocol p.skeleton limits t → IsTreeOf p.protocol p.skeleton p.variables limits t
-        → ((l : Label) → IsIn l t.labels → HasItsVariables p l) → ((l : Label) → IsIn l t.labels → length l.variables < 2 ^ 64) → TreeFits p t }
+        → ((l : Label) → IsIn l t.labels → HasItsVariables p l) → ((l : Label) → IsIn l t.labels → length l.skeleton.variables < 2 ^ 64) → TreeFits p t }
 {}

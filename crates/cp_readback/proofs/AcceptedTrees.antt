@@ -154,8 +154,8 @@ module _ (fs : Forms) (none : misfits fs ≡ []) where
   whole_fits : (p : Problem) → IsWellFormed p → (t : Tree) → IsAccepted p t → HasWholeLabels p t → TreeFits p t
   whole_fits p well t accepted whole i l at_i =
       let w = whole l (at_place t.labels i l at_i) in
-      let many : length l.variables ≡ length p.variables + length w.later = ap length w.variables ∙ length-append p.variables w.later in
-      let small : length l.variables < 2 ^ 64 = w.few in
+      let many : length l.skeleton.variables ≡ length p.variables + length w.later = ap length w.variables ∙ length-append p.variables w.later in
+      let small : length l.skeleton.variables < 2 ^ 64 = w.few in
       let a = accepted well (omega (arith, many, small)) i l at_i in
       record {
         variables = record { later = w.later; variables = w.variables; declared = a.declared };

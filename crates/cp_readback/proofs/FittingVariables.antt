@@ -7,15 +7,16 @@ use Rattle.cp_lists.specs.Lists.{item_at, IsIn, here, there}
 use Rattle.cp_lists.proofs.Appended.{none_before, none_behind, none_of_three}
 use Rattle.cp_lists.proofs.Items.{at_place, item_of_map}
 use Rattle.cp_lists.proofs.Members.{at_head}
-use Rattle.cp_model.specs.Term.{apply_to, variable_term, AtomTerm, Term, variables_of, variables_of_atom}
+use Rattle.cp_model.specs.Term.{Substitution, apply_to, variable_term, AtomTerm, Term, variables_of, variables_of_atom}
 use Rattle.cp_model.specs.declared.sort.Sort.{Sort}
 use Rattle.cp_model.specs.declared.variable.Variable.{Variable}
-use Rattle.cp_model.specs.Strand.{Role, prefix_of, variables_of_trace, variables_of_prefix}
+use Rattle.cp_model.specs.Strand.{Role, event_map, prefix_of, variables_of_trace, variables_of_prefix}
 use Rattle.cp_model.specs.declared.variable.Declaration.{Declaration}
 use Rattle.cp_model.specs.Homomorphism.{substitution_by}
 use Rattle.cp_model.specs.Problem.{IsDeclared, variables_of_strands, variables_of_atoms, variables_of_uniques, variables_of_terms}
 use Rattle.cp_model.specs.Same.{has_variable}
 use Rattle.cp_model.specs.Skeleton.{SkeletonStrand, listener, skeleton_trace, UniqueAt}
+use Rattle.cp_model.proofs.DeclaredTerms.{bindings_are}
 use Rattle.cp_model.proofs.LawPrefixes.{in_front_of_trace}
 use Rattle.cp_model.proofs.OccurringVariables.{strand_with}
 use Rattle.cp_model.proofs.SameTests.{in_has_variable}
@@ -78,7 +79,9 @@ module _ (ds : List Declaration) where
   -- An instance of a well-formed role, with maplets that fit.
   instance_declared : (role : Role) → IsWellFormedRole role → (height : ℕ) (at : Place) (maplets : List Form) → prefix_misfits s (Some role) height at maplets ≡ []
       → AreDeclared ds (variables_of_trace (skeleton_trace (instance_with s (Some role) height maplets)))
-  instance_declared role well height at maplets e = of_trace (IsDeclared ds) (substitution_by (values_mapped s maplets role.variables)) (prefix_of role height) gives
+  instance_declared role well height at maplets e =
+      subst (λ (f : Substitution). AreDeclared ds (variables_of_trace (map (event_map (apply_to f)) (prefix_of role height)))) (sym (bindings_are (values_mapped s maplets role.variables)))
+      (of_trace (IsDeclared ds) (substitution_by (values_mapped s maplets role.variables)) (prefix_of role height) gives)
     where
       prefix : List Variable
       prefix = variables_of_prefix role height

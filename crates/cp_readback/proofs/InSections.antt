@@ -7,18 +7,17 @@ use Rattle.cp_base.specs.declared.place.Place.{Place}
 use Rattle.cp_base.specs.declared.place.Refusal.{Refusal}
 use Rattle.cp_model.specs.Strand.{Protocol}
 use Rattle.cp_model.specs.Tree.{Tree}
-use Rattle.cp_sexpr.specs.Syntax.{Form}
 use Rattle.cp_sexpr.specs.View.{view}
 use Rattle.cp_language.specs.Faults.{place_of}
 use Rattle.cp_language.specs.Roles.{headed}
 use Rattle.cp_language.specs.Problems.{Problem}
-use Rattle.cp_language.specs.Input.{headed_top_faults, protocols_behind, faults_from, Entry, headed_entry, stated_problem}
+use Rattle.cp_language.specs.Input.{headed_top_faults, protocols_behind, faults_from, Entry, headed_entry, stated_problem, entries_from}
 use Rattle.cp_roles.specs.Above.{turned}
 use Rattle.cp_scope.specs.FirstFault as faults
 use Rattle.cp_scope.proofs.Firsts as faults_met
-use Rattle.cp_load.specs.UncheckedProblems.{unchecked_entry_view, stated_from}
+use Rattle.cp_load.specs.UncheckedProblems.{unchecked_entry_view}
 use Rattle.cp_load.specs.declared.unchecked_problems.UncheckedEntry.{UncheckedEntry}
-use Rattle.cp_load.proofs.TopForms.{behind-turned, unchecked-pushed, any-form}
+use Rattle.cp_load.proofs.TopForms.{behind-turned, unchecked-pushed}
 use Rattle.cp_report.specs.ReadBack.{Section, next_place, tree_misfits, trees_misfits, tree_of, tree_onto}
 use Rattle.cp_spelled.specs.FirstMisfit.{first_onto}
 use Rattle.cp_report.specs.Misfits.{place_before}
@@ -62,18 +61,14 @@ module _ (ss : List program.Section) (k : ℕ) where
           ∙ sym (first_onto-append place_before o own (trees_misfits first after rest))
           ∙ sym (ap (λ ts. first_onto o (trees_misfits first (turned ps []) ts)) section-read) ∙ i
 
-      pub entries-taken : (us vs : List UncheckedEntry) (u : UncheckedEntry) (all : List (Form → Entry)) → unchecked_entry_view u (view s.form.now) ≡ headed_entry (turned ps []) (headed (view s.form.now)) (view s.form.now) → vs ≡ us ++ u ∷ []
-          → map unchecked_entry_view us ++ stated_from (turned ps []) (forms_in (map section_view (drop k ss))) ≡ all → map unchecked_entry_view vs ++ stated_from (turned qs []) (forms_in rest) ≡ all
+      pub entries-taken : (us vs : List UncheckedEntry) (u : UncheckedEntry) (all : List Entry) → unchecked_entry_view u ≡ headed_entry (turned ps []) (headed (view s.form.now)) (view s.form.now) → vs ≡ us ++ u ∷ []
+          → map unchecked_entry_view us ++ entries_from (turned ps []) (forms_in (map section_view (drop k ss))) ≡ all → map unchecked_entry_view vs ++ entries_from (turned qs []) (forms_in rest) ≡ all
       entries-taken us vs u all e g i =
           let xs = map unchecked_entry_view us in
-          ap (λ y. map unchecked_entry_view vs ++ stated_from y (forms_in rest)) above-same ∙ ap (λ zs. zs ++ stated_from after (forms_in rest)) (unchecked-pushed us vs u g)
-          ∙ append_assoc xs (unchecked_entry_view u ∷ []) (stated_from after (forms_in rest))
-          ∙ ap (λ y. xs ++ y ∷ stated_from after (forms_in rest)) (any-form (turned ps []) (headed (view s.form.now)) u (view s.form.now) e)
-          ∙ sym (ap (λ ts. xs ++ stated_from (turned ps []) (forms_in ts)) section-read) ∙ i
-
-    pub form-taken : (fs gs all : List Form) → gs ≡ fs ++ view s.form.now ∷ [] → fs ++ forms_in (map section_view (drop k ss)) ≡ all → gs ++ forms_in rest ≡ all
-    form-taken fs gs all g i =
-        ap (λ hs. hs ++ forms_in rest) g ∙ append_assoc fs (view s.form.now ∷ []) (forms_in rest) ∙ sym (ap (λ ts. fs ++ forms_in ts) section-read) ∙ i
+          ap (λ y. map unchecked_entry_view vs ++ entries_from y (forms_in rest)) above-same ∙ ap (λ zs. zs ++ entries_from after (forms_in rest)) (unchecked-pushed us vs u g)
+          ∙ append_assoc xs (unchecked_entry_view u ∷ []) (entries_from after (forms_in rest))
+          ∙ ap (λ y. xs ++ y ∷ entries_from after (forms_in rest)) e
+          ∙ sym (ap (λ ts. xs ++ entries_from (turned ps []) (forms_in ts)) section-read) ∙ i
 
     trees-read : (os : List (Option Problem)) → trees_by (drop k os) (map section_view (drop k ss)) ≡ tree_onto (problem_at os k) (map view s.behind.now) (trees_by (drop (k + 1) os) rest)
     trees-read os = ap (trees_by (drop k os)) section-read ∙ by_place os k ∙ sym (ap (λ n. tree_onto (problem_at os k) (map view s.behind.now) (trees_by (drop n os) rest)) (add-one k))
@@ -106,13 +101,10 @@ module _ (ss : List program.Section) (k : ℕ) where
     pub misfits-done : (first : Place) (above : List Protocol) (o all : Option Place) → first_onto o (trees_misfits first above (map section_view (drop k ss))) ≡ all → o ≡ all
     misfits-done first above o all i = sym (ap (λ ts. first_onto o (trees_misfits first above ts)) none-left) ∙ i
 
-    pub entries-done : (above : List Protocol) (us : List UncheckedEntry) (all : List (Form → Entry)) → map unchecked_entry_view us ++ stated_from above (forms_in (map section_view (drop k ss))) ≡ all → map unchecked_entry_view us ≡ all
+    pub entries-done : (above : List Protocol) (us : List UncheckedEntry) (all : List Entry) → map unchecked_entry_view us ++ entries_from above (forms_in (map section_view (drop k ss))) ≡ all → map unchecked_entry_view us ≡ all
     entries-done above us all i =
         let xs = map unchecked_entry_view us in
-        sym (append-nil xs) ∙ sym (ap (λ ts. xs ++ stated_from above (forms_in ts)) none-left) ∙ i
-
-    pub forms-done : (fs all : List Form) → fs ++ forms_in (map section_view (drop k ss)) ≡ all → fs ≡ all
-    forms-done fs all i = sym (append-nil fs) ∙ sym (ap (λ ts. fs ++ forms_in ts) none-left) ∙ i
+        sym (append-nil xs) ∙ sym (ap (λ ts. xs ++ entries_from above (forms_in ts)) none-left) ∙ i
 
     no-trees : (os : List (Option Problem)) → trees_by os [] ≡ []
     no-trees [] = refl

@@ -21,13 +21,13 @@ scope-is items ds ls declared none = λ i. record { variables = declared i; in_p
 pub label-is : (p : Problem) (items all : List Form) (l : Label) → items ≡ all
     → l.parent ≡ number_in_front (entries_under (codes "parent") items)
     → l.operation ≡ operation_by (word_of_label items) (drop 1 (entries_under (codes "by") items))
-    → l.variables ≡ declarations_of_label items → l.skeleton ≡ skeleton_stated p items
+    → l.skeleton ≡ skeleton_stated p items
     → l.unrealised ≡ map (λ f. node_or_first (option_node (Some f))) (entries_under (codes "unrealised") items)
     → l.test ≡ test_of (scope_of items) (item_with (codes "test" ∷ []) items)
     → l.escape ≡ map (pattern_of (declarations_of_label items)) (entries_under (codes "escape") items)
     → l.children ≡ map number_of (entries_under (codes "children") items) → l.mark ≡ mark_of_item (item_with mark_heads items)
     → l ≡ label_by p all
-label-is p items all l same parent operation variables skeleton unrealised test escape children mark =
+label-is p items all l same parent operation skeleton unrealised test escape children mark =
     let is : l ≡ label_by p items =
-    λ i. record { parent = parent i; operation = operation i; variables = variables i; skeleton = skeleton i; unrealised = unrealised i; test = test i; escape = escape i; children = children i; mark = mark i } in
+    λ i. record { parent = parent i; operation = operation i; skeleton = skeleton i; unrealised = unrealised i; test = test i; escape = escape i; children = children i; mark = mark i } in
     is ∙ ap (label_by p) same

@@ -5,6 +5,7 @@ use Rattle.std.proofs.lemmas.Bool.{or_cases}
 use Rattle.cp_base.specs.declared.place.Place.{Place}
 use Rattle.cp_lists.proofs.Appended.{none_before, none_behind, none_of_three, none_of_four, some_behind}
 use Rattle.cp_model.specs.Term.{variable_term, ltk_term, pubk_term, symmetric_term, asymmetric_term, inverse_term, AtomTerm, text_variable, datum_variable, name_variable, key_term, Term, tag_term, atom_term, enc_term, variables_of_key, variables_of_atom, variables_of}
+use Rattle.cp_model.specs.Bindings.{sort_of_atom}
 use Rattle.cp_model.specs.declared.sort.Sort.{Sort}
 use Rattle.cp_model.specs.declared.sort.Sort.TheVariants.{Text as text_sort, Datum as datum_sort, Name as name_sort, Skey as skey_sort, Akey as akey_sort}
 use Rattle.cp_model.specs.declared.variable.Variable.{Variable}
@@ -24,7 +25,6 @@ use Rattle.cp_language.specs.declared.sorts.TermSort.TheVariants.{Atoms as of_at
 use Rattle.cp_language.specs.Terms.{variable_named, sort_of_variable, is_sort, admits_atom, term_of_variable, paired, all_but_last, last_of, as_key, as_name, as_atom, key_as_term, long_term, inverted, key_of_name, applied}
 use Rattle.cp_report.specs.Misfits.{misfit, misfit_unless, unless_misfit, lacking, all_misfits}
 use Rattle.cp_report.specs.Spelled.{Scope, plain_scope, local_by, variable_of_local, is_found_of_sort, sort_of_head, known_or, sort_in, sort_misfits, atom_misfits, atom_in, variable_misfits, variables_misfits, name_misfits, spread_misfits, last_key_misfits, local_misfits, applied_misfits, term_misfits, each_term_misfits, term_in, terms_in}
-use Rattle.cp_report.specs.FittingTrees.{sort_of_atom}
 use Rattle.cp_language.proofs.Terms.{AreDeclared, none_declared, one_declared, both_declared, named_is_declared, IsOfSort, variable_of_sort, variable_declared, IsSound, sound_of_sort}
 use Rattle.cp_stated.proofs.NoMisfits.{holds}
 

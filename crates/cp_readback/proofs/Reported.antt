@@ -1,8 +1,7 @@
 -- The answer of reading back, from what its parts say.
-use Rattle.std.proofs.Common.{◌≡◌, ℕ, zero, suc, List, [], ◌∷◌, ◌++◌, length, get_or, drop, map, refl, sym, ap, ap₂, ◌∙◌, subst}
+use Rattle.std.proofs.Common.{◌≡◌, ℕ, zero, suc, List, [], ◌∷◌, ◌++◌, map, refl, sym, ap, ◌∙◌, subst}
 use Rattle.std.specs.Prelude.{Option, Some, None, option_map, Ok, Err}
 use Rattle.std.specs.List.{filter_map}
-use Rattle.std.proofs.lemmas.List.{length-map}
 use Rattle.cp_lists.specs.Lists.{item_at}
 use Rattle.cp_lists.proofs.Appended.{none_in_both}
 use Rattle.cp_base.specs.declared.place.Place.{Place}
@@ -14,18 +13,15 @@ use Rattle.cp_sexpr.specs.View.{view, views}
 use Rattle.cp_sexpr.specs.declared.form.Form as program
 use Rattle.cp_language.specs.Roles.{headed}
 use Rattle.cp_language.specs.Problems.{Problem}
-use Rattle.cp_language.specs.Input.{stated_problem, protocols_behind, faults_from, faults_of, Entry, stated, stated_protocol, headed_entry, entries_from, input_of}
+use Rattle.cp_language.specs.Input.{stated_problem, protocols_behind, faults_from, faults_of, Entry, form_of, stated, stated_protocol, entries_from, input_of}
 use Rattle.cp_language.specs.StatedInput.{protocols_in}
 use Rattle.cp_language.proofs.Entries.{protocols_entered}
 use Rattle.cp_scope.specs.FirstFault as faults
 use Rattle.cp_scope.proofs.Views.{items_of-forms_of}
-use Rattle.cp_load.specs.UncheckedProblems.{unchecked_view, unchecked_problem, unchecked_entry_view, stated_from, HaveSoundSkeletons}
-use Rattle.cp_load.specs.Inputs.{entry_view, entries_view}
+use Rattle.cp_load.specs.UncheckedProblems.{unchecked_entry_view, HaveSoundSkeletons}
 use Rattle.cp_load.specs.declared.unchecked_problems.UncheckedEntry.{UncheckedEntry}
-use Rattle.cp_load.specs.declared.input.Entry as loaded
-use Rattle.cp_load.proofs.Entries.{unchecked_viewed}
+use Rattle.cp_load.proofs.Entries.{forms_entered}
 use Rattle.cp_load.proofs.SoundUnchecked.{unchecked_sound}
-use Rattle.cp_load.proofs.TopForms.{stated-length, entries-finished}
 use Rattle.cp_report.specs.ReadBack.{Section, Sections, sections_of, input_forms, fault_places, first_place, next_place, places_of, tree_misfits, trees_misfits, tree_onto, trees_from, misfits, report_of, IsReadBack}
 use Rattle.cp_spelled.specs.FirstMisfit.{first_onto, merged}
 use Rattle.cp_report.specs.Misfits.{place_before}
@@ -47,15 +43,15 @@ forms-same : (ss : List of_program.Section) → map view (map (λ s. s.form.now)
 forms-same [] = refl
 forms-same (s ∷ ss) = ap (λ fs. view s.form.now ∷ fs) (forms-same ss)
 
-pub sound-unchecked_problems : (ss : List of_program.Section) (us : List UncheckedEntry) → faults_from [] (forms_in (map section_view ss)) ≡ [] → map unchecked_entry_view us ≡ stated_from [] (forms_in (map section_view ss)) → HaveSoundSkeletons us
+pub sound-unchecked_problems : (ss : List of_program.Section) (us : List UncheckedEntry) → faults_from [] (forms_in (map section_view ss)) ≡ [] → map unchecked_entry_view us ≡ entries_from [] (forms_in (map section_view ss)) → HaveSoundSkeletons us
 sound-unchecked_problems ss us none same =
     let fs = map (λ s. s.form.now) ss in
     unchecked_sound fs us (ap (faults_from []) (items_of-forms_of (map view fs)) ∙ ap (faults_from []) (forms-same ss) ∙ none)
-    (same ∙ ap (stated_from []) (sym (forms-same ss)))
+    (same ∙ ap (entries_from []) (sym (forms-same ss)))
 
-pub unchecked-read : (us : List UncheckedEntry) (n : ℕ) (u : UncheckedEntry) → Some u ≡ item_at us n → option_map unchecked_view (unchecked_problem u) ≡ problem_at (all_unchecked_view us) n
+pub unchecked-read : (us : List UncheckedEntry) (n : ℕ) (u : UncheckedEntry) → Some u ≡ item_at us n → stated (unchecked_entry_view u) ≡ problem_at (all_unchecked_view us) n
 unchecked-read [] n u e = absurd (cc)
-unchecked-read (x ∷ us) zero u e = let is : u ≡ x = cc in ap (λ v. option_map unchecked_view (unchecked_problem v)) is
+unchecked-read (x ∷ us) zero u e = let is : u ≡ x = cc in ap (λ v. stated (unchecked_entry_view v)) is
 unchecked-read (x ∷ us) (suc n) u e = unchecked-read us n u e
 
 pub unchecked-none : (us : List UncheckedEntry) (n : ℕ) → None ≡ item_at us n → None ≡ problem_at (all_unchecked_view us) n
@@ -63,14 +59,8 @@ unchecked-none [] n e = refl
 unchecked-none (x ∷ us) zero e = absurd (cc)
 unchecked-none (x ∷ us) (suc n) e = unchecked-none us n e
 
-pub problems-listed : (above : List Protocol) (us : List UncheckedEntry) (fs : List Form) → map unchecked_entry_view us ≡ stated_from above fs → all_unchecked_view us ≡ map stated (entries_from above fs)
-problems-listed above [] [] e = refl
-problems-listed above [] (f ∷ fs) e = absurd (cc)
-problems-listed above (u ∷ us) [] e = absurd (cc)
-problems-listed above (u ∷ us) (f ∷ fs) e =
-    let first : unchecked_entry_view u ≡ headed_entry above (headed f) = ap (λ (hs : List (Form → Entry)). get_or hs 0 (unchecked_entry_view u)) e in
-    let rest : map unchecked_entry_view us ≡ stated_from (protocols_behind (headed f) above) fs = ap (drop 1) e in
-    ap₂ (λ (o : Option Problem) (os : List (Option Problem)). o ∷ os) (sym (unchecked_viewed u f) ∙ ap (λ (h : Form → Entry). stated (h f)) first) (problems-listed (protocols_behind (headed f) above) us fs rest)
+pub problems-listed : (us : List UncheckedEntry) (ss : List Section) → map unchecked_entry_view us ≡ entries_from [] (forms_in ss) → all_unchecked_view us ≡ problems_stated ss
+problems-listed us ss e = ap (map stated) e
 
 -- ---- the trees behind them
 
@@ -135,8 +125,8 @@ module _ (fs : List program.Form) (o : Option Place) (found : o ≡ first_onto N
   pub trees-fit : (os : List (Option Problem)) (ss : List Section) → os ≡ problems_stated sections → ss ≡ sections → AreFollowedByTrees os ss
   trees-fit os ss listed are = subst (λ ts. AreFollowedByTrees os ts) (sym are) (subst (λ qs. AreFollowedByTrees qs sections) (sym listed) (have-trees (first_place (map view fs)) [] sections none-here.1))
 
-  pub unchecked_problems-fit : (ss : List of_program.Section) (us : List UncheckedEntry) → map section_view ss ≡ sections → map unchecked_entry_view us ≡ stated_from [] (forms_in sections) → HaveSoundSkeletons us
-  unchecked_problems-fit ss us are listed = sound-unchecked_problems ss us (ap (λ ts. faults_from [] (forms_in ts)) are ∙ input-fits) (listed ∙ ap (λ ts. stated_from [] (forms_in ts)) (sym are))
+  pub unchecked_problems-fit : (ss : List of_program.Section) (us : List UncheckedEntry) → map section_view ss ≡ sections → map unchecked_entry_view us ≡ entries_from [] (forms_in sections) → HaveSoundSkeletons us
+  unchecked_problems-fit ss us are listed = sound-unchecked_problems ss us (ap (λ ts. faults_from [] (forms_in ts)) are ∙ input-fits) (listed ∙ ap (λ ts. entries_from [] (forms_in ts)) (sym are))
 
   pub report-read : (entries : List Entry) (trees : List Tree) → entries ≡ entries_from [] (forms_in sections) → trees ≡ trees_from [] sections
       → IsReadBack (views fs) (Ok (record { entries = entries; trees = trees }))
@@ -151,14 +141,6 @@ module _ (fs : List program.Form) (o : Option Place) (found : o ≡ first_onto N
 pub trees-are : (ss : List Section) (os : List (Option Problem)) (read : List Section) (trees : List Tree) → os ≡ problems_stated ss → read ≡ ss → trees ≡ trees_by os read → trees ≡ trees_from [] ss
 trees-are ss os read trees listed are made = made ∙ ap (λ qs. trees_by qs read) listed ∙ ap (trees_by (problems_stated ss)) are ∙ trees-same [] ss
 
--- ---- the forms of the report, with what they state
-
-module _ (fs gs : List Form) (us : List UncheckedEntry) (es : List loaded.Entry) (are : gs ≡ fs) (listed : map unchecked_entry_view us ≡ stated_from [] fs) (finished : map entry_view es ≡ map unchecked_entry_view us) where
-  pub entries-are : entries_view gs es ≡ entries_from [] fs
-  entries-are = ap (λ hs. entries_view hs es) are ∙ entries-finished us es finished fs listed
-
-  pub protocols-are : filter_map stated_protocol (entries_view gs es) ≡ protocols_in gs
-  protocols-are = ap (filter_map stated_protocol) entries-are ∙ protocols_entered [] fs ∙ ap protocols_in (sym are)
-
-  pub as-many : length es ≡ length gs
-  as-many = sym (length-map es entry_view) ∙ ap length (finished ∙ listed) ∙ stated-length [] fs ∙ sym (ap length are)
+-- the protocols of entries are those of their forms
+pub protocols-are : (fs : List Form) (es : List Entry) → es ≡ entries_from [] fs → filter_map stated_protocol es ≡ protocols_in (map form_of es)
+protocols-are fs es are = ap (filter_map stated_protocol) are ∙ protocols_entered [] fs ∙ sym (ap protocols_in (ap (map form_of) are ∙ forms_entered [] fs))

@@ -50,7 +50,7 @@ behind_fits : (p : Problem) → IsWellFormed p → (t : Tree) → IsAccepted p t
 behind_fits p well t accepted complete i m at =
     let r = item_of_map (label_behind p) t.labels i m at in
     let c = complete r.0 (at_place t.labels i r.0 r.1) in
-    let small : length p.variables + length r.0.variables < 2 ^ 64 = c.few in
+    let small : length p.variables + length r.0.skeleton.variables < 2 ^ 64 = c.few in
     subst (λ (l : Label). FitsIn p (map (label_behind p) t.labels) i l) r.2 (shifted_fits p (own_over p well.own) t.labels i r.0 (accepted well (omega (arith, small)) i r.0 r.1) c)
 
 -- and it is the same, label by label,
@@ -80,7 +80,7 @@ restates (p ∷ ps) (t ∷ ts) h = let r = restates ps ts h.1 in record { trees 
 -- Entries are the same as themselves.
 same_entries : (es : List Entry) → ArePaired IsSameEntry es es
 same_entries [] = tt
-same_entries (e ∷ es) = (record { form = refl; problem = refl }, same_entries es)
+same_entries (e ∷ es) = (record { form = refl; protocol = refl; problem = refl }, same_entries es)
 
 -- Forms without misfits whose labels are complete.
 pub restated : (fs : Forms) → misfits fs ≡ [] → ArePaired HasCompleteLabels (problems_in (report_of fs).entries) (report_of fs).trees → CanBeRestated fs

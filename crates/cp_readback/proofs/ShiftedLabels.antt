@@ -51,8 +51,7 @@ module _ (n : ℕ) where
   shifted_label front l = record {
     parent = l.parent;
     operation = l.operation;
-    variables = front ++ l.variables;
-    skeleton = shifted n l.skeleton;
+    skeleton = shifted n front l.skeleton;
     unrealised = l.unrealised;
     test = shifted_test l.test;
     escape = map shifted_pattern l.escape;
@@ -130,7 +129,7 @@ module _ (n : ℕ) where
   pub label_come : (front : List Declaration) (l : Label) → Come (occurring l) (occurring (shifted_label front l))
   label_come front l =
       let k = l.skeleton in
-      let m = shifted n k in
+      let m = shifted n front k in
       let a = k.assumptions in
       let b = m.assumptions in
       let strands = both_come (variables_of_strands k.strands) (variables_of_assumptions a) (variables_of_strands m.strands) (variables_of_assumptions b) (strands_come k.strands)
@@ -178,7 +177,7 @@ module _ (n : ℕ) where
     one_to_one = λ x y i j h. let a = label_come front l x i in let b = label_come front l y j in apart_back x y a.from b.from a.is b.is h;
     parent = refl;
     operation = refl;
-    skeleton = down_same n l.skeleton;
+    skeleton = down_same n front l.skeleton;
     unrealised = refl;
     test = same_test l.test;
     escape = same_patterns l.escape;
@@ -203,23 +202,23 @@ module _ (n : ℕ) where
   shifted_values (d ∷ ds) (t ∷ ts) h = ((apply_to_atom (up n) h.0.0, ap (apply_to (up n)) h.0.1, sort_kept (up n) h.0.0 ∙ h.0.2), shifted_values ds ts h.1)
 
   -- The strands are as many.
-  as_many_strands : (k : Skeleton) (s : ℕ) → s < length k.strands → s < length (shifted n k).strands
-  as_many_strands k s less = subst (λ (m : ℕ). s < m) (sym (length-map k.strands (shifted_strand n))) less
+  as_many_strands : (front : List Declaration) (k : Skeleton) (s : ℕ) → s < length k.strands → s < length (shifted n front k).strands
+  as_many_strands front k s less = subst (λ (m : ℕ). s < m) (sym (length-map k.strands (shifted_strand n))) less
 
   -- An operation is one on the shifted skeleton,
-  shifted_operation : (p : Problem) (k : Skeleton) (o : Operation) → IsOperationOn p k o → IsOperationOn p (shifted n k) o
-  shifted_operation p k by_problem h = tt
-  shifted_operation p k (by_collapse ps) h = h
-  shifted_operation p k (by_contraction x) h = shifted_node n k x h
-  shifted_operation p k (by_displacement x) h = shifted_node n k x h
-  shifted_operation p k (by_added_strand s) h = as_many_strands k s h
-  shifted_operation p k (by_added_listener s) h = as_many_strands k s h
-  shifted_operation p k by_generalising h = tt
+  shifted_operation : (front : List Declaration) (p : Problem) (k : Skeleton) (o : Operation) → IsOperationOn p k o → IsOperationOn p (shifted n front k) o
+  shifted_operation front p k by_problem h = tt
+  shifted_operation front p k (by_collapse ps) h = h
+  shifted_operation front p k (by_contraction x) h = shifted_node n front k x h
+  shifted_operation front p k (by_displacement x) h = shifted_node n front k x h
+  shifted_operation front p k (by_added_strand s) h = as_many_strands front k s h
+  shifted_operation front p k (by_added_listener s) h = as_many_strands front k s h
+  shifted_operation front p k by_generalising h = tt
 
   -- and so is a test.
-  shifted_test_on : (k : Skeleton) (o : Option Test) → IsTestOn k o → IsTestOn (shifted n k) (shifted_test o)
-  shifted_test_on k None h = tt
-  shifted_test_on k (Some t) h = shifted_node n k t.node h
+  shifted_test_on : (front : List Declaration) (k : Skeleton) (o : Option Test) → IsTestOn k o → IsTestOn (shifted n front k) (shifted_test o)
+  shifted_test_on front k None h = tt
+  shifted_test_on front k (Some t) h = shifted_node n front k t.node h
 
   -- Where there is no shifted test there is none.
   no_test : (o : Option Test) → shifted_test o ≡ None → o ≡ None
@@ -283,18 +282,18 @@ pub shifted_fits : (p : Problem) → AreOver p.variables p.skeleton.from_problem
     → FitsIn p (map (shifted_label (length p.variables) p.variables) labels) i (shifted_label (length p.variables) p.variables l)
 shifted_fits p over labels i l a whole =
     let n = length p.variables in
-    let many : length (p.variables ++ l.variables) ≡ length p.variables + length l.variables = length-append p.variables l.variables in
-    let small : length p.variables + length l.variables < 2 ^ 64 = whole.few in
+    let many : length (p.variables ++ l.skeleton.variables) ≡ length p.variables + length l.skeleton.variables = length-append p.variables l.skeleton.variables in
+    let small : length p.variables + length l.skeleton.variables < 2 ^ 64 = whole.few in
     record {
-      variables = record { later = l.variables; variables = refl; declared = λ w m. let c = label_come n p.variables l w m in declared_behind p.variables l.variables c.from w (a.declared c.from c.listed) c.is };
+      variables = record { later = l.skeleton.variables; variables = refl; declared = λ w m. let c = label_come n p.variables l w m in declared_behind p.variables l.skeleton.variables c.from w (a.declared c.from c.listed) c.is };
       few = omega (arith, many, small);
-      skeleton = shifted_is_skeleton n p.protocol l.skeleton a.skeleton;
+      skeleton = shifted_is_skeleton n p.variables p.protocol l.skeleton a.skeleton;
       maps_all = record { strands = a.maps_all.strands; values = shifted_values n p.variables l.skeleton.from_problem.values a.maps_all.values };
-      stated = shifted_keeps n p.variables p.skeleton l.skeleton a.maps_all.values over (keeps_all p.skeleton l.skeleton a.stated whole.stated);
-      operation = shifted_operation n p l.skeleton l.operation a.operation;
+      stated = shifted_keeps n p.variables p.variables p.skeleton l.skeleton a.maps_all.values over (keeps_all p.skeleton l.skeleton a.stated whole.stated);
+      operation = shifted_operation n p.variables p l.skeleton l.operation a.operation;
       parent = is_parent_kept n p.variables labels i l.operation l.parent a.parent;
-      unrealised = λ x m. shifted_node n l.skeleton x (a.unrealised x m);
-      test = shifted_test_on n l.skeleton l.test a.test;
+      unrealised = λ x m. shifted_node n p.variables l.skeleton x (a.unrealised x m);
+      test = shifted_test_on n p.variables l.skeleton l.test a.test;
       patterns = λ q m. let r = from_map (shifted_pattern n) l.escape m in subst IsPattern r.2 (shifted_is_pattern n r.0 (a.patterns r.0 r.1));
       escape = λ e. ap (map (shifted_pattern n)) (a.escape (no_test n l.test e));
       children = children_kept n p.variables labels i l.children a.children;

@@ -54,7 +54,7 @@ pub record HasAllStated (problem k : Skeleton) : Type 0 where
 -- parents and children agree. That its variables begin with the problem's and that it has all that the problem states itself is
 -- not said.
 pub record IsAcceptedIn (p : Problem) (labels : List Label) (i : ℕ) (l : Label) : Type 0 where
-  pub declared : (x : Variable) → IsIn x (occurring l) → IsDeclared l.variables x
+  pub declared : (x : Variable) → IsIn x (occurring l) → IsDeclared l.skeleton.variables x
   pub skeleton : IsSkeleton p.protocol l.skeleton
   pub maps_all : MapsAll p l.skeleton
   pub stated : KeepsListed p.skeleton l.skeleton
@@ -74,8 +74,8 @@ TreeIsAccepted p t = (i : ℕ) (l : Label) → item_at t.labels i ≡ Some l →
 -- than 2^64, and it has all that the problem states itself.
 pub record IsWholeLabel (p : Problem) (l : Label) : Type 0 where
   pub later : List Declaration
-  pub variables : l.variables ≡ p.variables ++ later
-  pub few : length l.variables < 2 ^ 64
+  pub variables : l.skeleton.variables ≡ p.variables ++ later
+  pub few : length l.skeleton.variables < 2 ^ 64
   pub stated : HasAllStated p.skeleton l.skeleton
 
 abbrev pub HasWholeLabels : Problem → Tree → Type 0
@@ -83,7 +83,7 @@ HasWholeLabels p t = (l : Label) → IsIn l t.labels → IsWholeLabel p l
 
 -- The label has all that the problem states itself, and both together have fewer than 2^64 variables.
 pub record IsCompleteLabel (p : Problem) (l : Label) : Type 0 where
-  pub few : length p.variables + length l.variables < 2 ^ 64
+  pub few : length p.variables + length l.skeleton.variables < 2 ^ 64
   pub stated : HasAllStated p.skeleton l.skeleton
 
 abbrev pub HasCompleteLabels : Problem → Tree → Type 0

@@ -1,21 +1,19 @@
 -- What a report that was read back stands for, and the parts that it is made of.
-use Rattle.std.specs.Prelude.{◌≡◌, ℕ, zero, suc, List, [], ◌∷◌, map, option_map, Option, Some, None}
+use Rattle.std.specs.Prelude.{◌≡◌, ℕ, zero, suc, List, [], ◌∷◌, map, Option, Some, None}
 use Rattle.cp_base.specs.declared.place.Place.{Place}
 use Rattle.cp_lists.specs.Lists.{item_at}
 use Rattle.cp_model.specs.Tree.{Tree}
 use Rattle.cp_sexpr.specs.Syntax.{Form}
-use Rattle.cp_sexpr.specs.View.{view}
 use Rattle.cp_language.specs.Problems.{Problem}
 use Rattle.cp_language.specs.Input.{stated, entries_from}
-use Rattle.cp_skel.specs.Trees.{tree_view}
-use Rattle.cp_load.specs.UncheckedProblems.{unchecked_view, unchecked_problem}
-use Rattle.cp_load.specs.Inputs.{entries_view}
+use Rattle.cp_load.specs.UncheckedProblems.{unchecked_entry_view}
+use Rattle.cp_load.specs.Inputs.{entry_view}
 use Rattle.cp_load.specs.declared.unchecked_problems.UncheckedEntry.{UncheckedEntry}
 use Rattle.cp_report.specs.ReadBack as report
 use Rattle.cp_readback.specs.declared.report.Report.{Report}
 
 abbrev pub report_view : Report → report.Report
-report_view r = record { entries = entries_view (map (λ f. view f.now) r.forms.items) r.entries.items; trees = map tree_view r.trees.items }
+report_view r = record { entries = map entry_view r.entries.items; trees = r.trees.items }
 
 -- The forms of the input.
 abbrev pub forms_in : List report.Section → List Form
@@ -25,9 +23,9 @@ forms_in ss = map (λ s. s.form) ss
 abbrev pub problems_stated : List report.Section → List (Option Problem)
 problems_stated ss = map stated (entries_from [] (forms_in ss))
 
--- For each unchecked entry the problem that its unchecked problem stands for, if it has one.
+-- For each unchecked entry the problem that it has, if it has one.
 abbrev pub all_unchecked_view : List UncheckedEntry → List (Option Problem)
-all_unchecked_view us = map (λ u. option_map unchecked_view (unchecked_problem u)) us
+all_unchecked_view us = map stated (map unchecked_entry_view us)
 
 -- The problem at a place, if there is such a place and it has one.
 abbrev pub problem_at : List (Option Problem) → ℕ → Option Problem

@@ -1,8 +1,7 @@
 // Single items of label forms: whether they exist, and where they do not fit.
-ghost use Rattle.std.specs.Prelude.{◌≡◌, ◌||◌, ◌++◌, [], ◌∷◌, not, codes, if◌then◌else◌, map, option_map, IfOk, OnOk, IfSome};
+ghost use Rattle.std.specs.Prelude.{◌≡◌, ◌||◌, [], ◌∷◌, not, codes, if◌then◌else◌, map, option_map, IfOk, OnOk, IfSome};
 ghost use Rattle.cp_sexpr.specs.View.{view};
 ghost use Rattle.cp_language.specs.Problems.{is_known};
-ghost use Rattle.cp_strand.specs.View.{strand_view};
 ghost use Rattle.cp_report.specs.Heads.{item_with};
 ghost use Rattle.cp_report.specs.Skeletons.{declarations_of_label, vars_item_misfits};
 ghost use Rattle.cp_report.specs.Labels.{word_of_label, wants_parent, has_children, has_mark, missing_misfits};

@@ -1,13 +1,12 @@
 // From forms to the report that they are.
-ghost use Rattle.std.specs.Prelude.{◌≡◌, [], length, map, option_map, None, Ok, Err, IfOk, IfErr, OnOk};
+ghost use Rattle.std.specs.Prelude.{◌≡◌, [], map, option_map, None, Ok, Err, IfOk, IfErr, OnOk};
 ghost use Rattle.std.specs.List.{filter_map};
 ghost use Rattle.cp_base.specs.declared.place.Place.{Place as Where};
 ghost use Rattle.cp_sexpr.specs.View.{view, views};
-ghost use Rattle.cp_language.specs.Input.{faults_from, stated_protocol};
+ghost use Rattle.cp_language.specs.Input.{faults_from, form_of, stated_protocol, entries_from};
 ghost use Rattle.cp_language.specs.StatedInput.{protocols_in};
 ghost use Rattle.cp_scope.specs.FirstFault as fault;
-ghost use Rattle.cp_skel.specs.Trees.{tree_view};
-ghost use Rattle.cp_load.specs.UncheckedProblems.{unchecked_view, unchecked_entry_view, stated_from};
+ghost use Rattle.cp_load.specs.UncheckedProblems.{unchecked_view, unchecked_entry_view};
 ghost use Rattle.cp_report.specs.ReadBack.{IsReadBack, sections_of, next_place, first_place, trees_misfits, misfits};
 ghost use Rattle.cp_spelled.specs.FirstMisfit.{first_onto, merged};
 ghost use Rattle.cp_readback.specs.Sections.{section_view};
@@ -25,20 +24,19 @@ use cp_skel::Tree;
 use cp_spelled::FirstMisfit;
 use std::alloc::{AllocError, Global};
 
-/// A report: the forms of its input, for each form what it states, and a tree for each problem, in their order.
+/// A report: the forms of its input in order, each with what it states, and a tree for each problem, in their order.
 #[derive(Drop)]
 pub struct Report<'a> {
-    pub forms: Vec<&'a Form>,
-    pub entries: Vec<Entry>,
+    pub entries: Vec<Entry<'a>>,
     pub trees: Vec<Tree>,
 }
 
-/// The forms of the input with the forms after each, what they state, and the first place, if any, at which the forms
-/// are no report.
+/// The forms of the input, with the forms after each and with what each states, and the first place, if any, at which
+/// the forms are no report.
 #[derive(Drop)]
 struct Judged<'a> {
     sections: Vec<Section<'a>>,
-    unchecked_entries: Vec<UncheckedEntry>,
+    unchecked_entries: Vec<UncheckedEntry<'a>>,
     misfit: Option<Place>,
 }
 
@@ -62,18 +60,18 @@ fn first_place(forms: &[Form]) -> Place
     }
 }
 
-/// What the forms of the input state. Notes the first of their faults, and the first misfit of the forms after them;
-/// `start` is the place of the first form of all. What stands for forms with faults has no meaning.
-fn stated_in(
+/// The forms of the input, each with what it states. Notes the first of their faults, and the first misfit of the forms
+/// after them; `start` is the place of the first form of all. What a form with faults states has no meaning.
+fn stated_in<'a>(
     alloc: Global,
     start: Place,
-    sections: &[Section<'_>],
+    sections: &[Section<'a>],
     faults: &mut FirstFault,
     first: &mut FirstMisfit,
-) -> Result<Vec<UncheckedEntry>, AllocError>
+) -> Result<Vec<UncheckedEntry<'a>>, AllocError>
     ensures faults { OnOk result (faults.new ≡ fault.first_onto faults.old (faults_from [] (forms_in (map section_view sections.now)))) }
     ensures misfits { OnOk result (first.new ≡ first_onto first.old (trees_misfits start [] (map section_view sections.now))) }
-    ensures entries { IfOk result (λ us. map unchecked_entry_view us.items ≡ stated_from [] (forms_in (map section_view sections.now))) }
+    ensures entries { IfOk result (λ us. map unchecked_entry_view us.items ≡ entries_from [] (forms_in (map section_view sections.now))) }
 {
     let mut protocols = Vec::new(alloc);
     let mut names = NameSet::new(alloc);
@@ -100,7 +98,7 @@ fn note_fault(faults: FirstFault, first: &mut FirstMisfit)
 /// Splits forms by those of the input, with what these state, and the first place at which they are no report.
 fn judge(alloc: Global, forms: &[Form]) -> Result<Judged<'_>, AllocError>
     ensures sections { IfOk result (λ j. map section_view j.sections.items ≡ (sections_of (map view forms.now)).sections) }
-    ensures entries { IfOk result (λ j. map unchecked_entry_view j.unchecked_entries.items ≡ stated_from [] (forms_in (sections_of (map view forms.now)).sections)) }
+    ensures entries { IfOk result (λ j. map unchecked_entry_view j.unchecked_entries.items ≡ entries_from [] (forms_in (sections_of (map view forms.now)).sections)) }
     ensures misfit { IfOk result (λ j. j.misfit ≡ first_onto None (misfits (views forms.now))) }
 {
     let Sections { front, sections } = sections_of(alloc, forms)?;
@@ -119,7 +117,10 @@ fn judge(alloc: Global, forms: &[Form]) -> Result<Judged<'_>, AllocError>
 }
 
 /// The unchecked problem of the entry at this place in the list, if there is one.
-fn unchecked_at(unchecked_entries: &[UncheckedEntry], place: usize) -> Option<&UncheckedProblem>
+fn unchecked_at<'a>(
+    unchecked_entries: &'a [UncheckedEntry<'_>],
+    place: usize,
+) -> Option<&'a UncheckedProblem>
     ensures { option_map (λ d. unchecked_view d.now) result ≡ problem_at (all_unchecked_view unchecked_entries.now) place }
 {
     match unchecked_entries.get(place) {
@@ -132,10 +133,10 @@ fn unchecked_at(unchecked_entries: &[UncheckedEntry], place: usize) -> Option<&U
 fn trees_of(
     alloc: Global,
     sections: &[Section<'_>],
-    unchecked_entries: &[UncheckedEntry],
+    unchecked_entries: &[UncheckedEntry<'_>],
 ) -> Result<Vec<Tree>, AllocError>
     requires trees { AreFollowedByTrees (all_unchecked_view unchecked_entries.now) (map section_view sections.now) }
-    ensures { IfOk result (λ ts. map tree_view ts.items ≡ trees_by (all_unchecked_view unchecked_entries.now) (map section_view sections.now)) }
+    ensures { IfOk result (λ ts. ts.items ≡ trees_by (all_unchecked_view unchecked_entries.now) (map section_view sections.now)) }
 {
     let mut trees = Vec::new(alloc);
     for (place, section) in sections.iter().enumerate() {
@@ -148,25 +149,13 @@ fn trees_of(
     Ok(trees)
 }
 
-/// The forms of the input.
-fn forms_of<'a>(alloc: Global, sections: &[Section<'a>]) -> Result<Vec<&'a Form>, AllocError>
-    ensures { IfOk result (λ v. map (λ f. view f.now) v.items ≡ forms_in (map section_view sections.now)) }
-{
-    let mut forms = Vec::new(alloc);
-    for section in sections {
-        forms.push(section.form)?;
-    }
-    Ok(forms)
-}
-
-/// Reads back the report that forms are: the forms of its input with what they state, and a tree for each problem.
+/// Reads back the report that forms are: the forms of its input, each with what it states, and a tree for each problem.
 ///
 /// Forms that are no report are refused with `NotReport`, at the first place, by line and then by column, at which they
 /// fit none. The other error is `Memory`.
-pub fn read_back<'a>(alloc: Global, forms: &'a [Form]) -> Result<Report<'a>, ReadBackError>
+pub fn read_back(alloc: Global, forms: &[Form]) -> Result<Report<'_>, ReadBackError>
     ensures read { IfOk result (λ r. IsReadBack (views forms.now) (Ok (report_view r))) }
-    ensures entries { IfOk result (λ r. length r.entries.items ≡ length r.forms.items) }
-    ensures protocols { IfOk result (λ r. filter_map stated_protocol (report_view r).entries ≡ protocols_in (map (λ f. view f.now) r.forms.items)) }
+    ensures protocols { IfOk result (λ r. filter_map stated_protocol (report_view r).entries ≡ protocols_in (map form_of (report_view r).entries)) }
     ensures refused { IfErr result (λ e. (p : Where) → e ≡ NotReport p → IsReadBack (views forms.now) (Err p)) }
 {
     let Judged {
@@ -178,11 +167,6 @@ pub fn read_back<'a>(alloc: Global, forms: &'a [Form]) -> Result<Report<'a>, Rea
         return Err(ReadBackError::NotReport(place));
     }
     let trees = trees_of(alloc, &sections, &unchecked_entries)?;
-    let forms = forms_of(alloc, &sections)?;
     let entries = all_finished(alloc, unchecked_entries)?;
-    Ok(Report {
-        forms,
-        entries,
-        trees,
-    })
+    Ok(Report { entries, trees })
 }

@@ -10,8 +10,6 @@ ghost use Rattle.cp_report.specs.Heads.{item_with, entries_under, mark_heads};
 ghost use Rattle.cp_report.specs.Spelled.{pattern_misfits, pattern_of};
 ghost use Rattle.cp_report.specs.Skeletons.{declarations_of_label, scope_of, node_or_first, problem_variables, skeleton_stated};
 ghost use Rattle.cp_report.specs.Labels.{items_of_label, word_of_label, operation_by, number_in_front, test_of, label_by, label_of};
-ghost use Rattle.cp_skel.specs.Trees.{label_view};
-ghost use Rattle.cp_skel.specs.View.{skeleton_view};
 ghost use Rattle.cp_spelled.specs.Views.{scope_view};
 ghost use Rattle.cp_readback.specs.Items.{HasFitting};
 ghost use Rattle.cp_readback.specs.Parts.{mark_of_item};
@@ -25,7 +23,7 @@ use cp_items::{
 use cp_load::UncheckedProblem;
 use cp_scope::later_items;
 use cp_sexpr::Form;
-use cp_skel::{Nodes, Numbers, Operation, Skeleton, Test, TreeNode};
+use cp_skel::{Label, Nodes, Numbers, Operation, Skeleton, Test};
 use cp_spelled::{Locals, Scope, Variables, declarations_of_label, entries_under};
 use cp_stated::{item_with, skeleton_stated, strands_of};
 use cp_term::Patterns;
@@ -84,7 +82,7 @@ fn skeleton_of(
     requires names { names.now ≡ problem_variables (unchecked_view problem.now) }
     requires scope { scope_view scope ≡ scope_of (map view items.now) }
     requires fits { HasFitting (unchecked_view problem.now) (map view items.now) }
-    ensures skeleton { IfOk result (λ k. skeleton_view k ≡ skeleton_stated (unchecked_view problem.now) (map view items.now)) }
+    ensures skeleton { IfOk result (λ k. k ≡ skeleton_stated (unchecked_view problem.now) (map view items.now)) }
     ensures variables { IfOk result (λ k. k.variables ≡ declarations_of_label (map view items.now)) }
 {
     let strands = strands_of(alloc, problem.protocol.roles(), scope, items)?;
@@ -97,13 +95,13 @@ fn label_with(
     operation: Operation,
     skeleton: Skeleton,
     expansion: Expansion,
-) -> TreeNode
+) -> Label
     ensures parent { result.parent ≡ number_in_front (entries_under (codes "parent") (map view items.now)) }
     ensures operation { result.operation ≡ operation }
     ensures skeleton { result.skeleton ≡ skeleton }
     ensures unrealised { result.unrealised ≡ expansion.unrealised }
     ensures test { result.test ≡ expansion.test }
-    ensures patterns { result.patterns ≡ expansion.patterns }
+    ensures escape { result.escape ≡ expansion.patterns }
     ensures children { result.children ≡ expansion.children }
     ensures mark { result.mark ≡ mark_of_item (item_with mark_heads (map view items.now)) }
 {
@@ -113,13 +111,13 @@ fn label_with(
         patterns,
         children,
     } = expansion;
-    TreeNode {
+    Label {
         parent: number_in_front(entries_under(items, b"parent")),
         operation,
         skeleton,
         unrealised,
         test,
-        patterns,
+        escape: patterns,
         children,
         mark: mark_of(mark_item(items)),
     }
@@ -133,11 +131,11 @@ fn label_by(
     names: &Variables,
     scope: Scope<'_>,
     items: &[Form],
-) -> Result<TreeNode, AllocError>
+) -> Result<Label, AllocError>
     requires names { names.now ≡ problem_variables (unchecked_view problem.now) }
     requires scope { scope_view scope ≡ scope_of (map view items.now) }
     requires fits { HasFitting (unchecked_view problem.now) (map view items.now) }
-    ensures { IfOk result (λ l. label_view l ≡ label_by (unchecked_view problem.now) (map view items.now)) }
+    ensures { IfOk result (λ l. l ≡ label_by (unchecked_view problem.now) (map view items.now)) }
 {
     let operation = operation_stated(alloc, items)?;
     let expansion = expansion_stated(alloc, scope, items)?;
@@ -152,10 +150,10 @@ fn label_of(
     problem: &UncheckedProblem,
     names: &Variables,
     form: &Form,
-) -> Result<TreeNode, AllocError>
+) -> Result<Label, AllocError>
     requires names { names.now ≡ problem_variables (unchecked_view problem.now) }
     requires fits { HasFitting (unchecked_view problem.now) (items_of_label (view form.now)) }
-    ensures { IfOk result (λ l. label_view l ≡ label_of (unchecked_view problem.now) (view form.now)) }
+    ensures { IfOk result (λ l. l ≡ label_of (unchecked_view problem.now) (view form.now)) }
 {
     let items = items_of_label(form);
     let variables = declarations_of_label(alloc, items)?;
@@ -175,10 +173,10 @@ pub(crate) fn labels_stated(
     problem: &UncheckedProblem,
     names: &Variables,
     labels: &[Form],
-) -> Result<Vec<TreeNode>, AllocError>
+) -> Result<Vec<Label>, AllocError>
     requires names { names.now ≡ problem_variables (unchecked_view problem.now) }
     requires fit { (f : Syntax) → IsIn f (map view labels.now) → HasFitting (unchecked_view problem.now) (items_of_label f) }
-    ensures { IfOk result (λ v. map label_view v.items ≡ map (label_of (unchecked_view problem.now)) (map view labels.now)) }
+    ensures { IfOk result (λ v. v.items ≡ map (label_of (unchecked_view problem.now)) (map view labels.now)) }
 {
     let mut nodes = Vec::new(alloc);
     for label in labels {

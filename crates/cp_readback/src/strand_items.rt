@@ -1,7 +1,6 @@
 // Items of label forms that refer to the strands, and the patterns: where they do not fit.
 ghost use Rattle.std.specs.Prelude.{◌≡◌, [], ◌∷◌, codes, drop, map, OnOk};
 ghost use Rattle.cp_sexpr.specs.View.{view};
-ghost use Rattle.cp_strand.specs.View.{strand_view};
 ghost use Rattle.cp_report.specs.Heads.{item_with, entries_under, optional_misfits};
 ghost use Rattle.cp_report.specs.Skeletons.{declarations_of_label, scope_of};
 ghost use Rattle.cp_report.specs.Labels.{word_of_label, operation_place_misfits, unrealised_misfits, test_misfits};
@@ -20,7 +19,7 @@ use std::alloc::{AllocError, Global};
 
 /// The strand and the event that the operation names must exist.
 fn operation_at_misfits(strands: &[Strand], items: &[Form], first: &mut FirstMisfit)
-    ensures { first.new ≡ first_onto first.old (operation_place_misfits (map strand_view strands.now) (word_of_label (map view items.now)) (drop 1 (entries_under (codes "by") (map view items.now)))) }
+    ensures { first.new ≡ first_onto first.old (operation_place_misfits strands.now (word_of_label (map view items.now)) (drop 1 (entries_under (codes "by") (map view items.now)))) }
 {
     let behind = later_items(entries_under(items, b"by"), 1);
     operation_place_misfits(strands, word_of_label(items), behind, first);
@@ -28,7 +27,7 @@ fn operation_at_misfits(strands: &[Strand], items: &[Form], first: &mut FirstMis
 
 /// Notes where the unrealised nodes, if any, do not fit.
 fn unrealised_item_misfits(strands: &[Strand], items: &[Form], first: &mut FirstMisfit)
-    ensures { first.new ≡ first_onto first.old (optional_misfits (unrealised_misfits (map strand_view strands.now)) (item_with (codes "unrealised" ∷ []) (map view items.now))) }
+    ensures { first.new ≡ first_onto first.old (optional_misfits (unrealised_misfits strands.now) (item_with (codes "unrealised" ∷ []) (map view items.now))) }
 {
     let Some(item) = item_with(items, b"unrealised") else {
         return;
@@ -39,7 +38,7 @@ fn unrealised_item_misfits(strands: &[Strand], items: &[Form], first: &mut First
 /// Notes where the test, if there is one, does not fit.
 fn test_item_misfits(scope: Scope<'_>, strands: &[Strand], items: &[Form], first: &mut FirstMisfit)
     requires { scope_view scope ≡ scope_of (map view items.now) }
-    ensures { first.new ≡ first_onto first.old (optional_misfits (test_misfits (scope_of (map view items.now)) (map strand_view strands.now)) (item_with (codes "test" ∷ []) (map view items.now))) }
+    ensures { first.new ≡ first_onto first.old (optional_misfits (test_misfits (scope_of (map view items.now)) strands.now) (item_with (codes "test" ∷ []) (map view items.now))) }
 {
     let Some(item) = item_with(items, b"test") else {
         return;
@@ -55,7 +54,7 @@ pub(crate) fn about_strands_misfits(
     first: &mut FirstMisfit,
 )
     requires { scope_view scope ≡ scope_of (map view items.now) }
-    ensures { first.new ≡ first_onto first.old (about_these_misfits (map strand_view strands.now) (map view items.now)) }
+    ensures { first.new ≡ first_onto first.old (about_these_misfits strands.now (map view items.now)) }
 {
     operation_at_misfits(strands, items, first);
     unrealised_item_misfits(strands, items, first);

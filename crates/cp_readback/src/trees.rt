@@ -2,7 +2,6 @@
 ghost use Rattle.std.specs.Prelude.{◌≡◌, [], map, option_map, Some, IfOk, OnOk, IfSome};
 ghost use Rattle.cp_sexpr.specs.View.{view};
 ghost use Rattle.cp_base.specs.declared.place.Place.{Place as Where};
-ghost use Rattle.cp_skel.specs.Trees.{tree_view};
 ghost use Rattle.cp_load.specs.UncheckedProblems.{unchecked_view};
 ghost use Rattle.cp_report.specs.ReadBack.{places_of, labels_misfits, if_whole, tree_misfits, tree_of};
 ghost use Rattle.cp_spelled.specs.FirstMisfit.{first_onto};
@@ -19,7 +18,7 @@ use cp_base::Place;
 use cp_load::UncheckedProblem;
 use cp_scope::place_of;
 use cp_sexpr::Form;
-use cp_skel::Tree;
+use cp_skel::{Labels, Tree};
 use cp_spelled::FirstMisfit;
 use cp_stated::problem_variables;
 use std::alloc::{AllocError, Global};
@@ -131,11 +130,14 @@ pub fn tree_of(
     behind: &[Form],
 ) -> Result<Tree, AllocError>
     requires fits { (next : Where) × (tree_misfits (Some (unchecked_view problem.now)) next (map view behind.now) ≡ []) }
-    ensures { IfOk result (λ t. tree_view t ≡ tree_of (unchecked_view problem.now) (map view behind.now)) }
+    ensures { IfOk result (λ t. t ≡ tree_of (unchecked_view problem.now) (map view behind.now)) }
 {
     let (labels, ending) = split_at_labels(behind);
     let names = problem_variables(alloc, problem)?;
     let nodes = labels_stated(alloc, problem, &names, labels)?;
     let outcome = outcome_in(ending);
-    Ok(Tree { nodes, outcome })
+    Ok(Tree {
+        labels: Labels::of(nodes),
+        outcome,
+    })
 }

@@ -85,7 +85,7 @@ module _ (of_problem names : List (List ℕ)) (l : Label) where
 
 module _ (of_problem : List (List ℕ)) (n : ℕ) (l : Label) where
   abbrev names_here : List (List ℕ)
-  names_here = label_names of_problem (occurring l) l.variables
+  names_here = label_names of_problem (occurring l) l.skeleton.variables
 
   -- The items of a label form are those that are printed.
   pub items_printed : items_of_label (label_form of_problem n l) ≡ label_items of_problem names_here l

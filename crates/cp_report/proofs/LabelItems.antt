@@ -218,7 +218,7 @@ abbrev pub label_groups : List (List ℕ) → List (List ℕ) → Label → List
 label_groups of_problem names l =
     record { line = once (codes "parent"); forms = parent_items l.parent }
     ∷ record { line = once (codes "by"); forms = headed_list (codes "by") (operation_words l.operation) ∷ [] }
-    ∷ unless_empty (codes "vars") (vars_from names (occurring l) 0 l.variables)
+    ∷ unless_empty (codes "vars") (vars_from names (occurring l) 0 l.skeleton.variables)
     ∷ record { line = record { heads = strand_heads; repeats = true }; forms = map (strand_form (named_by names)) l.skeleton.strands }
     ∷ unless_empty (codes "precedes") (covering_pairs l.skeleton)
     ∷ unless_empty (codes "non-orig") (map (atom_form (named_by names)) (listed l.skeleton).non_originating)
@@ -286,7 +286,7 @@ label_groups_are of_problem names l = (
   (
     (only_headed (codes "by" ∷ []) (codes "by") (operation_words l.operation) refl, tt),
     (
-      empty_or_one (codes "vars") (vars_from names (occurring l) 0 l.variables),
+      empty_or_one (codes "vars") (vars_from names (occurring l) 0 l.skeleton.variables),
       (
         (strand_headed (named_by names) l.skeleton.strands, tt),
         (

@@ -109,10 +109,10 @@ module _ (under : IsUnder) (p : Problem) (l : Label) (h : PrintedLabel p l) (pat
 
   below : (x : Variable) → IsIn x (occurring l) → number l x < length (declarations_of_label (items p l))
   below x m =
-      let less : rank (occurring l) x.number < rank (occurring l) (length l.variables) = rank_less (occurring l) x.number (length l.variables) (number_occurs (occurring l) x m) (declared_below l.variables x (h.variables.declared x m)) in
-      let z : 0 + length l.variables ≡ length l.variables = omega arith in
-      let all : rank (occurring l) (length l.variables) ≡ 0 + length (occurring_from (occurring l) (names p l) 0 l.variables) = sym (ap (rank (occurring l)) z) ∙ rank_behind (occurring l) (names p l) 0 l.variables in
-      let same : length (declarations_of_label (items p l)) ≡ length (occurring_from (occurring l) (names p l) 0 l.variables) = ap length (variables_are under p l h) in
+      let less : rank (occurring l) x.number < rank (occurring l) (length l.skeleton.variables) = rank_less (occurring l) x.number (length l.skeleton.variables) (number_occurs (occurring l) x m) (declared_below l.skeleton.variables x (h.variables.declared x m)) in
+      let z : 0 + length l.skeleton.variables ≡ length l.skeleton.variables = omega arith in
+      let all : rank (occurring l) (length l.skeleton.variables) ≡ 0 + length (occurring_from (occurring l) (names p l) 0 l.skeleton.variables) = sym (ap (rank (occurring l)) z) ∙ rank_behind (occurring l) (names p l) 0 l.skeleton.variables in
+      let same : length (declarations_of_label (items p l)) ≡ length (occurring_from (occurring l) (names p l) 0 l.skeleton.variables) = ap length (variables_are under p l h) in
       omega (arith, less, all, same)
 
   -- where a pattern stands, each variable of the label stands for itself

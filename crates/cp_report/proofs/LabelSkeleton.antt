@@ -47,7 +47,7 @@ use Rattle.cp_report.proofs.SkeletonRead.{IsUnder, each_stands, all_strands_back
 -- What is used of a label that is printed for a problem.
 pub record PrintedLabel (p : Problem) (l : Label) : Type 0 where
   pub names_differ : AreDifferent (problem_names p.declared p.variables)
-  pub small : length l.variables < 2 ^ 64
+  pub small : length l.skeleton.variables < 2 ^ 64
   pub variables : HasItsVariables p l
   pub skeleton : IsSkeleton p.protocol l.skeleton
   pub maps_all : MapsAll p l.skeleton
@@ -71,8 +71,8 @@ module _ (under : IsUnder) (p : Problem) (l : Label) (h : PrintedLabel p l) wher
 
   -- ---- the entries of items
 
-  vars_are : entries_under (codes "vars") (items p l) ≡ vars_from (names p l) (occurring l) 0 l.variables
-  vars_are = are_listed (of_problem p) (names p l) l (codes "vars") (vars_from (names p l) (occurring l) 0 l.variables) refl refl
+  vars_are : entries_under (codes "vars") (items p l) ≡ vars_from (names p l) (occurring l) 0 l.skeleton.variables
+  vars_are = are_listed (of_problem p) (names p l) l (codes "vars") (vars_from (names p l) (occurring l) 0 l.skeleton.variables) refl refl
 
   precedes_are : entries_under (codes "precedes") (items p l) ≡ covering_pairs k
   precedes_are = are_listed (of_problem p) (names p l) l (codes "precedes") (covering_pairs k) refl refl
@@ -97,8 +97,8 @@ module _ (under : IsUnder) (p : Problem) (l : Label) (h : PrintedLabel p l) wher
 
   -- ---- variables
 
-  pub variables_are : declarations_of_label (items p l) ≡ occurring_from (occurring l) (names p l) 0 l.variables
-  variables_are = ap (map declaration_of) vars_are ∙ variables_back (occurring l) (names p l) 0 l.variables
+  pub variables_are : declarations_of_label (items p l) ≡ occurring_from (occurring l) (names p l) 0 l.skeleton.variables
+  variables_are = ap (map declaration_of) vars_are ∙ variables_back (occurring l) (names p l) 0 l.skeleton.variables
 
   pub stands : (x : Variable) → IsIn x (occurring l) → StandsFor (scope_of (items p l)) (named p l x) (renamed (number l) x)
   stands x m = each_stands p l h.variables (of_problem p) (as_many_names p.declared p.variables) h.small h.names_differ (scope_of (items p l)) variables_are x m
@@ -201,7 +201,7 @@ module _ (under : IsUnder) (p : Problem) (l : Label) (h : PrintedLabel p l) wher
 
   -- the skeleton with these strands and pairs
   abbrev ordered_so : Skeleton
-  ordered_so = record { strands = strands_of_label p (items p l); pairs = covers_of k; assumptions = k.assumptions; from_problem = k.from_problem }
+  ordered_so = record { variables = declarations_of_label (items p l); strands = strands_of_label p (items p l); pairs = covers_of k; assumptions = k.assumptions; from_problem = k.from_problem }
 
   own_in_order : AreInOrder (strands_of_label p (items p l)) (covers_of k) k.from_problem.pairs
   own_in_order q m =

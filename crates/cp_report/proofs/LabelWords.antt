@@ -12,7 +12,7 @@ abbrev pub of_problem : Problem → List (List ℕ)
 of_problem p = problem_names p.declared p.variables
 
 abbrev pub names : Problem → Label → List (List ℕ)
-names p l = label_names (of_problem p) (occurring l) l.variables
+names p l = label_names (of_problem p) (occurring l) l.skeleton.variables
 
 abbrev pub named : Problem → Label → Variable → Form
 named p l = named_by (names p l)

@@ -241,7 +241,7 @@ label_by_moved p items =
     ∙ map_moved (pattern_of (declarations_of_label items)) (pattern_moved (declarations_of_label items)) (entries_under (codes "escape") items) in
     let c = ap (map number_of) (entries_under_moved (codes "children") items) ∙ map_moved number_of number_of_moved (entries_under (codes "children") items) in
     let m = mark_in_moved items in
-    λ i. record { parent = a i; operation = o i; variables = ds i; skeleton = k i; unrealised = u i; test = t i; escape = e i; children = c i; mark = m i }
+    λ i. record { parent = a i; operation = o i; skeleton = k i; unrealised = u i; test = t i; escape = e i; children = c i; mark = m i }
 
 pub label_moved : (p : Problem) (f : Form) → label_of p (unplaced f) ≡ label_of p f
 label_moved p f = ap (label_by p) (label_items_moved f) ∙ label_by_moved p (items_of_label f)

@@ -5,13 +5,13 @@ use Rattle.cp_base.specs.declared.place.Place.{Place}
 use Rattle.cp_base.specs.declared.place.Code.TheVariants.{BadShape, UnknownProtocol, UnknownRole, DuplicateVar, BadHeight, NotInPrefix, UniqNowhere, BadNode, CyclicOrder}
 use Rattle.cp_base.specs.declared.place.Refusal.{Refusal}
 use Rattle.cp_model.specs.Term.{Term, tag_term}
+use Rattle.cp_model.specs.Bindings.{bindings_of}
 use Rattle.cp_model.specs.declared.variable.Variable.{Variable}
 use Rattle.cp_model.specs.Strand.{Role, Protocol, variables_of_prefix}
 use Rattle.cp_model.specs.declared.variable.Declaration.{Declaration}
 use Rattle.cp_model.specs.declared.node.Node.{Node}
 use Rattle.cp_model.specs.declared.node.OrderPair.{OrderPair}
 use Rattle.cp_model.specs.Skeleton.{SkeletonStrand, instance, listener, term_event_at, Assumptions}
-use Rattle.cp_model.specs.Homomorphism.{substitution_by}
 use Rattle.cp_model.specs.Given.{atoms_onto, uniques_onto, with_given}
 use Rattle.cp_model.specs.Problem.{numbers_from, variable_terms}
 use Rattle.cp_model.specs.Same.{has_variable}
@@ -147,8 +147,8 @@ instance_by_moved None ds next fs = refl
 instance_by_moved (Some role) ds next [] = refl
 instance_by_moved (Some role) ds next (name ∷ []) = refl
 instance_by_moved (Some role) ds next (name ∷ height ∷ maplets) =
-    ap (λ n. let i = instance_of_role role ds next n (all_moved maplets) in (instance role n (substitution_by i.terms), i.fresh)) (number_of_moved height)
-    ∙ ap (λ (i : Instantiated). (instance role (number_of height) (substitution_by i.terms), i.fresh)) (instantiated_moved (variables_of_prefix role (number_of height)) ds maplets next 0 role.variables)
+    ap (λ n. let i = instance_of_role role ds next n (all_moved maplets) in (instance role n (bindings_of i.terms), i.fresh)) (number_of_moved height)
+    ∙ ap (λ (i : Instantiated). (instance role (number_of height) (bindings_of i.terms), i.fresh)) (instantiated_moved (variables_of_prefix role (number_of height)) ds maplets next 0 role.variables)
 
 heard_moved : (ds : List Declaration) (fs : List Form) → listened_term ds (all_moved fs) ≡ listened_term ds fs
 heard_moved ds [] = refl
@@ -328,6 +328,7 @@ problem_with_moved protocol ds body s =
       variables = ds ++ s.fresh;
       declared = length ds;
       skeleton = record {
+        variables = ds ++ s.fresh;
         strands = s.strands;
         pairs = pairs;
         assumptions = with_given s.strands own;

@@ -17,7 +17,7 @@ use Rattle.cp_language.specs.Words.{is_one_of, top_head}
 use Rattle.cp_language.specs.Faults.{place_of, items_of}
 use Rattle.cp_language.specs.Roles.{Headed, headed, text_of_symbol}
 use Rattle.cp_language.specs.Problems.{name_in_front, Problem}
-use Rattle.cp_language.specs.Input.{protocol_names, top_faults, headed_top_faults, protocols_onto, protocols_behind, faults_from, faults_of, Entry, plain_entry, protocol_entry, problem_entry, form_of, stated, entry_of_head, headed_entry, stated_problem, entries_from, input_of}
+use Rattle.cp_language.specs.Input.{protocol_names, top_faults, headed_top_faults, protocols_onto, protocols_behind, faults_from, faults_of, Entry, plain_entry, protocol_entry, problem_entry, form_of, stated_protocol, stated, entry_of_head, headed_entry, stated_problem, entries_from, input_of}
 use Rattle.cp_report.specs.Misfits.{entries_misfits, symbol_misfits}
 use Rattle.cp_report.specs.Heads.{forms_after_head, is_of_tree, is_label}
 use Rattle.cp_report.specs.Labels.{label_of}
@@ -75,6 +75,11 @@ pub bare_form : (e : Entry) → form_of (bare e) ≡ unplaced (form_of e)
 bare_form (plain_entry f) = refl
 bare_form (protocol_entry f p) = refl
 bare_form (problem_entry f p) = refl
+
+pub bare_protocol : (e : Entry) → stated_protocol (bare e) ≡ stated_protocol e
+bare_protocol (plain_entry f) = refl
+bare_protocol (protocol_entry f p) = refl
+bare_protocol (problem_entry f p) = refl
 
 pub bare_stated : (e : Entry) → stated (bare e) ≡ stated e
 bare_stated (plain_entry f) = refl

@@ -3,11 +3,11 @@ use Rattle.std.proofs.Common.{◌≡◌, ℕ, List, [], ◌∷◌, ◌++◌, tru
 use Rattle.std.specs.Prelude.{Bool, Option, Some, None, map, not, length, codes, option_map, ◌&&◌, if◌then◌else◌, nat_lt, nat_le}
 use Rattle.cp_base.specs.declared.place.Place.{Place}
 use Rattle.cp_model.specs.Term.{AtomTerm}
+use Rattle.cp_model.specs.Bindings.{bindings_of}
 use Rattle.cp_model.specs.Strand.{Role, variables_of_prefix}
 use Rattle.cp_model.specs.declared.node.Node.{Node}
 use Rattle.cp_model.specs.declared.node.OrderPair.{OrderPair}
 use Rattle.cp_model.specs.Skeleton.{SkeletonStrand, instance, listener}
-use Rattle.cp_model.specs.Homomorphism.{substitution_by}
 use Rattle.cp_model.specs.Given.{has_atom}
 use Rattle.cp_sexpr.specs.Syntax.{Form}
 use Rattle.cp_sexpr.specs.Pieces.{start}
@@ -64,7 +64,7 @@ strand_misfits_moved roles s f =
 
 instance_with_moved : (s : Scope) (o : Option Role) (height : ℕ) (fs : List Form) → instance_with s o height (all_moved fs) ≡ instance_with s o height fs
 instance_with_moved s None height fs = refl
-instance_with_moved s (Some role) height fs = ap (λ ts. instance role height (substitution_by ts)) (values_moved s fs role.variables)
+instance_with_moved s (Some role) height fs = ap (λ ts. instance role height (bindings_of ts)) (values_moved s fs role.variables)
 
 instance_of_moved : (roles : List Role) (s : Scope) (fs : List Form) → instance_of_entries roles s (all_moved fs) ≡ instance_of_entries roles s fs
 instance_of_moved roles s [] = refl

@@ -126,7 +126,7 @@ from_problem_moved p items =
 pub skeleton_moved : (p : Problem) (items : List Form) → skeleton_stated p (all_moved items) ≡ skeleton_stated p items
 skeleton_moved p items =
     let k = strands_moved p items in let o = pairs_under_moved items in let a = assumptions_moved items in let w = from_problem_moved p items in
-    λ i. record { strands = k i; pairs = o i; assumptions = a i; from_problem = w i }
+    λ i. record { variables = (scope_moved items i).variables; strands = k i; pairs = o i; assumptions = a i; from_problem = w i }
 
 pub vars_item_moved : (items : List Form) → vars_item_misfits (all_moved items) ≡ at_start (vars_item_misfits items)
 vars_item_moved items = item_misfits_moved (codes "vars" ∷ []) (λ at fs. lacking 1 at fs ++ vars_misfits [] fs) (λ at fs. both _ _ _ _ (lacking_moved 1 at fs) (vars_moved [] fs)) items

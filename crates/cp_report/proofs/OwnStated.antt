@@ -8,6 +8,7 @@ use Rattle.cp_lists.proofs.Items.{map_of_item}
 use Rattle.cp_lists.proofs.Members.{into_map, from_map, into_filter, from_filter}
 use Rattle.cp_model.specs.Senders.{ArePaired}
 use Rattle.cp_model.specs.Term.{variable_term, AtomTerm, Term, atom_term, variables_of_atom, Substitution, apply_to, apply_to_atom, composed}
+use Rattle.cp_model.specs.Bindings.{sort_of_atom}
 use Rattle.cp_model.specs.declared.variable.Variable.{Variable}
 use Rattle.cp_model.specs.declared.variable.Declaration.{Declaration}
 use Rattle.cp_model.specs.Homomorphism.{substitution_by, map_from_problem}
@@ -23,7 +24,7 @@ use Rattle.cp_model.proofs.LawAgreement.{agree_atom}
 use Rattle.cp_model.proofs.Gathered.{atoms, uniques}
 use Rattle.cp_language.proofs.BoundedSearch.{reaches_all}
 use Rattle.cp_language.specs.Problems.{is_known, on_one_strand}
-use Rattle.cp_report.specs.FittingTrees.{sort_of_atom, HasSortOf}
+use Rattle.cp_report.specs.FittingTrees.{HasSortOf}
 use Rattle.cp_report.specs.Skeletons.{map_by, images_among, is_in_order}
 use Rattle.cp_report.specs.UpToNames.{unique_renamed, AreSameAssumptions}
 use Rattle.cp_report.proofs.CoveringOrder.{three_parts, all_three}

@@ -19,7 +19,7 @@ use Rattle.cp_language.specs.Report.{variables_of_terms, occurring}
 use Rattle.cp_language.specs.Problems.{Problem}
 use Rattle.cp_language.specs.Input.{faults_of, Entry, stated, input_of}
 use Rattle.cp_language.specs.Example.{example_input}
-use Rattle.cp_language.proofs.Problems.{are_skeletons, map_to_themselves}
+use Rattle.cp_language.proofs.Problems.{are_skeletons, have_their_variables, map_to_themselves}
 use Rattle.cp_language.proofs.Example.{is_well_formed}
 use Rattle.cp_report.specs.FittingTrees.{HasSortOf, FitsIn, TreeFits, problems_in}
 use Rattle.cp_report.specs.Laws.{CanBeStated}
@@ -58,6 +58,9 @@ module _ (input : Forms) (well_formed : faults_of input ≡ []) (e : Entry) (lis
   own : IsPointOfView p.variables p.skeleton
   own = map_to_themselves input e p well_formed listed at
 
+  own_variables : p.skeleton.variables ≡ p.variables
+  own_variables = have_their_variables input e p well_formed listed at
+
   all_declared : (x : Variable) → IsIn x (occurring (own_label p)) → IsDeclared p.variables x
   all_declared x m =
       ⊎_elim (λ i. own.closed x i) (λ i. terms_declared p.variables x (subst (λ ts. IsIn x (variables_of_terms ts)) own.values i))
@@ -68,8 +71,12 @@ module _ (input : Forms) (well_formed : faults_of input ≡ []) (e : Entry) (lis
 
   own_fits : FitsIn p (own_label p ∷ []) 0 (own_label p)
   own_fits = record {
-    variables = record { later = []; variables = sym (append-nil p.variables); declared = all_declared };
-    few = few;
+    variables = record {
+      later = [];
+      variables = own_variables ∙ sym (append-nil p.variables);
+      declared = λ x m. subst (λ ds. IsDeclared ds x) (sym own_variables) (all_declared x m);
+    };
+    few = subst (λ ds. length ds < 2 ^ 64) (sym own_variables) few;
     skeleton = are_skeletons input e p well_formed listed at;
     maps_all = record {
       strands = ap length own.strands ∙ numbers_length 0 p.skeleton.strands;

@@ -1,5 +1,6 @@
 -- What is used of labels that are printed holds of those that fit, for the problems of well-formed input.
 use Rattle.std.proofs.Common.{◌≡◌, ℕ, zero, suc, ◌+◌, ◌<◌, ◌^◌, List, [], ◌∷◌, ◌++◌, length, refl, sym, ap, ◌∙◌, arith}
+use Rattle.cp_model.specs.Bindings.{as_substitution}
 use Rattle.std.specs.Prelude.{Option, Some, None}
 use Rattle.std.proofs.lemmas.List.{length-append}
 use Rattle.cp_lists.specs.Lists.{item_at, IsIn, here, there}
@@ -36,7 +37,7 @@ use Rattle.cp_report.proofs.ReportFits.{Reads, is_report}
 -- ---- in general
 
 pub under_all : IsUnder
-under_all terms x y i es m = in_trace_under terms es x y m i
+under_all terms x y i es m = in_trace_under (as_substitution terms) es x y m i
 
 pub applies_whole : AppliesWhole
 applies_whole role height v i a = applies_at role height v i a
@@ -100,7 +101,7 @@ module _ (input : Forms) (well_formed : faults_of input ≡ []) (e : Entry) (lis
     where
       fewer : length p.variables < 2 ^ 64
       fewer =
-          let many : length l.variables ≡ length p.variables + length fit.variables.later = ap length fit.variables.variables ∙ length-append p.variables fit.variables.later in
+          let many : length l.skeleton.variables ≡ length p.variables + length fit.variables.later = ap length fit.variables.variables ∙ length-append p.variables fit.variables.later in
           let few = fit.few in
           omega (arith, many, few)
 

@@ -5,16 +5,18 @@ use Rattle.std.proofs.lemmas.Bool.Decides.{nat_tests}
 use Rattle.cp_base.specs.declared.place.Place.{Place}
 use Rattle.cp_lists.specs.Lists.{item_at, IsIn}
 use Rattle.cp_model.specs.Term.{skey_variable, akey_variable, apply_to, variable_term, symmetric_term, asymmetric_term, AtomTerm, text_variable, datum_variable, name_variable, key_term, Term, atom_term, variables_of, Substitution, apply_to_atom, composed, AgreeOnTerms}
+use Rattle.cp_model.specs.Bindings.{Binding, as_substitution, bindings_of, sort_of_atom}
 use Rattle.cp_model.specs.declared.sort.Sort.{Sort}
 use Rattle.cp_model.specs.declared.sort.Sort.TheVariants.{Text as text_sort, Datum as datum_sort, Name as name_sort, Skey as skey_sort, Akey as akey_sort}
 use Rattle.cp_model.specs.declared.variable.Variable.{Variable}
 use Rattle.cp_model.specs.Strand.{Role, variables_of_prefix, IsHeight}
 use Rattle.cp_model.specs.declared.variable.Declaration.{Declaration}
-use Rattle.cp_model.specs.Homomorphism.{text_in, datum_in, name_in, skey_in, akey_in, substitution_by}
+use Rattle.cp_model.specs.Values.{text_in, datum_in, name_in, skey_in, akey_in, substitution_by}
 use Rattle.cp_model.specs.Problem.{IsDeclared}
 use Rattle.cp_model.specs.Skeleton.{SkeletonStrand, instance, listener}
 use Rattle.cp_model.specs.Same.{same_sort, has_variable}
 use Rattle.cp_model.proofs.LawTerms.{term_composed}
+use Rattle.cp_model.proofs.DeclaredTerms.{bindings_are}
 use Rattle.cp_model.proofs.SameTests.{same_sort_itself, variable_in, in_has_variable}
 use Rattle.cp_sexpr.specs.Syntax.{Form, forms_of}
 use Rattle.cp_language.specs.Faults.{items_of}
@@ -25,7 +27,6 @@ use Rattle.cp_language.specs.Report.{maplets_from, strand_form}
 use Rattle.cp_report.specs.Misfits.{misfit_unless, unless_misfit}
 use Rattle.cp_report.specs.Spelled.{Scope, term_misfits, sort_in, term_in}
 use Rattle.cp_report.specs.Skeletons.{declared_in_prefix, mapping_misfits, value_mapped, values_mapped, height_misfits, prefix_misfits, strand_misfits, instance_with, strand_of}
-use Rattle.cp_report.specs.FittingTrees.{sort_of_atom}
 use Rattle.cp_report.specs.UpToNames.{renamed, renaming, IsSameStrandUnder}
 use Rattle.cp_report.proofs.SpelledTerms.{StandsFor, atom_fits, printed_term_fits}
 use Rattle.cp_report.proofs.PrintedVariables.{declared_there}
@@ -95,10 +96,10 @@ module _ (s : Scope) (named : Variable → Form) (number : Variable → ℕ) whe
 
 -- ---- maplets of a prefix
 
-module _ (s : Scope) (named : Variable → Form) (number : Variable → ℕ) (prefix : List Variable) (terms : Substitution)
-    (stands : (x : Variable) → IsIn x prefix → (y : Variable) → IsIn y (variables_of (apply_to terms (variable_term x))) → StandsFor s (named y) (renamed number y)) where
+module _ (s : Scope) (named : Variable → Form) (number : Variable → ℕ) (prefix : List Variable) (terms : List Binding)
+    (stands : (x : Variable) → IsIn x prefix → (y : Variable) → IsIn y (variables_of (apply_to (as_substitution terms) (variable_term x))) → StandsFor s (named y) (renamed number y)) where
   abbrev value_form : Sort → ℕ → Form
-  value_form r n = term_form named (apply_to terms (variable_term (variable r n)))
+  value_form r n = term_form named (apply_to (as_substitution terms) (variable_term (variable r n)))
 
   abbrev prefix_values : ℕ → List Declaration → List Form
   prefix_values n [] = []
@@ -117,9 +118,9 @@ module _ (s : Scope) (named : Variable → Form) (number : Variable → ℕ) (pr
   value_fits : (r : Sort) (n : ℕ) → has_variable prefix (variable r n) ≡ true → (term_misfits s (value_form r n) ≡ []) × (is_sort r (sort_in s (value_form r n)) ≡ true)
   value_fits r n h =
       let x = variable r n in
-      let t = apply_to terms (variable_term x) in
+      let t = apply_to (as_substitution terms) (variable_term x) in
       let stand = stands x (variable_in prefix x h) in
-      ((printed_term_fits s named number t stand).0, sorted_value s named number r t stand (sorted_under terms r (variable_term x) (variable_sorted r n)))
+      ((printed_term_fits s named number t stand).0, sorted_value s named number r t stand (sorted_under (as_substitution terms) r (variable_term x) (variable_sorted r n)))
 
   values_fit : (n : ℕ) (ds : List Declaration) → ValuesFit s (declared_in_prefix prefix n ds) (prefix_values n ds)
   values_fit n [] = tt
@@ -171,8 +172,8 @@ module _ (s : Scope) (named : Variable → Form) (number : Variable → ℕ) (pr
         ∙ mapping_fits s at (declared_in_prefix prefix 0 ds) (prefix_values 0 ds) (all_found (declared_in_prefix prefix 0 ds) apart) apart (values_fit 0 ds)
 
     -- and the terms of its variables are given back
-    pub prefix_agrees : AgreeOnTerms prefix (composed terms (renaming number)) (substitution_by (values_mapped s (maplets_from named prefix terms 0 ds) ds))
-    prefix_agrees x m = term_composed terms (renaming number) (variable_term x) ∙ sym taken
+    pub prefix_agrees : AgreeOnTerms prefix (composed (as_substitution terms) (renaming number)) (as_substitution (bindings_of (values_mapped s (maplets_from named prefix terms 0 ds) ds)))
+    prefix_agrees x m = term_composed (as_substitution terms) (renaming number) (variable_term x) ∙ sym taken
       where
         d : (c : Declaration) × (item_at ds x.number ≡ Some c) × (c.sort ≡ x.sort)
         d = declared_there ds x (declared x m)
@@ -191,18 +192,19 @@ module _ (s : Scope) (named : Variable → Form) (number : Variable → ℕ) (pr
             ap (value_mapped s d.0.identifier) (maplets_are 0 ds)
             ∙ value_back s (declared_in_prefix prefix 0 ds) (prefix_values 0 ds) place.0 d.0 (value_form d.0.sort (0 + x.number)) (apart_in_prefix prefix 0 ds (apart_identifiers ds own)) place.1 place.2
 
-        term : term_in s (value_form x.sort x.number) ≡ apply_to (renaming number) (apply_to terms (variable_term x))
-        term = (printed_term_fits s named number (apply_to terms (variable_term x)) (stands x m)).1
+        term : term_in s (value_form x.sort x.number) ≡ apply_to (renaming number) (apply_to (as_substitution terms) (variable_term x))
+        term = (printed_term_fits s named number (apply_to (as_substitution terms) (variable_term x)) (stands x m)).1
 
-        at : item_at (values_mapped s (maplets_from named prefix terms 0 ds) ds) x.number ≡ Some (apply_to (renaming number) (apply_to terms (variable_term x)))
+        at : item_at (values_mapped s (maplets_from named prefix terms 0 ds) ds) x.number ≡ Some (apply_to (renaming number) (apply_to (as_substitution terms) (variable_term x)))
         at =
             values_at s (maplets_from named prefix terms 0 ds) ds x.number d.0 d.1
             ∙ ap (λ (t : Term). Some t) (mapped ∙ ap (λ (k : ℕ). term_in s (value_form d.0.sort k)) z ∙ ap (λ (r : Sort). term_in s (value_form r x.number)) d.2 ∙ term)
 
-        taken : apply_to (substitution_by (values_mapped s (maplets_from named prefix terms 0 ds) ds)) (variable_term x) ≡ apply_to (renaming number) (apply_to terms (variable_term x))
+        taken : apply_to (as_substitution (bindings_of (values_mapped s (maplets_from named prefix terms 0 ds) ds))) (variable_term x) ≡ apply_to (renaming number) (apply_to (as_substitution terms) (variable_term x))
         taken =
-            sorted_taken (values_mapped s (maplets_from named prefix terms 0 ds) ds) x.sort x.number (apply_to (renaming number) (apply_to terms (variable_term x))) at
-            (sorted_under (renaming number) x.sort (apply_to terms (variable_term x)) (sorted_under terms x.sort (variable_term x) (variable_sorted x.sort x.number)))
+            ap (λ (g : Substitution). apply_to g (variable_term x)) (bindings_are (values_mapped s (maplets_from named prefix terms 0 ds) ds))
+            ∙ sorted_taken (values_mapped s (maplets_from named prefix terms 0 ds) ds) x.sort x.number (apply_to (renaming number) (apply_to (as_substitution terms) (variable_term x))) at
+            (sorted_under (renaming number) x.sort (apply_to (as_substitution terms) (variable_term x)) (sorted_under (as_substitution terms) x.sort (variable_term x) (variable_sorted x.sort x.number)))
 
 -- ---- strands
 
@@ -218,7 +220,7 @@ pub record IsFound (roles : List Role) (role : Role) (height : ℕ) : Type 0 whe
 -- What stands for the variables of a strand.
 abbrev pub StandIn : Scope → (Variable → Form) → (Variable → ℕ) → SkeletonStrand → Type 0
 StandIn s named number (instance role height terms) =
-    (x : Variable) → IsIn x (variables_of_prefix role height) → (y : Variable) → IsIn y (variables_of (apply_to terms (variable_term x))) → StandsFor s (named y) (renamed number y)
+    (x : Variable) → IsIn x (variables_of_prefix role height) → (y : Variable) → IsIn y (variables_of (apply_to (as_substitution terms) (variable_term x))) → StandsFor s (named y) (renamed number y)
 StandIn s named number (listener t) = (x : Variable) → IsIn x (variables_of t) → StandsFor s (named x) (renamed number x)
 
 abbrev pub RoleFits : List Role → SkeletonStrand → Type 0
@@ -238,7 +240,7 @@ module _ (roles : List Role) (s : Scope) (named : Variable → Form) (number : V
   pub strand_back : (k : SkeletonStrand) → RoleFits roles k → StandIn s named number k → IsSameStrandUnder (renaming number) k (strand_of roles s (strand_form named k))
   strand_back (instance role height terms) (found, height_is) stands =
       let maplets = maplets_from named (variables_of_prefix role height) terms 0 role.variables in
-      let back : strand_of roles s (strand_form named (instance role height terms)) ≡ instance role height (substitution_by (values_mapped s maplets role.variables))
+      let back : strand_of roles s (strand_form named (instance role height terms)) ≡ instance role height (bindings_of (values_mapped s maplets role.variables))
       = ap (λ (fs : List Form). instance_with s (role_named roles role.name) height fs) (items_back maplets) ∙ ap (λ (o : Option Role). instance_with s o height maplets) found.named in
       subst (λ (k : SkeletonStrand). IsSameStrandUnder (renaming number) (instance role height terms) k) (sym back)
       (refl, refl, prefix_agrees s named number (variables_of_prefix role height) terms stands role.variables found.own found.declared)

@@ -6,6 +6,7 @@ use Rattle.cp_lists.proofs.Members.{in_append, in_append_left, in_append_right, 
 use Rattle.cp_lists.proofs.Items.{mapped_item}
 use Rattle.cp_model.specs.Senders.{ArePaired}
 use Rattle.cp_model.specs.Term.{AtomTerm, Term, atom_term, variables_of, variables_of_atom, Substitution, apply_to, apply_to_atom, composed, AgreeOnTerms}
+use Rattle.cp_model.specs.Bindings.{Binding, as_substitution}
 use Rattle.cp_model.specs.Strand.{payload, event_map, Role, prefix_of, variables_of_trace, variables_of_prefix, Applies, AppliesAt}
 use Rattle.cp_model.specs.declared.strand.Event.{Event}
 use Rattle.cp_model.specs.declared.strand.Event.TheVariants.{Send as send, Receive as recv}
@@ -24,21 +25,21 @@ use Rattle.cp_report.proofs.CoveringSkeletons.{IsSameKind}
 module _ (f : Substitution) where
   -- ---- events
 
-  event_then : (terms : Substitution) (e : Event Term) → event_map (apply_to f) (event_map (apply_to terms) e) ≡ event_map (apply_to (composed terms f)) e
-  event_then terms (send t) = ap send (sym (term_composed terms f t))
-  event_then terms (recv t) = ap recv (sym (term_composed terms f t))
+  event_then : (terms : List Binding) (e : Event Term) → event_map (apply_to f) (event_map (apply_to (as_substitution terms)) e) ≡ event_map (apply_to (composed (as_substitution terms) f)) e
+  event_then terms (send t) = ap send (sym (term_composed (as_substitution terms) f t))
+  event_then terms (recv t) = ap recv (sym (term_composed (as_substitution terms) f t))
 
-  trace_under : (terms terms' : Substitution) (es : List (Event Term)) → AgreeOnTerms (variables_of_trace es) (composed terms f) terms' →
-      map (event_map (apply_to terms')) es ≡ map (event_map (apply_to f)) (map (event_map (apply_to terms)) es)
+  trace_under : (terms terms' : List Binding) (es : List (Event Term)) → AgreeOnTerms (variables_of_trace es) (composed (as_substitution terms) f) (as_substitution terms') →
+      map (event_map (apply_to (as_substitution terms'))) es ≡ map (event_map (apply_to f)) (map (event_map (apply_to (as_substitution terms))) es)
   trace_under terms terms' [] agree = refl
   trace_under terms terms' (e ∷ es) agree =
-      ap (λ (x : Event Term). x ∷ map (event_map (apply_to terms')) es)
-      (sym (agree_event (composed terms f) terms' e (λ x m. agree x (in_append_left (variables_of_trace es) m))) ∙ sym (event_then terms e))
-      ∙ ap (λ (xs : List (Event Term)). event_map (apply_to f) (event_map (apply_to terms) e) ∷ xs) (trace_under terms terms' es (λ x m. agree x (in_append_right (variables_of (payload e)) m)))
+      ap (λ (x : Event Term). x ∷ map (event_map (apply_to (as_substitution terms'))) es)
+      (sym (agree_event (composed (as_substitution terms) f) (as_substitution terms') e (λ x m. agree x (in_append_left (variables_of_trace es) m))) ∙ sym (event_then terms e))
+      ∙ ap (λ (xs : List (Event Term)). event_map (apply_to f) (event_map (apply_to (as_substitution terms)) e) ∷ xs) (trace_under terms terms' es (λ x m. agree x (in_append_right (variables_of (payload e)) m)))
 
   pub trace_renamed : (a b : SkeletonStrand) → IsSameStrandUnder f a b → skeleton_trace b ≡ map (event_map (apply_to f)) (skeleton_trace a)
   trace_renamed (instance role height terms) (instance role' height' terms') (r, h, agree) =
-      sym (λ i. map (event_map (apply_to terms')) (prefix_of (r i) (h i))) ∙ trace_under terms terms' (prefix_of role height) agree
+      sym (λ i. map (event_map (apply_to (as_substitution terms'))) (prefix_of (r i) (h i))) ∙ trace_under terms terms' (prefix_of role height) agree
   trace_renamed (listener t) (listener u) e = sym (ap (λ (x : Term). recv x ∷ send x ∷ []) e)
   trace_renamed (instance role height terms) (listener u) e = absurd e
   trace_renamed (listener t) (instance role height terms) e = absurd e
@@ -77,37 +78,37 @@ module _ (f : Substitution) where
 
   -- ---- what roles give
 
-  module _ (role : Role) (height : ℕ) (terms terms' : Substitution) (agree : AgreeOnTerms (variables_of_prefix role height) (composed terms f) terms') where
+  module _ (role : Role) (height : ℕ) (terms terms' : List Binding) (agree : AgreeOnTerms (variables_of_prefix role height) (composed (as_substitution terms) f) (as_substitution terms')) where
     -- a value whose variables occur in the prefix
-    value_renamed : (v : AtomTerm) → Applies role height v → apply_to_atom f (apply_to_atom terms v) ≡ apply_to_atom terms' v
-    value_renamed v applies = sym (atom_composed terms f v) ∙ agree_atom (composed terms f) terms' v (λ x m. agree x (applies x m))
+    value_renamed : (v : AtomTerm) → Applies role height v → apply_to_atom f (apply_to_atom (as_substitution terms) v) ≡ apply_to_atom (as_substitution terms') v
+    value_renamed v applies = sym (atom_composed (as_substitution terms) f v) ∙ agree_atom (composed (as_substitution terms) f) (as_substitution terms') v (λ x m. agree x (applies x m))
 
-    applying_among : (vs old : List AtomTerm) → ((v : AtomTerm) → IsIn v vs → Applies role height v → IsIn (apply_to_atom terms v) old) → (w : AtomTerm) → IsIn w (applying role height terms' vs) → IsIn w (map (apply_to_atom f) old)
+    applying_among : (vs old : List AtomTerm) → ((v : AtomTerm) → IsIn v vs → Applies role height v → IsIn (apply_to_atom (as_substitution terms) v) old) → (w : AtomTerm) → IsIn w (applying role height terms' vs) → IsIn w (map (apply_to_atom f) old)
     applying_among [] old given w m = elim m [ ]
     applying_among (v ∷ vs) old given w m = by (has_variables (variables_of_prefix role height) (variables_of_atom v)) refl m (λ i. applying_among vs old (λ u j. given u (there j)) w i)
       where
-        taken : has_variables (variables_of_prefix role height) (variables_of_atom v) ≡ true → IsIn (apply_to_atom terms' v) (map (apply_to_atom f) old)
+        taken : has_variables (variables_of_prefix role height) (variables_of_atom v) ≡ true → IsIn (apply_to_atom (as_substitution terms') v) (map (apply_to_atom f) old)
         taken e =
             let applies : Applies role height v = variables_there (variables_of_prefix role height) (variables_of_atom v) e in
             subst (λ (u : AtomTerm). IsIn u (map (apply_to_atom f) old)) (value_renamed v applies) (into_map (apply_to_atom f) (given v here applies))
 
-        first : has_variables (variables_of_prefix role height) (variables_of_atom v) ≡ true → (w ≡ apply_to_atom terms' v) ⊎ IsIn w (applying role height terms' vs)
+        first : has_variables (variables_of_prefix role height) (variables_of_atom v) ≡ true → (w ≡ apply_to_atom (as_substitution terms') v) ⊎ IsIn w (applying role height terms' vs)
             → (IsIn w (applying role height terms' vs) → IsIn w (map (apply_to_atom f) old)) → IsIn w (map (apply_to_atom f) old)
         first e (inl same) rest = subst (λ (u : AtomTerm). IsIn u (map (apply_to_atom f) old)) (sym same) (taken e)
         first e (inr i) rest = rest i
 
-        by : (b : Bool) → has_variables (variables_of_prefix role height) (variables_of_atom v) ≡ b → IsIn w (if b then apply_to_atom terms' v ∷ applying role height terms' vs else applying role height terms' vs)
+        by : (b : Bool) → has_variables (variables_of_prefix role height) (variables_of_atom v) ≡ b → IsIn w (if b then apply_to_atom (as_substitution terms') v ∷ applying role height terms' vs else applying role height terms' vs)
             → (IsIn w (applying role height terms' vs) → IsIn w (map (apply_to_atom f) old)) → IsIn w (map (apply_to_atom f) old)
         by true e i rest = first e (head_or_behind i) rest
         by false e i rest = rest i
 
     module _ (s : ℕ) (applies_at : (v : AtomTerm) (i : ℕ) → AppliesAt role height v i → Applies role height v) where
-      below_among : (v : AtomTerm) (old : List UniqueAt) → ((i : ℕ) → AppliesAt role height v i → IsIn (record { value = apply_to_atom terms v; origin = node_at s i }) old) → (w : UniqueAt) (o : Option ℕ) → origin_in role.trace (atom_term v) ≡ o
-          → IsIn w (unique_if_below height s (apply_to_atom terms' v) o) → IsIn w (map (unique_renamed f) old)
+      below_among : (v : AtomTerm) (old : List UniqueAt) → ((i : ℕ) → AppliesAt role height v i → IsIn (record { value = apply_to_atom (as_substitution terms) v; origin = node_at s i }) old) → (w : UniqueAt) (o : Option ℕ) → origin_in role.trace (atom_term v) ≡ o
+          → IsIn w (unique_if_below height s (apply_to_atom (as_substitution terms') v) o) → IsIn w (map (unique_renamed f) old)
       below_among v old given w None e m = elim m [ ]
       below_among v old given w (Some i) e m = by (nat_lt i height) refl m
         where
-          one : nat_lt i height ≡ true → (w ≡ record { value = apply_to_atom terms' v; origin = node_at s i }) ⊎ IsIn w [] → IsIn w (map (unique_renamed f) old)
+          one : nat_lt i height ≡ true → (w ≡ record { value = apply_to_atom (as_substitution terms') v; origin = node_at s i }) ⊎ IsIn w [] → IsIn w (map (unique_renamed f) old)
           one l (inl same) =
               let at : AppliesAt role height v i = (origin_found role.trace (atom_term v) i e, ltb-true i height l) in
               let value = value_renamed v (applies_at v i at) in
@@ -115,17 +116,17 @@ module _ (f : Substitution) where
               (subst (λ (x : AtomTerm). IsIn (record { value = x; origin = node_at s i }) (map (unique_renamed f) old)) value (into_map (unique_renamed f) (given i at)))
           one l (inr j) = elim j [ ]
 
-          by : (b : Bool) → nat_lt i height ≡ b → IsIn w (if b then record { value = apply_to_atom terms' v; origin = node_at s i } ∷ [] else []) → IsIn w (map (unique_renamed f) old)
+          by : (b : Bool) → nat_lt i height ≡ b → IsIn w (if b then record { value = apply_to_atom (as_substitution terms') v; origin = node_at s i } ∷ [] else []) → IsIn w (map (unique_renamed f) old)
           by true l j = one l (head_or_behind j)
           by false l j = elim j [ ]
 
-      uniques_among : (vs : List AtomTerm) (old : List UniqueAt) → ((v : AtomTerm) (i : ℕ) → IsIn v vs → AppliesAt role height v i → IsIn (record { value = apply_to_atom terms v; origin = node_at s i }) old)
+      uniques_among : (vs : List AtomTerm) (old : List UniqueAt) → ((v : AtomTerm) (i : ℕ) → IsIn v vs → AppliesAt role height v i → IsIn (record { value = apply_to_atom (as_substitution terms) v; origin = node_at s i }) old)
           → (w : UniqueAt) → IsIn w (applying_uniques role height terms' s vs) → IsIn w (map (unique_renamed f) old)
       uniques_among [] old given w m = elim m [ ]
       uniques_among (v ∷ vs) old given w m =
-          by (in_append (unique_if_below height s (apply_to_atom terms' v) (origin_in role.trace (atom_term v))) (applying_uniques role height terms' s vs) m) (λ i. uniques_among vs old (λ u j k. given u j (there k)) w i)
+          by (in_append (unique_if_below height s (apply_to_atom (as_substitution terms') v) (origin_in role.trace (atom_term v))) (applying_uniques role height terms' s vs) m) (λ i. uniques_among vs old (λ u j k. given u j (there k)) w i)
         where
-          by : IsIn w (unique_if_below height s (apply_to_atom terms' v) (origin_in role.trace (atom_term v))) ⊎ IsIn w (applying_uniques role height terms' s vs)
+          by : IsIn w (unique_if_below height s (apply_to_atom (as_substitution terms') v) (origin_in role.trace (atom_term v))) ⊎ IsIn w (applying_uniques role height terms' s vs)
               → (IsIn w (applying_uniques role height terms' s vs) → IsIn w (map (unique_renamed f) old)) → IsIn w (map (unique_renamed f) old)
           by (inl i) rest = below_among v old (λ j a. given v j here a) w (origin_in role.trace (atom_term v)) refl i
           by (inr i) rest = rest i
@@ -134,10 +135,10 @@ module _ (f : Substitution) where
 
   -- Of each role this list of values is given to all strands.
   module _ (of_role : Role → List AtomTerm) (given_by : List SkeletonStrand → List AtomTerm) (at_end : given_by [] ≡ []) (of_listener : (t : Term) (ks : List SkeletonStrand) → given_by (listener t ∷ ks) ≡ given_by ks)
-      (of_instance : (role : Role) (height : ℕ) (terms : Substitution) (ks : List SkeletonStrand) → given_by (instance role height terms ∷ ks) ≡ applying role height terms (of_role role) ++ given_by ks) where
+      (of_instance : (role : Role) (height : ℕ) (terms : List Binding) (ks : List SkeletonStrand) → given_by (instance role height terms ∷ ks) ≡ applying role height terms (of_role role) ++ given_by ks) where
     -- each strand's role gives values that are among these
     abbrev Give : List SkeletonStrand → List AtomTerm → Type 0
-    Give ks old = (s : ℕ) (role : Role) (height : ℕ) (terms : Substitution) → item_at ks s ≡ Some (instance role height terms) → (v : AtomTerm) → IsIn v (of_role role) → Applies role height v → IsIn (apply_to_atom terms v) old
+    Give ks old = (s : ℕ) (role : Role) (height : ℕ) (terms : List Binding) → item_at ks s ≡ Some (instance role height terms) → (v : AtomTerm) → IsIn v (of_role role) → Applies role height v → IsIn (apply_to_atom (as_substitution terms) v) old
 
     values_among : (ks ls : List SkeletonStrand) → ArePaired (IsSameStrandUnder f) ks ls → (old : List AtomTerm) → Give ks old → (w : AtomTerm) → IsIn w (given_by ls) → IsIn w (map (apply_to_atom f) old)
     values_among [] [] p old give w m = elim (subst (λ (vs : List AtomTerm). IsIn w vs) at_end m) [ ]
@@ -158,24 +159,24 @@ module _ (f : Substitution) where
 
   -- The non-originating values that the renamed strands' roles give are among the renamed ones.
   pub non_among : (ks ls : List SkeletonStrand) → ArePaired (IsSameStrandUnder f) ks ls → (old : List AtomTerm)
-      → ((s : ℕ) (role : Role) (height : ℕ) (terms : Substitution) → item_at ks s ≡ Some (instance role height terms) → (v : AtomTerm) → IsIn v role.non_originating → Applies role height v → IsIn (apply_to_atom terms v) old)
+      → ((s : ℕ) (role : Role) (height : ℕ) (terms : List Binding) → item_at ks s ≡ Some (instance role height terms) → (v : AtomTerm) → IsIn v role.non_originating → Applies role height v → IsIn (apply_to_atom (as_substitution terms) v) old)
       → (w : AtomTerm) → IsIn w (given_non ls) → IsIn w (map (apply_to_atom f) old)
   non_among = values_among (λ role. role.non_originating) given_non refl (λ t ks. refl) (λ role height terms ks. refl)
 
   pub penetrator_non_among : (ks ls : List SkeletonStrand) → ArePaired (IsSameStrandUnder f) ks ls → (old : List AtomTerm)
-      → ((s : ℕ) (role : Role) (height : ℕ) (terms : Substitution) → item_at ks s ≡ Some (instance role height terms) → (v : AtomTerm) → IsIn v role.penetrator_non_originating → Applies role height v → IsIn (apply_to_atom terms v) old)
+      → ((s : ℕ) (role : Role) (height : ℕ) (terms : List Binding) → item_at ks s ≡ Some (instance role height terms) → (v : AtomTerm) → IsIn v role.penetrator_non_originating → Applies role height v → IsIn (apply_to_atom (as_substitution terms) v) old)
       → (w : AtomTerm) → IsIn w (given_penetrator_non ls) → IsIn w (map (apply_to_atom f) old)
   penetrator_non_among = values_among (λ role. role.penetrator_non_originating) given_penetrator_non refl (λ t ks. refl) (λ role height terms ks. refl)
 
   module _ (applies_at : (role : Role) (height : ℕ) (v : AtomTerm) (i : ℕ) → AppliesAt role height v i → Applies role height v) where
     abbrev GiveUniques : ℕ → List SkeletonStrand → List UniqueAt → Type 0
-    GiveUniques n ks old = (s : ℕ) (role : Role) (height : ℕ) (terms : Substitution) → item_at ks s ≡ Some (instance role height terms) →
-        (v : AtomTerm) (i : ℕ) → IsIn v role.uniquely_originating → AppliesAt role height v i → IsIn (record { value = apply_to_atom terms v; origin = node_at (n + s) i }) old
+    GiveUniques n ks old = (s : ℕ) (role : Role) (height : ℕ) (terms : List Binding) → item_at ks s ≡ Some (instance role height terms) →
+        (v : AtomTerm) (i : ℕ) → IsIn v role.uniquely_originating → AppliesAt role height v i → IsIn (record { value = apply_to_atom (as_substitution terms) v; origin = node_at (n + s) i }) old
 
     further : (n : ℕ) (k : SkeletonStrand) (ks : List SkeletonStrand) (old : List UniqueAt) → GiveUniques n (k ∷ ks) old → GiveUniques (suc n) ks old
     further n k ks old give s role height terms e v i m a =
         let z : n + suc s ≡ suc n + s = omega arith in
-        subst (λ (t : ℕ). IsIn (record { value = apply_to_atom terms v; origin = node_at t i }) old) z (give (suc s) role height terms e v i m a)
+        subst (λ (t : ℕ). IsIn (record { value = apply_to_atom (as_substitution terms) v; origin = node_at t i }) old) z (give (suc s) role height terms e v i m a)
 
     unique_from : (n : ℕ) (ks ls : List SkeletonStrand) → ArePaired (IsSameStrandUnder f) ks ls → (old : List UniqueAt) → GiveUniques n ks old → (w : UniqueAt) → IsIn w (given_uniques n ls) → IsIn w (map (unique_renamed f) old)
     unique_from n [] [] p old give w m = elim m [ ]
@@ -186,8 +187,8 @@ module _ (f : Substitution) where
         z : n + 0 ≡ n
         z = omega arith
 
-        at_first : (v : AtomTerm) (i : ℕ) → IsIn v role.uniquely_originating → AppliesAt role height v i → IsIn (record { value = apply_to_atom terms v; origin = node_at n i }) old
-        at_first v i j a = subst (λ (t : ℕ). IsIn (record { value = apply_to_atom terms v; origin = node_at t i }) old) z (give 0 role height terms refl v i j a)
+        at_first : (v : AtomTerm) (i : ℕ) → IsIn v role.uniquely_originating → AppliesAt role height v i → IsIn (record { value = apply_to_atom (as_substitution terms) v; origin = node_at n i }) old
+        at_first v i j a = subst (λ (t : ℕ). IsIn (record { value = apply_to_atom (as_substitution terms) v; origin = node_at t i }) old) z (give 0 role height terms refl v i j a)
 
         by : IsIn w (applying_uniques role' height' terms' n role'.uniquely_originating) ⊎ IsIn w (given_uniques (suc n) ls) → (IsIn w (given_uniques (suc n) ls) → IsIn w (map (unique_renamed f) old)) → IsIn w (map (unique_renamed f) old)
         by (inl i) rest =
@@ -201,12 +202,12 @@ module _ (f : Substitution) where
 
     -- The unique values that the renamed strands' roles give are among the renamed ones.
     pub unique_among : (ks ls : List SkeletonStrand) → ArePaired (IsSameStrandUnder f) ks ls → (old : List UniqueAt)
-        → ((s : ℕ) (role : Role) (height : ℕ) (terms : Substitution) → item_at ks s ≡ Some (instance role height terms) →
-        (v : AtomTerm) (i : ℕ) → IsIn v role.uniquely_originating → AppliesAt role height v i → IsIn (record { value = apply_to_atom terms v; origin = node_at s i }) old)
+        → ((s : ℕ) (role : Role) (height : ℕ) (terms : List Binding) → item_at ks s ≡ Some (instance role height terms) →
+        (v : AtomTerm) (i : ℕ) → IsIn v role.uniquely_originating → AppliesAt role height v i → IsIn (record { value = apply_to_atom (as_substitution terms) v; origin = node_at s i }) old)
         → (w : UniqueAt) → IsIn w (given_uniques 0 ls) → IsIn w (map (unique_renamed f) old)
     unique_among ks ls p old give w m = unique_from 0 ks ls p old moved w m
       where
         moved : GiveUniques 0 ks old
         moved s role height terms e v i j a =
             let z : s ≡ 0 + s = omega arith in
-            subst (λ (t : ℕ). IsIn (record { value = apply_to_atom terms v; origin = node_at t i }) old) z (give s role height terms e v i j a)
+            subst (λ (t : ℕ). IsIn (record { value = apply_to_atom (as_substitution terms) v; origin = node_at t i }) old) z (give s role height terms e v i j a)

@@ -14,7 +14,7 @@ use Rattle.cp_language.specs.Words.{is_one_of, top_head}
 use Rattle.cp_language.specs.Faults.{place_of, items_of}
 use Rattle.cp_language.specs.Roles.{Headed, headed}
 use Rattle.cp_language.specs.Problems.{Problem}
-use Rattle.cp_language.specs.Input.{top_faults, headed_top_faults, protocols_behind, faults_from, faults_of, Entry, form_of, stated, stated_problem, entries_from, input_of}
+use Rattle.cp_language.specs.Input.{top_faults, headed_top_faults, protocols_behind, faults_from, faults_of, Entry, form_of, stated_protocol, stated, stated_problem, entries_from, input_of}
 use Rattle.cp_language.specs.Report.{labels_from, status_form, tree_forms, report_from, report_forms}
 use Rattle.cp_language.specs.Names.{problem_names}
 use Rattle.cp_language.proofs.Entries.{headed_form}
@@ -26,7 +26,7 @@ use Rattle.cp_report.specs.UpToNames.{IsSameTree, IsSameEntry, IsReport}
 use Rattle.cp_report.specs.Laws.{ArePrinted}
 use Rattle.cp_report.proofs.Moved.{at_start}
 use Rattle.cp_report.proofs.PrintedStrands.{items_back}
-use Rattle.cp_report.proofs.MovedReports.{bare, bare_form, bare_stated, misfits_in, misfits_moved, report_moved}
+use Rattle.cp_report.proofs.MovedReports.{bare, bare_form, bare_protocol, bare_stated, misfits_in, misfits_moved, report_moved}
 
 -- ---- forms of the input are none of a tree
 
@@ -143,7 +143,11 @@ no_places [] e = refl
 no_places (p ∷ ps) e = absurd (cc)
 
 same_entry : (d e : Entry) → bare d ≡ bare e → IsSameEntry d e
-same_entry d e q = record { form = sym (bare_form d) ∙ ap form_of q ∙ bare_form e; problem = sym (bare_stated d) ∙ ap stated q ∙ bare_stated e }
+same_entry d e q = record {
+  form = sym (bare_form d) ∙ ap form_of q ∙ bare_form e;
+  protocol = sym (bare_protocol d) ∙ ap stated_protocol q ∙ bare_protocol e;
+  problem = sym (bare_stated d) ∙ ap stated q ∙ bare_stated e;
+}
 
 same_entries : (ds es : List Entry) → map bare ds ≡ map bare es → ArePaired IsSameEntry ds es
 same_entries [] [] q = tt

@@ -185,7 +185,7 @@ entries_through [] (e ∷ es) [] h g = absurd g
 entries_through [] (e ∷ es) (c ∷ cs) h g = absurd h
 entries_through (d ∷ ds) es [] h g = absurd h
 entries_through (d ∷ ds) [] (c ∷ cs) h g = absurd g
-entries_through (d ∷ ds) (e ∷ es) (c ∷ cs) h g = (record { form = h.0.form ∙ sym g.0.form; problem = h.0.problem ∙ sym g.0.problem }, entries_through ds es cs h.1 g.1)
+entries_through (d ∷ ds) (e ∷ es) (c ∷ cs) h g = (record { form = h.0.form ∙ sym g.0.form; protocol = h.0.protocol ∙ sym g.0.protocol; problem = h.0.problem ∙ sym g.0.problem }, entries_through ds es cs h.1 g.1)
 
 -- Two inputs and their trees, for which the same is printed, are the same.
 pub one_report : (input input' : Forms) (trees trees' : List Tree) → CanBeStated input trees → CanBeStated input' trees' → ArePrinted (forms_of (report_forms (input_of input) trees)) input' trees'

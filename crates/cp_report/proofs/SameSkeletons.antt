@@ -5,6 +5,7 @@ use Rattle.cp_lists.specs.Lists.{IsIn}
 use Rattle.cp_lists.proofs.Members.{in_append, in_append_left, in_append_right}
 use Rattle.cp_model.specs.Senders.{ArePaired}
 use Rattle.cp_model.specs.Term.{variable_term, AtomTerm, Term, variables_of_atom, variables_of, Substitution, apply_to, apply_to_atom}
+use Rattle.cp_model.specs.Bindings.{as_substitution}
 use Rattle.cp_model.specs.declared.variable.Variable.{Variable}
 use Rattle.cp_model.specs.Strand.{event_map, Role, variables_of_prefix, prefix_of, variables_of_trace}
 use Rattle.cp_model.specs.declared.strand.Event.{Event}
@@ -89,9 +90,9 @@ module _ (a b : Variable → ℕ) (ys : List Variable) (one : IsOneToOne b ys) w
     h.1 ∙ sym g.1,
     λ x i.
         let j : IsIn x (variables_of_prefix role' height') = moved (h.0 ∙ sym g.0) (h.1 ∙ sym g.1) i in
-        let e = sym (term_composed terms (renaming a) (variable_term x)) ∙ h.2 x i ∙ sym (g.2 x j) ∙ term_composed terms' (renaming b) (variable_term x) in
-        term_composed terms f (variable_term x) ∙ term_in_two a b ys one (apply_to terms (variable_term x)) ∙ ap (apply_to (renaming (back a b ys one))) e
-        ∙ term_returned a b ys one (apply_to terms' (variable_term x)) (λ y n. within y (in_trace_under terms' (prefix_of role' height') x y j n)),
+        let e = sym (term_composed (as_substitution terms) (renaming a) (variable_term x)) ∙ h.2 x i ∙ sym (g.2 x j) ∙ term_composed (as_substitution terms') (renaming b) (variable_term x) in
+        term_composed (as_substitution terms) f (variable_term x) ∙ term_in_two a b ys one (apply_to (as_substitution terms) (variable_term x)) ∙ ap (apply_to (renaming (back a b ys one))) e
+        ∙ term_returned a b ys one (apply_to (as_substitution terms') (variable_term x)) (λ y n. within y (in_trace_under (as_substitution terms') (prefix_of role' height') x y j n)),
   )
     where
       moved : {r r' : Role} {n n' : ℕ} {x : Variable} → r ≡ r' → n ≡ n' → IsIn x (variables_of_prefix r n) → IsIn x (variables_of_prefix r' n')

@@ -7,6 +7,7 @@ use Rattle.cp_lists.proofs.Members.{in_append_left}
 use Rattle.cp_lists.proofs.Appended.{none_and}
 use Rattle.cp_model.specs.Senders.{ArePaired}
 use Rattle.cp_model.specs.Term.{AtomTerm, Substitution, apply_to_atom}
+use Rattle.cp_model.specs.Bindings.{as_substitution}
 use Rattle.cp_model.specs.declared.variable.Variable.{Variable}
 use Rattle.cp_model.specs.Strand.{Role, Applies, AppliesAt}
 use Rattle.cp_model.specs.Problem.{variables_of_atoms, variables_of_assumptions}
@@ -73,10 +74,10 @@ module _ (under : IsUnder) (whole : AppliesWhole) (p : Problem) (l : Label) (h :
 
   pub vars_fit : vars_item_misfits (items p l) ≡ []
   vars_fit =
-      let enough : length l.variables ≤ length (names p l) = omega (arith, names_as_many p l h.variables (of_problem p) (as_many_names p.declared p.variables)) in
+      let enough : length l.skeleton.variables ≤ length (names p l) = omega (arith, names_as_many p l h.variables (of_problem p) (as_many_names p.declared p.variables)) in
       ap (optional_misfits (λ at fs. lacking 1 at fs ++ vars_misfits [] fs)) (found (of_problem p) (names p l) l (codes "vars" ∷ []) refl)
-      ∙ optional_fits (codes "vars") (vars_misfits []) (vars_from (names p l) (occurring l) 0 l.variables)
-      (variables_fit (occurring l) (names p l) (names_differ p l h.variables (of_problem p) (as_many_names p.declared p.variables) h.small h.names_differ) l.variables enough)
+      ∙ optional_fits (codes "vars") (vars_misfits []) (vars_from (names p l) (occurring l) 0 l.skeleton.variables)
+      (variables_fit (occurring l) (names p l) (names_differ p l h.variables (of_problem p) (as_many_names p.declared p.variables) h.small h.names_differ) l.skeleton.variables enough)
 
   pub all_strands : strands_misfits p (items p l) ≡ []
   all_strands =
@@ -115,13 +116,13 @@ module _ (under : IsUnder) (whole : AppliesWhole) (p : Problem) (l : Label) (h :
   non_fit at =
       atoms_item_fits at (codes "non-orig") given_non (λ a. a.non_originating) (found (of_problem p) (names p l) l (codes "non-orig" ∷ []) refl) (in_non under p l h) (non_back under p l h)
       (non_among (renaming (number l)) k.strands strands (strands_same under p l h) (listed k).non_originating
-      (λ n role height terms e v m a. (lists_all under p l h).non (apply_to_atom terms v) ((h.skeleton.given n role height terms e).non v m a)))
+      (λ n role height terms e v m a. (lists_all under p l h).non (apply_to_atom (as_substitution terms) v) ((h.skeleton.given n role height terms e).non v m a)))
 
   penetrator_non_fit : (at : Place) → values_misfits at (codes "pen-non-orig") (given_penetrator_non strands) (items p l) ≡ []
   penetrator_non_fit at =
       atoms_item_fits at (codes "pen-non-orig") given_penetrator_non (λ a. a.penetrator_non_originating) (found (of_problem p) (names p l) l (codes "pen-non-orig" ∷ []) refl) (in_penetrator_non under p l h) (penetrator_non_back under p l h)
       (penetrator_non_among (renaming (number l)) k.strands strands (strands_same under p l h) (listed k).penetrator_non_originating
-      (λ n role height terms e v m a. (lists_all under p l h).penetrator_non (apply_to_atom terms v) ((h.skeleton.given n role height terms e).penetrator_non v m a)))
+      (λ n role height terms e v m a. (lists_all under p l h).penetrator_non (apply_to_atom (as_substitution terms) v) ((h.skeleton.given n role height terms e).penetrator_non v m a)))
 
   unique_fit : (at : Place) → all_uniques_misfits at strands (items p l) ≡ []
   unique_fit at =

@@ -6,7 +6,8 @@ use Rattle.cp_base.specs.declared.place.Place.{Place}
 use Rattle.cp_lists.specs.Lists.{item_at, IsIn}
 use Rattle.cp_lists.proofs.Members.{in_append_left, in_append_right}
 use Rattle.cp_model.specs.Senders.{ArePaired}
-use Rattle.cp_model.specs.Term.{variables_of, variable_term, Term, Substitution, apply_to}
+use Rattle.cp_model.specs.Term.{variables_of, variable_term, Term, apply_to}
+use Rattle.cp_model.specs.Bindings.{Binding, as_substitution}
 use Rattle.cp_model.specs.declared.variable.Variable.{Variable}
 use Rattle.cp_model.specs.Strand.{event_map, Role, prefix_of, variables_of_trace, IsHeight}
 use Rattle.cp_model.specs.declared.strand.Event.{Event}
@@ -48,38 +49,38 @@ behind_first (x ∷ xs) ys = behind_first xs ys
 
 module _ (p : Problem) (l : Label) (has : HasItsVariables p l) (of_problem : List (List ℕ)) (as_many : length of_problem ≡ length p.variables) where
   abbrev names : List (List ℕ)
-  names = label_names of_problem (occurring l) l.variables
+  names = label_names of_problem (occurring l) l.skeleton.variables
 
-  later_are : behind (length of_problem) l.variables ≡ has.later
-  later_are = ap (λ (n : ℕ). behind n l.variables) as_many ∙ ap (behind (length p.variables)) has.variables ∙ behind_first p.variables has.later
+  later_are : behind (length of_problem) l.skeleton.variables ≡ has.later
+  later_are = ap (λ (n : ℕ). behind n l.skeleton.variables) as_many ∙ ap (behind (length p.variables)) has.variables ∙ behind_first p.variables has.later
 
-  whole : length of_problem + length (behind (length of_problem) l.variables) ≡ length l.variables
+  whole : length of_problem + length (behind (length of_problem) l.skeleton.variables) ≡ length l.skeleton.variables
   whole =
       ap (λ (ds : List Declaration). length of_problem + length ds) later_are
       ∙ ap (λ (n : ℕ). n + length has.later) as_many
       ∙ sym (length-append p.variables has.later) ∙ ap length (sym has.variables)
 
   -- There is a name for each variable.
-  pub names_as_many : length names ≡ length l.variables
+  pub names_as_many : length names ≡ length l.skeleton.variables
   names_as_many =
-      length-append of_problem (later_names of_problem (occurring l) (length of_problem) (behind (length of_problem) l.variables))
-      ∙ ap (λ (n : ℕ). length of_problem + n) (later_as_many of_problem (occurring l) (length of_problem) (behind (length of_problem) l.variables)) ∙ whole
+      length-append of_problem (later_names of_problem (occurring l) (length of_problem) (behind (length of_problem) l.skeleton.variables))
+      ∙ ap (λ (n : ℕ). length of_problem + n) (later_as_many of_problem (occurring l) (length of_problem) (behind (length of_problem) l.skeleton.variables)) ∙ whole
 
-  module _ (small : length l.variables < 2 ^ 64) (apart : AreDifferent of_problem) where
+  module _ (small : length l.skeleton.variables < 2 ^ 64) (apart : AreDifferent of_problem) where
     pub names_differ : DifferWhereOccurring (occurring l) names
-    names_differ = names_different (occurring l) of_problem l.variables (subst (λ (n : ℕ). n < 2 ^ 64) (sym whole) small) apart
+    names_differ = names_different (occurring l) of_problem l.skeleton.variables (subst (λ (n : ℕ). n < 2 ^ 64) (sym whole) small) apart
 
     -- The name of each variable that occurs in the label form stands for it.
-    pub each_stands : (s : Scope) → s.variables ≡ occurring_from (occurring l) names 0 l.variables → (x : Variable) → IsIn x (occurring l) → StandsFor s (named_by names x) (renamed (renumbered (occurring l)) x)
+    pub each_stands : (s : Scope) → s.variables ≡ occurring_from (occurring l) names 0 l.skeleton.variables → (x : Variable) → IsIn x (occurring l) → StandsFor s (named_by names x) (renamed (renumbered (occurring l)) x)
     each_stands s same x m =
-        let enough : length l.variables ≤ length names = omega (arith, names_as_many) in
-        name_stands (occurring l) names names_differ s l.variables x same enough m (has.declared x m)
+        let enough : length l.skeleton.variables ≤ length names = omega (arith, names_as_many) in
+        name_stands (occurring l) names names_differ s l.skeleton.variables x same enough m (has.declared x m)
 
 -- ---- strands
 
 -- The variables of what a substitution gives a variable of a trace occur in the trace under it.
 abbrev pub IsUnder : Type 0
-IsUnder = (terms : Substitution) (x y : Variable) → IsIn y (variables_of (apply_to terms (variable_term x))) → (es : List (Event Term)) → IsIn x (variables_of_trace es) → IsIn y (variables_of_trace (map (event_map (apply_to terms)) es))
+IsUnder = (terms : List Binding) (x y : Variable) → IsIn y (variables_of (apply_to (as_substitution terms) (variable_term x))) → (es : List (Event Term)) → IsIn x (variables_of_trace es) → IsIn y (variables_of_trace (map (event_map (apply_to (as_substitution terms))) es))
 
 module _ (under : IsUnder) (roles : List Role) (s : Scope) (named : Variable → Form) (number : Variable → ℕ) where
   stand_in : (k : SkeletonStrand) → ((x : Variable) → IsIn x (variables_of_trace (skeleton_trace k)) → StandsFor s (named x) (renamed number x)) → StandIn s named number k
@@ -88,7 +89,7 @@ module _ (under : IsUnder) (roles : List Role) (s : Scope) (named : Variable →
 
   -- each instance's role is found
   abbrev pub AreFoundRoles : List SkeletonStrand → Type 0
-  AreFoundRoles ks = (n : ℕ) (role : Role) (height : ℕ) (terms : Substitution) → item_at ks n ≡ Some (instance role height terms) → IsFound roles role height × IsHeight role height
+  AreFoundRoles ks = (n : ℕ) (role : Role) (height : ℕ) (terms : List Binding) → item_at ks n ≡ Some (instance role height terms) → IsFound roles role height × IsHeight role height
 
   role_fits : (k : SkeletonStrand) (ks : List SkeletonStrand) → AreFoundRoles (k ∷ ks) → RoleFits roles k
   role_fits (instance role height terms) ks found = found 0 role height terms refl

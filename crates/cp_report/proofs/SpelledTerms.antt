@@ -7,6 +7,7 @@ use Rattle.cp_lists.proofs.Members.{in_append_left, in_append_right}
 use Rattle.cp_lists.proofs.Appended.{none_in_both, none_before, none_and}
 use Rattle.cp_model.proofs.SameTests.{same_sort_itself}
 use Rattle.cp_model.specs.Term.{variable_term, SymmetricTerm, skey_variable, ltk_term, PairTerm, akey_variable, pubk_term, KeyTerm, symmetric_term, asymmetric_term, AtomTerm, text_variable, datum_variable, name_variable, key_term, Term, tag_term, atom_term, pair_term, enc_term, variables_of_symmetric, variables_of_pair, variables_of_key, variables_of_atom, variables_of, inverse_term, apply_to, apply_to_atom, apply_to_key}
+use Rattle.cp_model.specs.Bindings.{sort_of_atom}
 use Rattle.cp_model.specs.declared.sort.Sort.{Sort}
 use Rattle.cp_model.specs.declared.sort.Sort.TheVariants.{Name as name_sort, Skey as skey_sort, Akey as akey_sort, Text as text_sort, Datum as datum_sort}
 use Rattle.cp_model.specs.declared.variable.Variable.{Variable}
@@ -23,7 +24,6 @@ use Rattle.cp_language.specs.Printed.{word, numeral, headed_list, no_place, vari
 use Rattle.cp_report.specs.Misfits.{misfit_unless, lacking, all_misfits}
 use Rattle.cp_report.specs.Heads.{has_head}
 use Rattle.cp_report.specs.Spelled.{Scope, place_of_local, value_misfits, atom_misfits, atom_in, term_misfits, each_term_misfits, variable_misfits, name_misfits, spread_misfits, key_misfits, last_key_misfits, is_found_of_sort, known_or, sort_in, term_in, terms_in}
-use Rattle.cp_report.specs.FittingTrees.{sort_of_atom}
 use Rattle.cp_report.specs.UpToNames.{renamed, renaming}
 
 -- What is used of a form that stands for a variable.

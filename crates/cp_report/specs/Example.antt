@@ -11,7 +11,7 @@ use Rattle.cp_report.specs.FittingTrees.{problems_in}
 
 -- The label of a problem itself.
 abbrev pub own_label : Problem → Label
-own_label p = record { parent = None; operation = by_problem; variables = p.variables; skeleton = p.skeleton; unrealised = []; test = None; escape = []; children = []; mark = Some dead }
+own_label p = record { parent = None; operation = by_problem; skeleton = p.skeleton; unrealised = []; test = None; escape = []; children = []; mark = Some dead }
 
 abbrev pub own_tree : Problem → Tree
 own_tree p = record { labels = own_label p ∷ []; outcome = complete }

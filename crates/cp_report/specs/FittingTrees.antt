@@ -2,9 +2,8 @@
 use Rattle.std.specs.Prelude.{◌≡◌, ◌≢◌, ℕ, ◌<◌, ◌≤◌, ◌^◌, List, [], ◌∷◌, length, Option, Some, None}
 use Rattle.cp_lists.specs.Lists.{item_at, IsIn}
 use Rattle.cp_model.specs.Senders.{ArePaired}
-use Rattle.cp_model.specs.Term.{AtomTerm, text_variable, datum_variable, name_variable, key_term, symmetric_term, asymmetric_term, Term, atom_term}
-use Rattle.cp_model.specs.declared.sort.Sort.{Sort}
-use Rattle.cp_model.specs.declared.sort.Sort.TheVariants.{Text as text_sort, Datum as datum_sort, Name as name_sort, Skey as skey_sort, Akey as akey_sort}
+use Rattle.cp_model.specs.Term.{AtomTerm, Term, atom_term}
+use Rattle.cp_model.specs.Bindings.{sort_of_atom}
 use Rattle.cp_model.specs.declared.variable.Declaration.{Declaration}
 use Rattle.cp_model.specs.declared.node.Node.{Node}
 use Rattle.cp_model.specs.Skeleton.{IsNodeOf, Skeleton, IsSkeleton}
@@ -20,13 +19,6 @@ use Rattle.cp_language.specs.Input.{Entry, stated}
 use Rattle.cp_language.specs.Report.{HasItsVariables}
 
 -- ---- the map
-
-abbrev pub sort_of_atom : AtomTerm → Sort
-sort_of_atom (text_variable n) = text_sort
-sort_of_atom (datum_variable n) = datum_sort
-sort_of_atom (name_variable n) = name_sort
-sort_of_atom (key_term (symmetric_term k)) = skey_sort
-sort_of_atom (key_term (asymmetric_term flag k)) = akey_sort
 
 -- The term is an atom of the variable's sort.
 abbrev pub HasSortOf : Declaration → Term → Type 0
@@ -107,7 +99,7 @@ HasMarkOrChildren labels (Some m) children = IsMarkIn labels m × (children ≡ 
 -- and `x-1`, are written with different digits.
 pub record FitsIn (p : Problem) (labels : List Label) (i : ℕ) (l : Label) : Type 0 where
   pub variables : HasItsVariables p l
-  pub few : length l.variables < 2 ^ 64
+  pub few : length l.skeleton.variables < 2 ^ 64
   pub skeleton : IsSkeleton p.protocol l.skeleton
   pub maps_all : MapsAll p l.skeleton
   pub stated : KeepsStated p.skeleton l.skeleton

@@ -301,7 +301,6 @@ abbrev pub label_by : Problem → List Form → Label
 label_by p items = record {
   parent = number_in_front (entries_under (codes "parent") items);
   operation = operation_by (word_of_label items) (drop 1 (entries_under (codes "by") items));
-  variables = declarations_of_label items;
   skeleton = skeleton_stated p items;
   unrealised = map (λ f. node_or_first (option_node (Some f))) (entries_under (codes "unrealised") items);
   test = test_of (scope_of items) (item_with (codes "test" ∷ []) items);

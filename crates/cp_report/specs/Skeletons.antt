@@ -4,6 +4,7 @@ use Rattle.std.specs.List.{filter}
 use Rattle.cp_base.specs.declared.place.Place.{Place}
 use Rattle.cp_lists.specs.Lists.{item_at}
 use Rattle.cp_model.specs.Term.{AtomTerm, Term, tag_term, atom_term, apply_to_atom}
+use Rattle.cp_model.specs.Bindings.{bindings_of}
 use Rattle.cp_model.specs.declared.variable.Variable.{Variable}
 use Rattle.cp_model.specs.Strand.{Role, variables_of_prefix}
 use Rattle.cp_model.specs.declared.strand.Event.{Event}
@@ -117,7 +118,7 @@ strand_misfits roles s f = if states_instance f then instance_misfits roles s (p
 
 abbrev pub instance_with : Scope → Option Role → ℕ → List Form → SkeletonStrand
 instance_with s None height maplets = listener (tag_term [])
-instance_with s (Some role) height maplets = instance role height (substitution_by (values_mapped s maplets role.variables))
+instance_with s (Some role) height maplets = instance role height (bindings_of (values_mapped s maplets role.variables))
 
 abbrev pub instance_of_entries : List Role → Scope → List Form → SkeletonStrand
 instance_of_entries roles s (name ∷ height ∷ maplets) = instance_with s (role_named roles (text_of_symbol name)) (number_of height) maplets
@@ -329,6 +330,7 @@ around_strands_misfits p at items =
 -- The skeleton that the items of a label form state.
 abbrev pub skeleton_stated : Problem → List Form → Skeleton
 skeleton_stated p items = record {
+  variables = declarations_of_label items;
   strands = strands_of_label p items;
   pairs = pairs_under items;
   assumptions = assumptions_stated items;

@@ -3,6 +3,7 @@ use Rattle.std.specs.Prelude.{◌≡◌, ◌↔◌, ℕ, List, [], false, map, O
 use Rattle.cp_lists.specs.Lists.{IsIn}
 use Rattle.cp_model.specs.Senders.{ArePaired}
 use Rattle.cp_model.specs.Term.{skey_variable, akey_variable, variables_of, Substitution, apply_to, apply_to_atom, composed, AgreeOnTerms}
+use Rattle.cp_model.specs.Bindings.{as_substitution}
 use Rattle.cp_model.specs.declared.sort.Sort.{Sort}
 use Rattle.cp_model.specs.declared.sort.Sort.TheVariants.{Text as text_sort, Datum as datum_sort, Name as name_sort, Skey as skey_sort, Akey as akey_sort}
 use Rattle.cp_model.specs.declared.variable.Variable.{Variable}
@@ -13,7 +14,7 @@ use Rattle.cp_model.specs.Stated.{AreImages}
 use Rattle.cp_model.specs.Tree.{Pattern, Test, Label, Tree}
 use Rattle.cp_sexpr.specs.Syntax.{Forms}
 use Rattle.cp_sexpr.specs.ReadBack.{unplaced}
-use Rattle.cp_language.specs.Input.{Entry, form_of, stated}
+use Rattle.cp_language.specs.Input.{Entry, form_of, stated_protocol, stated}
 use Rattle.cp_language.specs.Report.{occurring}
 use Rattle.cp_report.specs.ReadBack.{misfits, Report, report_of}
 
@@ -44,7 +45,7 @@ IsOneToOne number xs = (x y : Variable) → IsIn x xs → IsIn y xs → renamed 
 
 -- Instances of one role at one height, with the same terms for the variables of the prefix; or listeners to one term.
 abbrev pub IsSameStrandUnder : Substitution → SkeletonStrand → SkeletonStrand → Type 0
-IsSameStrandUnder f (instance role height terms) (instance role' height' terms') = (role ≡ role') × (height ≡ height') × AgreeOnTerms (variables_of_prefix role height) (composed terms f) terms'
+IsSameStrandUnder f (instance role height terms) (instance role' height' terms') = (role ≡ role') × (height ≡ height') × AgreeOnTerms (variables_of_prefix role height) (composed (as_substitution terms) f) (as_substitution terms')
 IsSameStrandUnder f (listener t) (listener t') = apply_to f t ≡ t'
 IsSameStrandUnder f (instance role height terms) (listener t') = ⊥
 IsSameStrandUnder f (listener t) (instance role' height' terms') = ⊥
@@ -106,9 +107,10 @@ pub record IsSameTree (t u : Tree) : Type 0 where
   pub labels : ArePaired IsSameLabel t.labels u.labels
   pub outcome : t.outcome ≡ u.outcome
 
--- The same form but for places, which states the same problem.
+-- The same form but for places, which states the same: nothing, one protocol, or one problem.
 pub record IsSameEntry (d e : Entry) : Type 0 where
   pub form : unplaced (form_of d) ≡ unplaced (form_of e)
+  pub protocol : stated_protocol d ≡ stated_protocol e
   pub problem : stated d ≡ stated e
 
 pub record IsSameReport (r s : Report) : Type 0 where

@@ -9,7 +9,7 @@ use Rattle.cp_model.specs.declared.variable.Declaration.{Declaration}
 use Rattle.cp_model.specs.Problem.{IsDeclared}
 use Rattle.cp_sexpr.specs.Syntax.{Form}
 use Rattle.cp_language.specs.Roles.{events_stated, roles_in}
-use Rattle.cp_strand.specs.Declares.{DeclaresItsVariables}
+use Rattle.cp_model.specs.Declares.{DeclaresItsVariables}
 use Rattle.cp_language.proofs.Roles.{trace_declared, roles_declare}
 
 -- no events have no variables

@@ -3,14 +3,14 @@ use Rattle.std.specs.Prelude.{◌≡◌, ◌++◌, ℕ, List, Option, Some, None
 use Rattle.cp_model.specs.Strand.{Role}
 use Rattle.cp_model.specs.declared.variable.Declaration.{Declaration}
 use Rattle.cp_model.specs.Skeleton.{SkeletonStrand, instance}
-use Rattle.cp_model.specs.Homomorphism.{substitution_by}
+use Rattle.cp_model.specs.Bindings.{bindings_of}
 use Rattle.cp_sexpr.specs.Syntax.{Form}
 use Rattle.cp_language.specs.Problems.{instance_of_role, Strands}
 
 -- The instance of a role, and the variables made for it.
 abbrev pub instance_made : Role → List Declaration → ℕ → ℕ → List Form → SkeletonStrand × List Declaration
 instance_made role ds next height maplets =
-    (instance role height (substitution_by (instance_of_role role ds next height maplets).terms), (instance_of_role role ds next height maplets).fresh)
+    (instance role height (bindings_of (instance_of_role role ds next height maplets).terms), (instance_of_role role ds next height maplets).fresh)
 
 -- This strand is made, and the variables made for it stand behind those before.
 pub record IsMade (made : SkeletonStrand × List Declaration) (strand : SkeletonStrand) (before after : List Declaration) : Type 0 where

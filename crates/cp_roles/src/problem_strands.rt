@@ -1,12 +1,11 @@
 // The strands of problems.
-ghost use Rattle.std.specs.Prelude.{◌≡◌, ◌++◌, [], length, map, option_map, IfOk, OnOk};
+ghost use Rattle.std.specs.Prelude.{◌≡◌, ◌++◌, [], length, map, IfOk, OnOk};
 ghost use Rattle.std.specs.Option.{option_to_list};
 ghost use Rattle.cp_model.specs.Skeleton.{listener};
 ghost use Rattle.cp_model.specs.Term.{tag_term};
 ghost use Rattle.cp_sexpr.specs.View.{view};
 ghost use Rattle.cp_language.specs.Problems.{number_of, instance_by, name_in_front, role_named, listened_term, strand_by, strands_from};
 ghost use Rattle.cp_language.specs.Roles.{headed, item_or_none, items_behind};
-ghost use Rattle.cp_strand.specs.View.{strand_view};
 ghost use Rattle.cp_roles.specs.Named.{shared_roles_view};
 ghost use Rattle.cp_roles.specs.MadeStrands.{instance_made, IsMade, IsMadeIf, AreMade};
 
@@ -29,7 +28,7 @@ fn instance_of_role(
     all: &mut Vec<Declaration>,
 ) -> Result<Strand, AllocError>
     ensures { IfOk result (λ s. IsMade (instance_made role.now.value declared.now (length all.old.items) (number_of (view height.now)) (map view maplets.now))
-        (strand_view s) all.old.items all.new.items) }
+        s all.old.items all.new.items) }
 {
     let height = number_of(height);
     let values = instantiated(
@@ -46,14 +45,14 @@ fn instance_of_role(
 
 /// Placeholder for an ill-formed strand.
 fn no_strand(alloc: Global) -> Result<Strand, AllocError>
-    ensures { IfOk result (λ s. strand_view s ≡ listener (tag_term [])) }
+    ensures { IfOk result (λ s. s ≡ listener (tag_term [])) }
 {
     Strand::listener(alloc, no_term(alloc)?)
 }
 
 /// The listener with these items after its head.
 fn listener(alloc: Global, variables: &[Declaration], items: &[Form]) -> Result<Strand, AllocError>
-    ensures { IfOk result (λ s. strand_view s ≡ listener (listened_term variables.now (map view items.now))) }
+    ensures { IfOk result (λ s. s ≡ listener (listened_term variables.now (map view items.now))) }
 {
     match items {
         [message, ..] => Strand::listener(alloc, term_of(alloc, variables, message)?),
@@ -70,7 +69,7 @@ fn instance(
     all: &mut Vec<Declaration>,
 ) -> Result<Strand, AllocError>
     ensures { IfOk result (λ s. IsMade (instance_by (role_named (shared_roles_view roles.now) (name_in_front (map view items.now))) declared.now (length all.old.items) (map view items.now))
-        (strand_view s) all.old.items all.new.items) }
+        s all.old.items all.new.items) }
 {
     let [name, height, maplets @ ..] = items else {
         return no_strand(alloc);
@@ -91,7 +90,7 @@ fn strand(
 ) -> Result<Option<Strand>, AllocError>
     ensures { IfOk result (λ s. IsMadeIf (strand_by (shared_roles_view roles.now) declared.now (length all.old.items)
         (item_or_none (headed (view item.now))) (items_behind (headed (view item.now))))
-        (option_map strand_view s) all.old.items all.new.items) }
+        s all.old.items all.new.items) }
 {
     let Some(list) = headed(item) else {
         return Ok(None);
@@ -105,7 +104,7 @@ fn strand(
 
 /// Appends a strand, if there is one.
 fn add_strand(strand: Option<Strand>, strands: &mut Vec<Strand>) -> Result<(), AllocError>
-    ensures { OnOk result (map strand_view strands.new.items ≡ map strand_view strands.old.items ++ option_to_list (option_map strand_view strand)) }
+    ensures { OnOk result (strands.new.items ≡ strands.old.items ++ option_to_list strand) }
 {
     if let Some(strand) = strand {
         strands.push(strand)?;
@@ -122,7 +121,7 @@ pub fn strands(
     all: &mut Vec<Declaration>,
 ) -> Result<Vec<Strand>, AllocError>
     ensures { IfOk result (λ v. AreMade (strands_from (shared_roles_view roles.now) declared.now (length all.old.items) (map view items.now))
-        (map strand_view v.items) all.old.items all.new.items) }
+        v.items all.old.items all.new.items) }
 {
     let mut strands = Vec::new(alloc);
     for item in items {

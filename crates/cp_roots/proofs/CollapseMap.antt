@@ -3,6 +3,7 @@ use Rattle.std.proofs.Common.{◌≡◌, ℕ, suc, ◌<◌, List, Some, length, 
 use Rattle.cp_lists.proofs.Mapped.{map_alike}
 use Rattle.cp_lists.specs.Lists.{item_at, IsIn, one_step, more_steps}
 use Rattle.cp_model.specs.Term.{Term, Substitution, apply_to_atom, apply_to, variable_term}
+use Rattle.cp_model.specs.Bindings.{Binding}
 use Rattle.cp_model.specs.declared.variable.Variable.{Variable}
 use Rattle.cp_model.specs.Strand.{Role, Protocol}
 use Rattle.cp_model.specs.declared.strand.Event.{Event}
@@ -44,7 +45,7 @@ module _ (k : Skeleton) (order_pairs : (q : OrderPair) → IsIn q k.pairs → Is
 
 -- A homomorphism whose map of strands is changed where no strand is.
 module _ (k l : Skeleton) (f g : ℕ → ℕ) (terms : Substitution) (protocol : Protocol) (sk : IsSkeleton protocol k) (same : (s : ℕ) → s < length k.strands → f s ≡ g s) (hom : IsHomomorphism k l (record { strands = f; terms = terms })) where
-  instance_at : (s : ℕ) (role : Role) (height : ℕ) (t : Substitution) → f s ≡ g s → GoesToInstance l (record { strands = f; terms = terms }) s role height t → GoesToInstance l (record { strands = g; terms = terms }) s role height t
+  instance_at : (s : ℕ) (role : Role) (height : ℕ) (t : List Binding) → f s ≡ g s → GoesToInstance l (record { strands = f; terms = terms }) s role height t → GoesToInstance l (record { strands = g; terms = terms }) s role height t
   instance_at s role height t e i = record {
     to_height = i.to_height;
     to_terms = i.to_terms;

@@ -1,7 +1,8 @@
 -- A skeleton whose assumptions stand in the order of a report says what it said before: the assumptions are the same.
 use Rattle.std.proofs.Common.{ℕ, List, length, refl, le_refl}
 use Rattle.cp_lists.specs.Lists.{IsIn, one_step, more_steps}
-use Rattle.cp_model.specs.Term.{AtomTerm, Substitution}
+use Rattle.cp_model.specs.Term.{AtomTerm}
+use Rattle.cp_model.specs.Bindings.{Binding}
 use Rattle.cp_model.specs.declared.variable.Variable.{Variable}
 use Rattle.cp_model.specs.Strand.{Role, Protocol}
 use Rattle.cp_model.specs.declared.variable.Declaration.{Declaration}
@@ -72,7 +73,7 @@ module _ (k : Skeleton) where
   origin_listed : (u : UniqueAt) → IsOrigin k u → IsOrigin (in_report_order k) u
   origin_listed u o = record { role = o.role; height = o.height; terms = o.terms; on_instance = o.on_instance; sent = o.sent; transmission = o.transmission; carried = o.carried }
 
-  given_listed : (s : ℕ) (role : Role) (height : ℕ) (terms : Substitution) → GivesAssumptions k s role height terms → GivesAssumptions (in_report_order k) s role height terms
+  given_listed : (s : ℕ) (role : Role) (height : ℕ) (terms : List Binding) → GivesAssumptions k s role height terms → GivesAssumptions (in_report_order k) s role height terms
   given_listed s role height terms g = record {
     non = λ v i applies. still_non _ (g.non v i applies);
     penetrator_non = λ v i applies. still_penetrator_non _ (g.penetrator_non v i applies);
@@ -104,7 +105,7 @@ module _ (k : Skeleton) where
 
   -- ---- maps from the problem, and standings
 
-  goes_listed : (f : SkeletonMap) (s : ℕ) (role : Role) (height : ℕ) (terms : Substitution) → GoesToInstance k f s role height terms → GoesToInstance (in_report_order k) f s role height terms
+  goes_listed : (f : SkeletonMap) (s : ℕ) (role : Role) (height : ℕ) (terms : List Binding) → GoesToInstance k f s role height terms → GoesToInstance (in_report_order k) f s role height terms
   goes_listed f s role height terms g = record { to_height = g.to_height; to_terms = g.to_terms; on_instance = g.on_instance; at_least = g.at_least; equal_terms = g.equal_terms }
 
   homomorphism_listed : (problem : Skeleton) (f : SkeletonMap) → IsHomomorphism problem k f → IsHomomorphism problem (in_report_order k) f

@@ -7,18 +7,14 @@ use Rattle.cp_model.specs.Skeleton.{Skeleton, IsSkeleton}
 use Rattle.cp_model.specs.declared.tree.Operation.{Operation}
 use Rattle.cp_model.specs.declared.tree.Operation.TheVariants.{Collapsed as by_collapse}
 use Rattle.cp_theory.specs.Normal.{LosesNoStanding}
-use Rattle.cp_model.specs.Data.{SkeletonData as Program}
-use Rattle.cp_skel.specs.View.{skeleton_view}
 use Rattle.cp_normal.specs.Exact.{HasForms}
 use Rattle.cp_normal.specs.NormalForms.{IsNormalFormOf}
-use Rattle.cp_roots.specs.declared.root.Root.{Root}
 use Rattle.cp_fingerprint.specs.FirstPlaces.{firsts}
-use Rattle.cp_roots.specs.RootView.{root_view}
-use Rattle.cp_roots.specs.Roots.{living, first_roots}
+use Rattle.cp_roots.specs.Roots.{Root, living, first_roots}
 
 -- The skeletons have these variables.
-abbrev pub AllHave : List Declaration → List Program → Type 0
-AllHave variables ks = (k : Program) → IsIn k ks → k.variables ≡ variables
+abbrev pub AllHave : List Declaration → List Skeleton → Type 0
+AllHave variables ks = (k : Skeleton) → IsIn k ks → k.variables ≡ variables
 
 -- The skeletons of the roots have these variables.
 abbrev pub RootsHave : List Declaration → List Root → Type 0
@@ -32,21 +28,21 @@ pub record AreNormalForms (k : Skeleton) (rs : List Skeleton) : Type 0 where
 
 -- The roots, with a living one behind them for each of the forms, all made so. A living root has the assumptions of its
 -- form in the order of a report.
-pub record PutsForms (by : Operation) (forms : List Program) (old new : List Root) : Type 0 where
-  pub roots : map root_view new ≡ map root_view old ++ map (living by) (map skeleton_view forms)
+pub record PutsForms (by : Operation) (forms : List Skeleton) (old new : List Root) : Type 0 where
+  pub roots : new ≡ old ++ map (living by) forms
   pub variables : (variables : List Declaration) → RootsHave variables old → AllHave variables forms → RootsHave variables new
 
 -- The roots, with those that the normal forms of a collapse give behind them. It is by the partition of the strands that
 -- go to one place.
-pub record PutsCollapse (l : Program) (old new : List Root) : Type 0 where
+pub record PutsCollapse (l : Skeleton) (old new : List Root) : Type 0 where
   pub forms : List Skeleton
-  pub are_forms : AreNormalForms (skeleton_view l) forms
-  pub roots : map root_view new ≡ map root_view old ++ map (living (by_collapse (firsts l.from_problem.strands))) forms
+  pub are_forms : AreNormalForms l forms
+  pub roots : new ≡ old ++ map (living (by_collapse (firsts l.from_problem.strands))) forms
   pub variables : (variables : List Declaration) → RootsHave variables old → l.variables ≡ variables → RootsHave variables new
 
 -- The first roots of a problem of these variables.
 pub record AreFirstRoots (k : Skeleton) (variables : List Declaration) (roots : List Root) : Type 0 where
   pub forms : List Skeleton
   pub are_forms : AreNormalForms k forms
-  pub whole : map root_view roots ≡ first_roots k forms
+  pub whole : roots ≡ first_roots k forms
   pub same_variables : RootsHave variables roots

@@ -1,17 +1,13 @@
 -- The roots of a problem: its normal forms, and those of its collapses.
-use Rattle.std.specs.Prelude.{◌≡◌, ℕ, List, [], ◌∷◌, ◌++◌, map, Bool, true, false}
+use Rattle.std.specs.Prelude.{◌≡◌, ℕ, List, [], ◌∷◌, ◌++◌, map, true, false}
 use Rattle.cp_model.specs.Skeleton.{Skeleton}
 use Rattle.cp_model.specs.Given.{listed}
 use Rattle.cp_model.specs.declared.tree.Operation.{Operation}
 use Rattle.cp_model.specs.declared.tree.Operation.TheVariants.{Problem as by_problem, Collapsed as by_collapse}
 use Rattle.cp_normal.specs.Exact.{HasForms}
 use Rattle.cp_collapse.specs.Collapses.{AreCollapses}
-
 -- A root: how it is made, its skeleton, and whether it is dead.
-pub record Root : Type 0 where
-  pub operation : Operation
-  pub skeleton : Skeleton
-  pub dead : Bool
+pub use Rattle.cp_roots.specs.declared.root.Root.{Root}
 
 -- The skeleton with its assumptions in the order of a report, each once.
 abbrev pub in_report_order : Skeleton → Skeleton

@@ -1,6 +1,5 @@
 // Collects the roots of a problem.
 ghost use Rattle.std.specs.Prelude.{◌≡◌, IfOk, OnOk};
-ghost use Rattle.cp_skel.specs.View.{skeleton_view};
 ghost use Rattle.cp_roots.specs.GatheredRoots.{PutsForms, PutsCollapse, AreFirstRoots};
 
 use crate::partition::partition_of;
@@ -49,7 +48,7 @@ fn put_forms(
 
 /// The first roots of a problem: its normal forms or, if there are none, the problem itself, dead.
 pub(crate) fn first_roots(alloc: Global, problem: &Skeleton) -> Result<Vec<Root>, AllocError>
-    ensures { IfOk result (λ rs. AreFirstRoots (skeleton_view problem.now) problem.now.variables rs.items) }
+    ensures { IfOk result (λ rs. AreFirstRoots problem.now problem.now.variables rs.items) }
 {
     let operation = Operation::Problem;
     let forms = normalise(alloc, problem.copy(alloc)?)?;

@@ -1,12 +1,9 @@
 // The roots of a problem.
-ghost use Rattle.std.specs.Prelude.{◌≡◌, map, IfOk};
+ghost use Rattle.std.specs.Prelude.{◌≡◌, IfOk};
 ghost use Rattle.cp_lists.specs.Lists.{IsIn};
 ghost use Rattle.cp_model.specs.PointOfView.{IsPointOfView};
-ghost use Rattle.cp_skel.specs.View.{skeleton_view};
-ghost use Rattle.cp_roots.specs.declared.root.Root as program;
-ghost use Rattle.cp_roots.specs.RootView.{root_view};
 ghost use Rattle.cp_roots.specs.Over.{IsOver};
-ghost use Rattle.cp_roots.specs.Roots.{AreRoots};
+ghost use Rattle.cp_roots.specs.Roots.{Root as root, AreRoots};
 ghost use Rattle.cp_roots.specs.Sound.{AreSound};
 
 use crate::gathered_roots::{first_roots, put_collapse};
@@ -29,11 +26,11 @@ pub fn roots(
     protocol: &Protocol,
     problem: &Skeleton,
 ) -> Result<Vec<Root>, AllocError>
-    requires over { IsOver protocol.now (skeleton_view problem.now) }
-    requires own { IsPointOfView problem.now.variables (skeleton_view problem.now) }
-    ensures exact { IfOk result (λ rs. AreRoots (skeleton_view problem.now) (map root_view rs.items)) }
-    ensures sound { IfOk result (λ rs. AreSound protocol.now (skeleton_view problem.now) (map root_view rs.items)) }
-    ensures variables { IfOk result (λ rs. (r : program.Root) → IsIn r rs.items → r.skeleton.variables ≡ problem.now.variables) }
+    requires over { IsOver protocol.now problem.now }
+    requires own { IsPointOfView problem.now.variables problem.now }
+    ensures exact { IfOk result (λ rs. AreRoots problem.now rs.items) }
+    ensures sound { IfOk result (λ rs. AreSound protocol.now problem.now rs.items) }
+    ensures variables { IfOk result (λ rs. (r : root) → IsIn r rs.items → r.skeleton.variables ≡ problem.now.variables) }
 {
     problem.is_sound();
     let mut roots = first_roots(alloc, problem)?;

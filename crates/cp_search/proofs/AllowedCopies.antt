@@ -5,7 +5,6 @@ use Rattle.cp_lists.specs.Lists.{item_at, IsIn, here, one_step, more_steps}
 use Rattle.cp_lists.proofs.Items.{item_below, place_of, at_place}
 use Rattle.cp_lists.proofs.Members.{drop_read, in_rest, next_or_rest, none_left}
 use Rattle.cp_model.specs.Skeleton.{Skeleton}
-use Rattle.cp_skel.specs.View.{skeleton_view}
 use Rattle.cp_fingerprint.specs.Isomorphic.{IsIsomorphic}
 use Rattle.cp_fingerprint.specs.Signatures.{SignatureData, signature_of, MayEmbed}
 use Rattle.cp_fingerprint.proofs.SignatureData.{embedded_may_embed}
@@ -35,11 +34,11 @@ IsAmongLater ms flags k ns i = (n : ℕ) → MayBeSeenIn ms flags k n → IsIn n
 
 module _ (ms : List Made) (flags : List Bool) (k : Skeleton) where
   -- Each copy is listed.
-  pub copies_listed : (signature_data : SignatureData) → signature_data ≡ signature_of k → ((m : Made) → IsIn m ms → m.signature ≡ signature_of (skeleton_view m.skeleton)) → (ns : List ℕ) → ns ≡ with_key signature_data.bucket_key 0 ms → IsAmongLater ms flags k ns 0
+  pub copies_listed : (signature_data : SignatureData) → signature_data ≡ signature_of k → ((m : Made) → IsIn m ms → m.signature ≡ signature_of m.skeleton) → (ns : List ℕ) → ns ≡ with_key signature_data.bucket_key 0 ms → IsAmongLater ms flags k ns 0
   copies_listed signature_data their signatures ns are n h =
-      let own : h.other.signature ≡ signature_of (skeleton_view h.other.skeleton) = signatures h.other (at_place ms n h.other h.at) in
+      let own : h.other.signature ≡ signature_of h.other.skeleton = signatures h.other (at_place ms n h.other h.at) in
       let number : h.other.signature.bucket_key ≡ signature_data.bucket_key =
-      ap (λ (t : SignatureData). t.bucket_key) own ∙ same_number (skeleton_view h.other.skeleton) k h.isomorphic ∙ sym (ap (λ (t : SignatureData). t.bucket_key) their) in
+      ap (λ (t : SignatureData). t.bucket_key) own ∙ same_number h.other.skeleton k h.isomorphic ∙ sym (ap (λ (t : SignatureData). t.bucket_key) their) in
       subst (λ (xs : List ℕ). IsIn n xs) (sym are) (there_listed signature_data.bucket_key ms n h.other h.at number)
 
   module _ (ns : List ℕ) (i : ℕ) where
@@ -75,27 +74,27 @@ module _ (ms : List Made) (flags : List Bool) (k : Skeleton) where
 -- ---- the next label
 
 module _ (ms : List Made) (i : ℕ) (other : Made) (at : item_at ms i ≡ Some other) (flags : List Bool) (k : Skeleton) where
-  pub copy_here : (IsFlagged flags i → ⊥) → IsIsomorphic (skeleton_view other.skeleton) k → MayBeSeenIn ms flags k i
+  pub copy_here : (IsFlagged flags i → ⊥) → IsIsomorphic other.skeleton k → MayBeSeenIn ms flags k i
   copy_here allowed h = record { other = other; at = at; allowed = allowed; isomorphic = h }
 
-  pub no_copy_here : (IsIsomorphic (skeleton_view other.skeleton) k → ⊥) → MayBeSeenIn ms flags k i → ⊥
+  pub no_copy_here : (IsIsomorphic other.skeleton k → ⊥) → MayBeSeenIn ms flags k i → ⊥
   no_copy_here other_one h =
       let this : item_at ms i ≡ Some h.other = h.at in
       let same : h.other ≡ other = cc in
-      other_one (subst (λ (m : Made). IsIsomorphic (skeleton_view m.skeleton) k) same h.isomorphic)
+      other_one (subst (λ (m : Made). IsIsomorphic m.skeleton k) same h.isomorphic)
 
   -- One with another signature is no copy.
-  pub kept_apart : (signatures : (m : Made) → IsIn m ms → m.signature ≡ signature_of (skeleton_view m.skeleton)) (signature_data : SignatureData) (flag : Bool) → signature_data ≡ signature_of k → flag ≡ false →
+  pub kept_apart : (signatures : (m : Made) → IsIn m ms → m.signature ≡ signature_of m.skeleton) (signature_data : SignatureData) (flag : Bool) → signature_data ≡ signature_of k → flag ≡ false →
       ((a b : Skeleton) → signature_of a ≡ other.signature → signature_of b ≡ signature_data → IsIsomorphic a b → flag ≡ true) → MayBeSeenIn ms flags k i → ⊥
   kept_apart signatures signature_data flag e q kept h =
-      no_copy_here (λ same. not_both q (kept (skeleton_view other.skeleton) k (sym (signatures other (at_place ms i other at))) (sym e) same)) h
+      no_copy_here (λ same. not_both q (kept other.skeleton k (sym (signatures other (at_place ms i other at))) (sym e) same)) h
 
 pub flagged_no_copy : (ms : List Made) (flags : List Bool) (k : Skeleton) (i : ℕ) → IsFlagged flags i → MayBeSeenIn ms flags k i → ⊥
 flagged_no_copy ms flags k i flagged h = h.allowed flagged
 
 -- ---- in which label one is seen
 
-pub signatures_of : (ms : List Made) → AreFound ms → (m : Made) → IsIn m ms → m.signature ≡ signature_of (skeleton_view m.skeleton)
+pub signatures_of : (ms : List Made) → AreFound ms → (m : Made) → IsIn m ms → m.signature ≡ signature_of m.skeleton
 signatures_of ms found m listed = let at = place_of listed in (found.each at.0 m at.1).signature
 
 pub nothing_flagged : (n : ℕ) → IsFlagged [] n → ⊥

@@ -6,7 +6,6 @@ use Rattle.cp_lists.specs.Lists.{item_at}
 use Rattle.cp_lists.proofs.Items.{item_below, item_there, item_last, item_still, item_of_push, map_of_item}
 use Rattle.cp_model.specs.Skeleton.{Skeleton}
 use Rattle.cp_model.specs.Homomorphism.{Embeds}
-use Rattle.cp_skel.specs.View.{skeleton_view}
 use Rattle.cp_derive.specs.Unrealised.{ListsUnrealised}
 use Rattle.cp_fingerprint.specs.Signatures.{signature_of}
 use Rattle.cp_shapes.specs.Shapes.{EmbedsAt}
@@ -33,20 +32,20 @@ module _ (ms : List Made) (x : Made) where
       ap (λ (n : ℕ). take n after) (sym (length-map ms made_link))
       ∙ (ap (take (length links)) links_after ∙ take-append_seam links (made_link x ∷ []))
 
-  link_at : (n : ℕ) (m : Made) → item_at ms n ≡ Some m → item_at (map skeleton_of after) n ≡ Some (skeleton_view m.skeleton)
+  link_at : (n : ℕ) (m : Made) → item_at ms n ≡ Some m → item_at (map skeleton_of after) n ≡ Some m.skeleton
   link_at n m at = map_of_item skeleton_of after n (made_link m) (map_of_item made_link (ms ++ x ∷ []) n m (item_still ms (x ∷ []) n m at))
 
   pub own_way : item_at (map made_link (ms ++ x ∷ [])) (length ms) ≡ Some (made_link x)
   own_way = map_of_item made_link (ms ++ x ∷ []) (length ms) x (item_last ms x)
 
-  own_skeleton : item_at (map skeleton_of after) (length ms) ≡ Some (skeleton_view x.skeleton)
+  own_skeleton : item_at (map skeleton_of after) (length ms) ≡ Some x.skeleton
   own_skeleton = map_of_item skeleton_of after (length ms) (made_link x) own_way
 
-  as_pointing : (n : ℕ) → MayBeSeen ms x.parent (skeleton_view x.skeleton) n → MayPointTo after (length ms) n
+  as_pointing : (n : ℕ) → MayBeSeen ms x.parent x.skeleton n → MayPointTo after (length ms) n
   as_pointing n h = record {
     earlier = item_below ms n h.other h.at;
-    embeds = record { first = skeleton_view h.other.skeleton; second = skeleton_view x.skeleton; at_first = link_at n h.other h.at; at_second = own_skeleton; embeds = h.isomorphic.0 };
-    embeds_back = record { first = skeleton_view x.skeleton; second = skeleton_view h.other.skeleton; at_first = own_skeleton; at_second = link_at n h.other h.at; embeds = h.isomorphic.1 };
+    embeds = record { first = h.other.skeleton; second = x.skeleton; at_first = link_at n h.other h.at; at_second = own_skeleton; embeds = h.isomorphic.0 };
+    embeds_back = record { first = x.skeleton; second = h.other.skeleton; at_first = own_skeleton; at_second = link_at n h.other h.at; embeds = h.isomorphic.1 };
     no_return = λ w p at parent reaches.
         let own = own_way in
         let same : made_link x ≡ w = cc in
@@ -54,27 +53,27 @@ module _ (ms : List Made) (x : Made) where
         h.allowed p from (subst (λ (vs : List LabelLink). Reaches vs n p) links_before reaches);
   }
 
-  isomorphic_of : (n : ℕ) (other : Made) → item_at ms n ≡ Some other → (h : EmbedsAt (map skeleton_of after) n (length ms)) → Embeds (skeleton_view other.skeleton) (skeleton_view x.skeleton)
+  isomorphic_of : (n : ℕ) (other : Made) → item_at ms n ≡ Some other → (h : EmbedsAt (map skeleton_of after) n (length ms)) → Embeds other.skeleton x.skeleton
   isomorphic_of n other at h =
       let first_is = link_at n other at in
       let second_is = own_skeleton in
       let given_first : item_at (map skeleton_of after) n ≡ Some h.first = h.at_first in
       let given_second : item_at (map skeleton_of after) (length ms) ≡ Some h.second = h.at_second in
-      let first : h.first ≡ skeleton_view other.skeleton = cc in
-      let second : h.second ≡ skeleton_view x.skeleton = cc in
-      subst (λ (k : Skeleton). Embeds k (skeleton_view x.skeleton)) first (subst (Embeds h.first) second h.embeds)
+      let first : h.first ≡ other.skeleton = cc in
+      let second : h.second ≡ x.skeleton = cc in
+      subst (λ (k : Skeleton). Embeds k x.skeleton) first (subst (Embeds h.first) second h.embeds)
 
-  back_of : (n : ℕ) (other : Made) → item_at ms n ≡ Some other → (h : EmbedsAt (map skeleton_of after) (length ms) n) → Embeds (skeleton_view x.skeleton) (skeleton_view other.skeleton)
+  back_of : (n : ℕ) (other : Made) → item_at ms n ≡ Some other → (h : EmbedsAt (map skeleton_of after) (length ms) n) → Embeds x.skeleton other.skeleton
   back_of n other at h =
       let second_is = link_at n other at in
       let first_is = own_skeleton in
       let given_first : item_at (map skeleton_of after) (length ms) ≡ Some h.first = h.at_first in
       let given_second : item_at (map skeleton_of after) n ≡ Some h.second = h.at_second in
-      let first : h.first ≡ skeleton_view x.skeleton = cc in
-      let second : h.second ≡ skeleton_view other.skeleton = cc in
-      subst (λ (k : Skeleton). Embeds k (skeleton_view other.skeleton)) first (subst (Embeds h.first) second h.embeds)
+      let first : h.first ≡ x.skeleton = cc in
+      let second : h.second ≡ other.skeleton = cc in
+      subst (λ (k : Skeleton). Embeds k other.skeleton) first (subst (Embeds h.first) second h.embeds)
 
-  as_seen : (n : ℕ) → MayPointTo after (length ms) n → MayBeSeen ms x.parent (skeleton_view x.skeleton) n
+  as_seen : (n : ℕ) → MayPointTo after (length ms) n → MayBeSeen ms x.parent x.skeleton n
   as_seen n h =
       let other = item_there ms n h.earlier in
       record {
@@ -85,8 +84,8 @@ module _ (ms : List Made) (x : Made) where
       }
 
   -- The first allowed copy is the first label to which one may point.
-  pub points_to_first : (found : Option ℕ) → FindsLeast (MayBeSeen ms x.parent (skeleton_view x.skeleton)) found → FindsLeast (MayPointTo (map made_link (ms ++ x ∷ [])) (length ms)) found
-  points_to_first = finds_alike (MayBeSeen ms x.parent (skeleton_view x.skeleton)) (MayPointTo after (length ms)) as_pointing as_seen
+  pub points_to_first : (found : Option ℕ) → FindsLeast (MayBeSeen ms x.parent x.skeleton) found → FindsLeast (MayPointTo (map made_link (ms ++ x ∷ [])) (length ms)) found
+  points_to_first = finds_alike (MayBeSeen ms x.parent x.skeleton) (MayPointTo after (length ms)) as_pointing as_seen
 
   module _ (found : AreFound ms) where
     earlier_found : (i : ℕ) (m : Made) → item_at ms i ≡ Some m → IsFound after i m
@@ -128,13 +127,13 @@ module _ (ms : List Made) (x : Made) where
         later = λ i p m at e. each_later i p m (item_of_push ms x i m at) e;
       }
 
-module _ (old : List Made) (x : Made) (new : List Made) (behind : new ≡ old ++ x ∷ []) (found : AreFound old) (m : plain.Made) (same : made_view x ≡ m) (signature : x.signature ≡ signature_of (skeleton_view x.skeleton)) where
+module _ (old : List Made) (x : Made) (new : List Made) (behind : new ≡ old ++ x ∷ []) (found : AreFound old) (m : plain.Made) (same : made_view x ≡ m) (signature : x.signature ≡ signature_of x.skeleton) where
   adds_one : IsFound (map made_link (old ++ x ∷ [])) (length old) x → IfSome x.parent (λ p. p < length old) → AddsMade m old new
   adds_one own later = record { added = x; behind = behind; same = same; found = subst AreFound (sym behind) (all_found old x found own later) }
 
   -- A label that may live is made.
-  pub makes_one : IfSome x.parent (λ p. p < length old) → x.dead ≡ false → FindsLeast (MayBeSeen old x.parent (skeleton_view x.skeleton)) x.seen_in →
-      ListsUnrealised (skeleton_view x.skeleton) x.unrealised → (x.general ≡ true → IsMaximallyGeneral (skeleton_view x.skeleton)) → AddsMade m old new
+  pub makes_one : IfSome x.parent (λ p. p < length old) → x.dead ≡ false → FindsLeast (MayBeSeen old x.parent x.skeleton) x.seen_in →
+      ListsUnrealised x.skeleton x.unrealised → (x.general ≡ true → IsMaximallyGeneral x.skeleton) → AddsMade m old new
   makes_one later lives least listed general = adds_one (record {
     signature = signature;
     dead_none = λ dead. absurd (cc);

@@ -1,6 +1,5 @@
 -- The next label is resolved by its expansion.
 use Rattle.std.proofs.Common.{◌≡◌, ◌≢◌, ℕ, ◌+◌, ◌<◌, ◌≤◌, List, [], ◌∷◌, ◌++◌, length, map, false, Option, Some, None, sym, ap, subst, ◌∙◌, refl, arith}
-use Rattle.std.proofs.lemmas.List.{length-map}
 use Rattle.cp_lists.specs.Lists.{item_at, IsIn}
 use Rattle.cp_lists.proofs.Members.{into_map, from_map}
 use Rattle.cp_model.specs.Strand.{Protocol}
@@ -11,12 +10,11 @@ use Rattle.cp_model.specs.Problem.{numbers_from}
 use Rattle.cp_model.specs.PointOfView.{IsPointOfView}
 use Rattle.cp_model.specs.declared.tree.Limits.{Limits}
 use Rattle.cp_model.proofs.NumbersFrom.{numbers_length}
-use Rattle.cp_strand.specs.View.{strand_view}
-use Rattle.cp_skel.specs.View.{skeleton_view}
-use Rattle.cp_cohort.specs.CoveringChildren.{Child}
+use Rattle.cp_skel.specs.Tables.{DiffersInTable}
+use Rattle.cp_cohort.specs.declared.child.Child.{Child}
 use Rattle.cp_expansion.specs.Expansion.{Expansion, IsExpansionOf}
 use Rattle.cp_tree.specs.Made as plain
-use Rattle.cp_tree.specs.Made.{LabelLink, link_of, seen_in_of, MayPointTo, IsNew}
+use Rattle.cp_tree.specs.Made.{LabelLink, seen_in_of, MayPointTo, IsNew}
 use Rattle.cp_tree.specs.Sound.{IsSoundMade, ExpandsSoundly}
 use Rattle.cp_tree.specs.Searched.{mark_by_children, Becomes, is_tested}
 use Rattle.cp_search.specs.declared.made.Made.{Made}
@@ -24,8 +22,8 @@ use Rattle.cp_search.specs.declared.resolved.Resolved.{Resolved}
 use Rattle.cp_search.specs.declared.resolved.Resolved.TheVariants as settled
 use Rattle.cp_search.specs.declared.resolved.Expanded.{Expanded}
 use Rattle.cp_search.specs.LeastNumber.{FindsLeast}
-use Rattle.cp_search.specs.MadeLabels.{made_view, made_link, IsFound, AreFound, AddMade}
-use Rattle.cp_search.specs.ResolvedLabels.{expanded_label, IsToExpand, IsOpenMark, AreSoundMade, ExpandsLabel, IsSearched}
+use Rattle.cp_search.specs.MadeLabels.{made_view, made_link, untabled, made_untabled, IsFound, AreFound, AddMade}
+use Rattle.cp_search.specs.ResolvedLabels.{expanded_label, label_untabled, IsToExpand, IsOpenMark, AreSoundMade, ExpandsLabel, IsSearched}
 use Rattle.cp_search.proofs.OneMoreResolved.{numbers_of_map}
 use Rattle.cp_search.proofs.ResolvedNext.{resolved_next}
 use Rattle.cp_search.proofs.ResolvedLeaves.{some_unrealised}
@@ -51,19 +49,19 @@ module _ (protocol : Protocol) (limits : Limits) (i n : ℕ) (old new : List Mad
   is_new : IsNew links i
   is_new = subst (FindsLeast (MayPointTo links i)) expands.new (found_here.seen expands.lives)
 
-  few_strands : length (skeleton_view m.skeleton).strands ≤ limits.strands
-  few_strands = let l : length m.skeleton.strands ≤ limits.strands = expands.strands in let k = length-map m.skeleton.strands strand_view in omega (arith, l, k)
+  few_strands : length m.skeleton.strands ≤ limits.strands
+  few_strands = let l : length m.skeleton.strands ≤ limits.strands = expands.strands in omega (arith, l)
 
   as_many : length e.children ≡ length x.children
   as_many = ap length x.numbers ∙ numbers_length (length old) x.children
 
   becomes : Becomes protocol limits links IsOpenMark i n (made_view m) (expanded_label m e) (map made_view x.made.added)
   becomes = subst (Becomes protocol limits links IsOpenMark i n (made_view m) (expanded_label m e)) (sym x.made.same)
-      (is_tested {e = record { test = e.test; variables = e.skeleton.variables; patterns = e.patterns; children = x.children }} expands.lives is_new (found_here.listed expands.lives)
-      (some_unrealised (skeleton_view m.skeleton) m.unrealised expands.unrealised (found_here.listed expands.lives)) few_strands expands.steps x.expansion as_many)
+      (is_tested {e = record { test = e.test; skeleton = e.skeleton; patterns = e.patterns; children = x.children }} expands.lives is_new (found_here.listed expands.lives)
+      (some_unrealised m.skeleton m.unrealised expands.unrealised (found_here.listed expands.lives)) few_strands expands.steps x.expansion as_many)
 
-  way : link_of (expanded_label m e) ≡ made_link m
-  way = ap (λ (o : Option ℕ). record { parent = m.parent; seen_in = o; skeleton = skeleton_view m.skeleton }) (marked_unseen e.children ∙ sym expands.new)
+  way : label_untabled (expanded_label m e) ≡ made_untabled m
+  way = ap (λ (o : Option ℕ). untabled (record { parent = m.parent; seen_in = o; skeleton = m.skeleton })) (marked_unseen e.children ∙ sym expands.new)
 
   own_numbers : e.children ≡ numbers_from (length old) x.made.added
   own_numbers =
@@ -80,7 +78,7 @@ expanded_next protocol limits roots old new ss n e label r at to x =
     let fewer : n < limits.steps = to.steps in
     let behind = x.made.behind in
     let next = resolved_next protocol limits roots old ss n r x.label x.at x.made.added (settled.Expanded e) (subst AreFound behind x.made.found) (subst (AreSoundMade protocol) behind x.sound)
-    (λ f q. let is : e ≡ f = same_expanded e f q in ap (λ (y : Expanded). skeleton_view y.skeleton) (sym is) ∙ x.same)
+    (λ f q. let is : e ≡ f = same_expanded e f q in subst (λ (y : Expanded). DiffersInTable x.label.skeleton y.skeleton) is x.table)
     (way protocol limits (length ss) n old new e x r.found expands) (becomes protocol limits (length ss) n old new e x r.found expands) (own_numbers protocol limits (length ss) n old new e x r.found expands) (omega (arith, fewer)) in
     subst (λ (ms : List Made). IsSearched protocol limits roots ms (ss ++ settled.Expanded e ∷ []) (n + 1)) (sym behind) next
 
@@ -98,8 +96,8 @@ found_to_expand limits i n ms found label m at to au =
     subst (λ (x : Made). (x.dead ≡ false) × (x.unrealised ≢ [])) same (to.lives, to.unrealised)
 
 -- What is made of the children of an expansion is sound where all labels before are.
-pub children_sound : (protocol : Protocol) (i : ℕ) (old new : List Made) (label : Made) (e : Expansion) → AddMade (map (plain.made_of_child i) e.children) old new → AreSoundMade protocol old → item_at old i ≡ Some label → label.dead ≡ false → IsUnrealised (skeleton_view label.skeleton)
-    → IsExpansionOf protocol label.skeleton.variables (skeleton_view label.skeleton) e → ((variables : List Declaration) (k : Skeleton) → IsPointOfView variables k → ExpandsSoundly protocol k) → AreSoundMade protocol new
+pub children_sound : (protocol : Protocol) (i : ℕ) (old new : List Made) (label : Made) (e : Expansion) → AddMade (map (plain.made_of_child i) e.children) old new → AreSoundMade protocol old → item_at old i ≡ Some label → label.dead ≡ false → IsUnrealised label.skeleton
+    → IsExpansionOf protocol label.skeleton e → ((variables : List Declaration) (k : Skeleton) → IsPointOfView variables k → ExpandsSoundly protocol k) → AreSoundMade protocol new
 children_sound protocol i old new label e a s at lives unrealised is law =
     sound_behind old a.added new a.behind s
     (λ m listed.

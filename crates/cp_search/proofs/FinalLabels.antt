@@ -8,11 +8,10 @@ use Rattle.cp_model.specs.Tree.{Test, Label, is_expanded}
 use Rattle.cp_model.specs.declared.tree.Mark.{Mark}
 use Rattle.cp_model.specs.declared.tree.Mark.TheVariants.{Dead as dead, Seen as seen}
 use Rattle.cp_model.specs.declared.tree.Limits.{Limits}
-use Rattle.cp_skel.specs.View.{skeleton_view}
 use Rattle.cp_tree.specs.Candidates.{Candidate, IsCandidate, CandidatesFrom}
 use Rattle.cp_tree.specs.Made.{Made, LabelLink, link_of, seen_in_of}
 use Rattle.cp_tree.specs.Searched.{Becomes, is_dead, is_seen, is_realised, is_generalised, above_bound, at_limit, is_tested, AreResolved, all_settled, then_settled, children_of}
-use Rattle.cp_tree.proofs.MarksSay.{not_both}
+use Rattle.cp_tree.proofs.MarksSay.{not_both, not_with_table}
 use Rattle.cp_search.specs.declared.made.Made as program
 use Rattle.cp_search.specs.declared.resolved.Resolved.{Resolved}
 use Rattle.cp_search.specs.declared.resolved.Resolved.TheVariants as settled
@@ -53,7 +52,7 @@ open_labels i (l ∷ ls) = candidate_or_none i l (open_labels (suc i) ls)
 pub open_ones : (n : ℕ) (ms : List program.Made) (ss : List Resolved) → open_labels n (resolved_labels ms ss) ≡ open_from n ms ss
 open_ones n [] ss = refl
 open_ones n (m ∷ ms) [] = refl
-open_ones n (m ∷ ms) (settled.Leaf None ∷ ss) = ap (λ (cs : List Candidate). record { number = n; skeleton = skeleton_view m.skeleton } ∷ cs) (open_ones (suc n) ms ss)
+open_ones n (m ∷ ms) (settled.Leaf None ∷ ss) = ap (λ (cs : List Candidate). record { number = n; skeleton = m.skeleton } ∷ cs) (open_ones (suc n) ms ss)
 open_ones n (m ∷ ms) (settled.Leaf (Some mark) ∷ ss) = open_ones (suc n) ms ss
 open_ones n (m ∷ ms) (settled.Generalised child ∷ ss) = open_ones (suc n) ms ss
 open_ones n (m ∷ ms) (settled.Expanded e ∷ ss) = open_ones (suc n) ms ss
@@ -65,7 +64,7 @@ module _ (marks : ℕ → Option Mark → Type 0) where
   marks_taken n (m ∷ ms) [] given count each = tt
   marks_taken n (m ∷ ms) (settled.Leaf None ∷ ss) [] count each = absurd (omega (arith, count))
   marks_taken n (m ∷ ms) (settled.Leaf None ∷ ss) (mark ∷ given) count each = (
-    inr (record { unmarked = refl; untested = refl; childless = refl }, (mark, each 0 (record { number = n; skeleton = skeleton_view m.skeleton }) mark refl refl, refl)),
+    inr (record { unmarked = refl; untested = refl; childless = refl }, (mark, each 0 (record { number = n; skeleton = m.skeleton }) mark refl refl, refl)),
     marks_taken (suc n) ms ss given (omega (arith, count)) (λ p c k at is. each (suc p) c k at is),
   )
   marks_taken n (m ∷ ms) (settled.Leaf (Some mark) ∷ ss) given count each = (inl (λ o. (let e = o.unmarked in cc), refl), marks_taken (suc n) ms ss given count each)
@@ -167,7 +166,7 @@ module _ (marks : ℕ → Option Mark → Type 0) where
       pick i before m l n gives cs (above_bound d w u r b) (inr t) = absurd (let e = t.0.unmarked in cc)
       pick i before m l n gives cs (at_limit d w u r b q) (inl t) = left i l n cs (λ c. not_both m.skeleton r c.realised) t.1 refl
       pick i before m l n gives cs (at_limit d w u r b q) (inr t) = absurd (let e = t.0.unmarked in cc)
-      pick i before m l n gives cs (is_tested d w u r b x y s) (inl t) = left i l n cs (λ c. not_both m.skeleton r c.realised) t.1 refl
+      pick i before m l n gives cs (is_tested {e = e} d w u r b x y s) (inl t) = left i l n cs (λ c. not_with_table m.skeleton e.skeleton.variables r c.realised) t.1 refl
       pick i before m l n gives cs (is_tested d w u r b x y s) (inr t) = absurd (let e = t.0.untested in cc)
 
       abbrev Are : ℕ → List Label → List Candidate → Type 0

@@ -2,6 +2,7 @@ pub mod Behind
 pub mod CandidateMarks
 pub mod AllowedCopies
 pub mod ExpandedNext
+pub mod AlikeLinks
 pub mod FinalLabels
 pub mod FoundTrees
 pub mod GrownLinks

@@ -3,7 +3,6 @@ use Rattle.std.proofs.Common.{◌≡◌, ℕ, suc, ◌+◌, ◌<◌, List, [], �
 use Rattle.std.proofs.lemmas.List.{append_assoc}
 use Rattle.cp_lists.specs.Lists.{item_at}
 use Rattle.cp_lists.proofs.Items.{item_there, item_of_read, drop_of_item}
-use Rattle.cp_skel.specs.View.{skeleton_view}
 use Rattle.cp_tree.specs.Candidates.{Candidate}
 use Rattle.cp_search.specs.declared.made.Made.{Made}
 use Rattle.cp_search.specs.declared.resolved.Resolved.{Resolved}
@@ -11,7 +10,7 @@ use Rattle.cp_search.specs.declared.resolved.Resolved.TheVariants as settled
 use Rattle.cp_search.specs.Candidates.{is_open, if_open, open_from}
 
 abbrev candidate_of : ℕ → Made → Candidate
-candidate_of n m = record { number = n; skeleton = skeleton_view m.skeleton }
+candidate_of n m = record { number = n; skeleton = m.skeleton }
 
 closed_one : (s : Resolved) (n : ℕ) (m : Made) (cs : List Candidate) → is_open s ≡ false → if_open s n m cs ≡ cs
 closed_one (settled.Leaf None) n m cs e = absurd (cc)

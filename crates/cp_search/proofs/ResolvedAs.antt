@@ -4,18 +4,17 @@ use Rattle.cp_lists.specs.Lists.{item_at}
 use Rattle.cp_model.specs.Strand.{Protocol}
 use Rattle.cp_model.specs.declared.node.Node.{Node}
 use Rattle.cp_model.specs.declared.tree.Limits.{Limits}
-use Rattle.cp_skel.specs.View.{skeleton_view}
 use Rattle.cp_model.specs.declared.tree.Mark.{Mark}
 use Rattle.cp_general.specs.Generalisation.{IsMaximallyGeneral}
 use Rattle.cp_tree.specs.Made as plain
-use Rattle.cp_tree.specs.Made.{LabelLink, link_of, MayPointTo}
+use Rattle.cp_tree.specs.Made.{LabelLink, MayPointTo}
 use Rattle.cp_tree.specs.Searched.{leaf, Becomes, is_generalised}
 use Rattle.cp_search.specs.declared.made.Made.{Made}
 use Rattle.cp_search.specs.declared.resolved.Resolved.{Resolved}
 use Rattle.cp_search.specs.declared.resolved.Resolved.TheVariants as settled
 use Rattle.cp_search.specs.LeastNumber.{FindsLeast}
-use Rattle.cp_search.specs.MadeLabels.{made_view, made_link, IsFound, AreFound}
-use Rattle.cp_search.specs.ResolvedLabels.{generalised_label, IsLeafOf, dead_leaf, seen_leaf, open_leaf, above_bound, at_limit, no_leaf, IsOpenMark, AreSoundMade, IsSearched}
+use Rattle.cp_search.specs.MadeLabels.{made_view, made_link, untabled, made_untabled, IsFound, AreFound}
+use Rattle.cp_search.specs.ResolvedLabels.{generalised_label, label_untabled, IsLeafOf, dead_leaf, seen_leaf, open_leaf, above_bound, at_limit, no_leaf, IsOpenMark, AreSoundMade, IsSearched}
 use Rattle.cp_search.specs.GeneralLabels.{IsOwnGeneralisation, Generalises, ResolvesAs}
 use Rattle.cp_search.proofs.ResolvedNext.{resolved_next}
 use Rattle.cp_search.proofs.ResolvedLeaves.{all_derivable, leaf_resolved, next_label}
@@ -37,8 +36,8 @@ to_generalise limits m n o (no_leaf x) e = absurd (cc)
 pub same_label : (ms : List Made) (i : ℕ) (m x : Made) → item_at ms i ≡ Some m → item_at ms i ≡ Some x → m ≡ x
 same_label ms i m x at there = let one : Some m ≡ Some x = sym at ∙ there in let same : m ≡ x = cc in same
 
-most_general : (ms : List Made) (i : ℕ) (m : Made) → item_at ms i ≡ Some m → IsOwnGeneralisation i ms → IsMaximallyGeneral (skeleton_view m.skeleton)
-most_general ms i m at own = subst (λ (x : Made). IsMaximallyGeneral (skeleton_view x.skeleton)) (same_label ms i own.label m own.at at) own.most_general
+most_general : (ms : List Made) (i : ℕ) (m : Made) → item_at ms i ≡ Some m → IsOwnGeneralisation i ms → IsMaximallyGeneral m.skeleton
+most_general ms i m at own = subst (λ (x : Made). IsMaximallyGeneral x.skeleton) (same_label ms i own.label m own.at at) own.most_general
 
 module _ (protocol : Protocol) (limits : Limits) (i n child : ℕ) (old new : List Made) (g : Generalises i old new) (found : AreFound old) (to : IsToGeneralise g.label) where
   abbrev m : Made
@@ -50,12 +49,12 @@ module _ (protocol : Protocol) (limits : Limits) (i n child : ℕ) (old new : Li
   becomes : Becomes protocol limits links IsOpenMark i n (made_view m) (generalised_label m child) (map made_view (g.made.added ∷ []))
   becomes =
       let here : IsFound links i m = found.each i m g.at in
-      let one = is_generalised {child = child} to.lives (subst (FindsLeast (MayPointTo links i)) to.new (here.seen to.lives)) (all_derivable (skeleton_view m.skeleton) m.unrealised to.realised (here.listed to.lives)) g.generalises in
+      let one = is_generalised {child = child} to.lives (subst (FindsLeast (MayPointTo links i)) to.new (here.seen to.lives)) (all_derivable m.skeleton m.unrealised to.realised (here.listed to.lives)) g.generalises in
       subst (λ (x : plain.Made). Becomes protocol limits links IsOpenMark i n (made_view m) (generalised_label m child) (x ∷ [])) (sym g.made.same)
-      (subst (λ (ns : List Node). Becomes protocol limits links IsOpenMark i n (made_view m) (record (leaf (made_view m) ns None) { children = child ∷ [] }) (plain.made_of_generalisation i m.skeleton.variables g.skeleton ∷ [])) (sym to.realised) one)
+      (subst (λ (ns : List Node). Becomes protocol limits links IsOpenMark i n (made_view m) (record (leaf (made_view m) ns None) { children = child ∷ [] }) (plain.made_of_generalisation i g.skeleton ∷ [])) (sym to.realised) one)
 
-  way : link_of (generalised_label m child) ≡ made_link m
-  way = ap (λ (o : Option ℕ). record { parent = m.parent; seen_in = o; skeleton = skeleton_view m.skeleton }) (sym to.new)
+  way : label_untabled (generalised_label m child) ≡ made_untabled m
+  way = ap (λ (o : Option ℕ). untabled (record { parent = m.parent; seen_in = o; skeleton = m.skeleton })) (sym to.new)
 
 generalised_next : (protocol : Protocol) (limits : Limits) (roots : List plain.Made) (old new : List Made) (ss : List Resolved) (n child : ℕ) → IsSearched protocol limits roots old ss n → (g : Generalises (length ss) old new) → IsToGeneralise g.label → child ≡ length old
     → IsSearched protocol limits roots new (ss ++ settled.Generalised child ∷ []) n

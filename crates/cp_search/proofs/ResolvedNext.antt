@@ -8,17 +8,17 @@ use Rattle.cp_model.specs.Strand.{Protocol}
 use Rattle.cp_model.specs.Problem.{numbers_from}
 use Rattle.cp_model.specs.Tree.{Label, is_expanded, expanded_count}
 use Rattle.cp_model.specs.declared.tree.Limits.{Limits}
-use Rattle.cp_skel.specs.View.{skeleton_view}
+use Rattle.cp_skel.specs.Tables.{DiffersInTable}
 use Rattle.cp_tree.specs.Made as plain
-use Rattle.cp_tree.specs.Made.{LabelLink, link_of}
+use Rattle.cp_tree.specs.Made.{LabelLink}
 use Rattle.cp_tree.specs.Searched.{Becomes, AreResolved, children_of}
 use Rattle.cp_tree.proofs.Numbered.{numbers_append}
 use Rattle.cp_search.specs.declared.made.Made.{Made}
 use Rattle.cp_search.specs.declared.resolved.Resolved.{Resolved}
 use Rattle.cp_search.specs.declared.resolved.Resolved.TheVariants as settled
 use Rattle.cp_search.specs.declared.resolved.Expanded.{Expanded}
-use Rattle.cp_search.specs.MadeLabels.{made_view, made_link, AreFound}
-use Rattle.cp_search.specs.ResolvedLabels.{resolved_label, resolved_labels, IsOpenMark, AreExpandedOf, AreSoundMade, IsSearched}
+use Rattle.cp_search.specs.MadeLabels.{made_view, made_link, made_untabled, AreFound}
+use Rattle.cp_search.specs.ResolvedLabels.{resolved_label, resolved_labels, label_untabled, IsOpenMark, AreExpandedOf, AreSoundMade, IsSearched}
 use Rattle.cp_search.proofs.OneMoreResolved.{numbers_of_map, children_behind, count_behind, one_more, resolved_still}
 
 pub no_labels : (ms : List Made) → resolved_labels ms [] ≡ []
@@ -51,28 +51,28 @@ module _ (protocol : Protocol) (limits : Limits) (roots : List plain.Made) (ms :
   all_made_next : map made_view (ms ++ added) ≡ roots ++ (r.children ++ map made_view added)
   all_made_next = map-append made_view ms added ∙ (ap (λ (xs : List plain.Made). xs ++ map made_view added) r.all_made ∙ append_assoc roots r.children (map made_view added))
 
-  same_next : ((e : Expanded) → s ≡ settled.Expanded e → skeleton_view e.skeleton ≡ skeleton_view m.skeleton) → AreExpandedOf (ms ++ added) (ss ++ s ∷ [])
+  same_next : ((e : Expanded) → s ≡ settled.Expanded e → DiffersInTable m.skeleton e.skeleton) → AreExpandedOf (ms ++ added) (ss ++ s ∷ [])
   same_next here i x e au there =
       ⊎_elim
       (λ (old : item_at ss i ≡ Some (settled.Expanded e)).
       let l : i < length ss = item_below ss i (settled.Expanded e) old in
       let w : length ss ≤ length ms = r.within in
-      r.same i x e (sym (item_in_front ms added i (omega (arith, l, w))) ∙ au) old)
+      r.tables i x e (sym (item_in_front ms added i (omega (arith, l, w))) ∙ au) old)
       (λ (new : (i ≡ length ss) × (s ≡ settled.Expanded e)).
       let p : i ≡ length ss = new.0 in
       let one : Some m ≡ Some x = sym (item_still ms added (length ss) m at) ∙ (ap (item_at (ms ++ added)) (sym p) ∙ au) in
       let same : m ≡ x = cc in
-      here e new.1 ∙ ap (λ (y : Made). skeleton_view y.skeleton) same)
+      subst (λ (y : Made). DiffersInTable y.skeleton e.skeleton) same (here e new.1))
       (item_of_push ss s i (settled.Expanded e) there)
 
   within_next : length (ss ++ s ∷ []) ≤ length (ms ++ added)
   within_next = let l : length ss < length ms = item_below ms (length ss) m at in let e = length_pushed ss s in let f = length-append ms added in omega (arith, l, e, f)
 
-  links_next : link_of label ≡ made_link m → map link_of (resolved_labels (ms ++ added) (ss ++ s ∷ [])) ≡ take (length (ss ++ s ∷ [])) (map made_link (ms ++ added))
+  links_next : label_untabled label ≡ made_untabled m → map label_untabled (resolved_labels (ms ++ added) (ss ++ s ∷ [])) ≡ take (length (ss ++ s ∷ [])) (map made_untabled (ms ++ added))
   links_next way =
-      ap (map link_of) (labels_next ms added ss m s at) ∙ (map-append link_of labels (label ∷ [])
-      ∙ (ap (λ (ws : List LabelLink). ws ++ link_of label ∷ []) r.links ∙ (ap (λ (w : LabelLink). take place (map made_link ms) ++ w ∷ []) way
-      ∙ (sym (take_more made_link place ms added m at) ∙ ap (λ (k : ℕ). take k (map made_link (ms ++ added))) (sym (length_pushed ss s))))))
+      ap (map label_untabled) (labels_next ms added ss m s at) ∙ (map-append label_untabled labels (label ∷ [])
+      ∙ (ap (λ (ws : List LabelLink). ws ++ label_untabled label ∷ []) r.links ∙ (ap (λ (w : LabelLink). take place (map made_untabled ms) ++ w ∷ []) way
+      ∙ (sym (take_more made_untabled place ms added m at) ∙ ap (λ (k : ℕ). take k (map made_untabled (ms ++ added))) (sym (length_pushed ss s))))))
 
   as_many : place ≡ 0 + length (take place (map made_view ms))
   as_many =
@@ -117,7 +117,7 @@ module _ (protocol : Protocol) (limits : Limits) (roots : List plain.Made) (ms :
   counted_next : expanded_count (resolved_labels (ms ++ added) (ss ++ s ∷ [])) ≡ n + is_expanded label.test
   counted_next = ap expanded_count (labels_next ms added ss m s at) ∙ (count_behind labels label ∙ ap (λ (k : ℕ). k + is_expanded label.test) r.counted)
 
-  pub resolved_next : AreFound (ms ++ added) → AreSoundMade protocol (ms ++ added) → ((e : Expanded) → s ≡ settled.Expanded e → skeleton_view e.skeleton ≡ skeleton_view m.skeleton) → link_of label ≡ made_link m
+  pub resolved_next : AreFound (ms ++ added) → AreSoundMade protocol (ms ++ added) → ((e : Expanded) → s ≡ settled.Expanded e → DiffersInTable m.skeleton e.skeleton) → label_untabled label ≡ made_untabled m
       → Becomes protocol limits (map made_link ms) IsOpenMark place n (made_view m) label (map made_view added) → label.children ≡ numbers_from (length ms) added → n + is_expanded label.test ≤ limits.steps
       → IsSearched protocol limits roots (ms ++ added) (ss ++ s ∷ []) (n + is_expanded label.test)
   resolved_next found sound here way b own below = record {
@@ -125,7 +125,7 @@ module _ (protocol : Protocol) (limits : Limits) (roots : List plain.Made) (ms :
     all_made = all_made_next;
     found = found;
     sound = sound;
-    same = same_next here;
+    tables = same_next here;
     within = within_next;
     links = links_next way;
     become = become_next b;

@@ -2,7 +2,6 @@
 use Rattle.std.specs.Prelude.{ℕ, suc, List, [], ◌∷◌, slice_index_or, Bool, true, false, Option, Some, None}
 use Rattle.cp_model.specs.declared.tree.Mark.{Mark}
 use Rattle.cp_model.specs.declared.tree.Mark.TheVariants.{Shape as shape, InstanceOf as instance_of}
-use Rattle.cp_skel.specs.View.{skeleton_view}
 use Rattle.cp_tree.specs.Candidates.{Candidate}
 use Rattle.cp_search.specs.declared.made.Made.{Made}
 use Rattle.cp_search.specs.declared.resolved.Resolved.{Resolved}
@@ -15,7 +14,7 @@ is_open _ = false
 
 -- A label whose mark is open is a candidate.
 abbrev pub if_open : Resolved → ℕ → Made → List Candidate → List Candidate
-if_open (settled.Leaf None) n m cs = record { number = n; skeleton = skeleton_view m.skeleton } ∷ cs
+if_open (settled.Leaf None) n m cs = record { number = n; skeleton = m.skeleton } ∷ cs
 if_open _ n m cs = cs
 
 -- The candidates among labels that are numbered from n on.

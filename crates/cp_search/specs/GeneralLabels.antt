@@ -3,7 +3,6 @@ use Rattle.std.specs.Prelude.{◌≡◌, ℕ, List, length, true, false, Option,
 use Rattle.cp_lists.specs.Lists.{item_at}
 use Rattle.cp_model.specs.Strand.{Protocol}
 use Rattle.cp_model.specs.Skeleton.{Skeleton}
-use Rattle.cp_skel.specs.View.{skeleton_view}
 use Rattle.cp_model.specs.declared.tree.Mark.{Mark}
 use Rattle.cp_general.specs.Generalisation.{IsMaximallyGeneral, GeneralisesTo}
 use Rattle.cp_tree.specs.Made.{made_of_generalisation}
@@ -17,7 +16,7 @@ use Rattle.cp_search.specs.ResolvedLabels.{AreSoundMade}
 pub record IsOwnGeneralisation (i : ℕ) (ms : List Made) : Type 0 where
   pub label : Made
   pub at : item_at ms i ≡ Some label
-  pub most_general : IsMaximallyGeneral (skeleton_view label.skeleton)
+  pub most_general : IsMaximallyGeneral label.skeleton
 
 -- What label i generalises to is made behind the other labels, and known to generalise no further. It is sound where these are.
 pub record Generalises (i : ℕ) (old new : List Made) : Type 0 where
@@ -25,8 +24,8 @@ pub record Generalises (i : ℕ) (old new : List Made) : Type 0 where
   pub at : item_at old i ≡ Some label
   pub unknown : label.general ≡ false
   pub skeleton : Skeleton
-  pub generalises : GeneralisesTo (skeleton_view label.skeleton) skeleton
-  pub made : AddsMade (made_of_generalisation i label.skeleton.variables skeleton) old new
+  pub generalises : GeneralisesTo label.skeleton skeleton
+  pub made : AddsMade (made_of_generalisation i skeleton) old new
   pub general : AddsGeneral true old new
   pub sound : (protocol : Protocol) → label.dead ≡ false → AreSoundMade protocol old → AreSoundMade protocol new
 

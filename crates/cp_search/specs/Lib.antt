@@ -1,7 +1,6 @@
 pub mod LeastNumber
 pub mod Graph
 pub mod MadeLabels
-pub mod Roots
 pub mod ResolvedLabels
 pub mod LabelsByNumber
 pub mod GeneralLabels

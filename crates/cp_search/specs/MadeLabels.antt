@@ -4,7 +4,6 @@ use Rattle.cp_lists.specs.Lists.{item_at, IsIn}
 use Rattle.cp_model.specs.Strand.{Protocol}
 use Rattle.cp_model.specs.Skeleton.{Skeleton, IsSkeleton}
 use Rattle.cp_model.specs.PointOfView.{HasDeclaredVariables}
-use Rattle.cp_skel.specs.View.{skeleton_view}
 use Rattle.cp_derive.specs.Unrealised.{ListsUnrealised}
 use Rattle.cp_fingerprint.specs.Isomorphic.{IsIsomorphic}
 use Rattle.cp_fingerprint.specs.Signatures.{signature_of}
@@ -16,10 +15,17 @@ use Rattle.cp_search.specs.LeastNumber.{FindsLeast, IsFlagged}
 use Rattle.cp_general.specs.Generalisation.{IsMaximallyGeneral}
 
 abbrev pub made_view : Made → plain.Made
-made_view m = record { parent = m.parent; operation = m.operation; variables = m.skeleton.variables; skeleton = skeleton_view m.skeleton; dead = m.dead }
+made_view m = record { parent = m.parent; operation = m.operation; skeleton = m.skeleton; dead = m.dead }
 
 abbrev pub made_link : Made → LabelLink
-made_link m = record { parent = m.parent; seen_in = m.seen_in; skeleton = skeleton_view m.skeleton }
+made_link m = record { parent = m.parent; seen_in = m.seen_in; skeleton = m.skeleton }
+
+-- A link without the table of its skeleton.
+abbrev pub untabled : LabelLink → LabelLink
+untabled w = record w { skeleton = record w.skeleton { variables = [] } }
+
+abbrev pub made_untabled : Made → LabelLink
+made_untabled m = untabled (made_link m)
 
 -- The edge is one to this label from the one from which it was made, or from it to the one in which it is seen.
 abbrev pub IsEdgeOfMade : ℕ → Made → Edge → Type 0
@@ -44,12 +50,12 @@ AreParentsWithin ms n = (i p : ℕ) (m : Made) → item_at ms i ≡ Some m → m
 -- are listed, and it is seen nowhere; any other is seen in the least label to which it may point; and no step of generalising
 -- applies to a general one.
 pub record IsFound (links : List LabelLink) (i : ℕ) (m : Made) : Type 0 where
-  pub signature : m.signature ≡ signature_of (skeleton_view m.skeleton)
+  pub signature : m.signature ≡ signature_of m.skeleton
   pub dead_none : m.dead ≡ true → m.unrealised ≡ []
   pub dead_unseen : m.dead ≡ true → m.seen_in ≡ None
-  pub listed : m.dead ≡ false → ListsUnrealised (skeleton_view m.skeleton) m.unrealised
+  pub listed : m.dead ≡ false → ListsUnrealised m.skeleton m.unrealised
   pub seen : m.dead ≡ false → FindsLeast (MayPointTo links i) m.seen_in
-  pub general : m.general ≡ true → IsMaximallyGeneral (skeleton_view m.skeleton)
+  pub general : m.general ≡ true → IsMaximallyGeneral m.skeleton
 
 -- A label is made from one before it, if from any.
 abbrev pub IsMadeLater : List Made → Type 0
@@ -69,7 +75,7 @@ pub record MayBeSeenIn (ms : List Made) (flags : List Bool) (k : Skeleton) (n : 
   pub other : Made
   pub at : item_at ms n ≡ Some other
   pub allowed : IsFlagged flags n → ⊥
-  pub isomorphic : IsIsomorphic (skeleton_view other.skeleton) k
+  pub isomorphic : IsIsomorphic other.skeleton k
 
 -- A label that is made from this one, or from none, with this skeleton may be seen in label n: that is isomorphic, and its parent
 -- cannot be reached from there.
@@ -77,7 +83,7 @@ pub record MayBeSeen (ms : List Made) (parent : Option ℕ) (k : Skeleton) (n : 
   pub other : Made
   pub at : item_at ms n ≡ Some other
   pub allowed : (p : ℕ) → parent ≡ Some p → Reaches (map made_link ms) n p → ⊥
-  pub isomorphic : IsIsomorphic (skeleton_view other.skeleton) k
+  pub isomorphic : IsIsomorphic other.skeleton k
 
 -- One label more was made, and what is found of it is true.
 pub record AddsMade (m : plain.Made) (old new : List Made) : Type 0 where
@@ -101,4 +107,4 @@ pub record AddMade (ms : List plain.Made) (old new : List Made) : Type 0 where
 
 -- Each label is a skeleton over the protocol, with declared variables.
 abbrev pub AreOver : Protocol → List Made → Type 0
-AreOver protocol ms = (i : ℕ) (m : Made) → item_at ms i ≡ Some m → IsSkeleton protocol (skeleton_view m.skeleton) × HasDeclaredVariables m.skeleton.variables (skeleton_view m.skeleton)
+AreOver protocol ms = (i : ℕ) (m : Made) → item_at ms i ≡ Some m → IsSkeleton protocol m.skeleton × HasDeclaredVariables m.skeleton.variables m.skeleton

@@ -1,6 +1,5 @@
 // Candidates for shapes, and the marks that they get.
 ghost use Rattle.std.specs.Prelude.{◌≡◌, ◌<◌, length, map, IfOk, IfSome};
-ghost use Rattle.cp_skel.specs.View.{skeleton_view};
 ghost use Rattle.cp_search.specs.Candidates.{is_open, open_from, candidate_mark};
 ghost use Rattle.cp_search.specs.TreeLabels.{AreCandidateMarks};
 
@@ -42,7 +41,7 @@ fn skeletons<'a>(
     settled: &[Resolved],
 ) -> Result<Vec<&'a Skeleton>, AllocError>
     requires { length settled.now ≡ length made.now }
-    ensures { IfOk result (λ ks. map (λ k. skeleton_view k.now) ks.items ≡ map (λ c. c.skeleton) (open_from 0 made.now settled.now)) }
+    ensures { IfOk result (λ ks. map (λ k. k.now) ks.items ≡ map (λ c. c.skeleton) (open_from 0 made.now settled.now)) }
 {
     let mut skeletons = Vec::new(alloc);
     for (number, each) in settled.iter().enumerate() {

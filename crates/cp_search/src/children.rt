@@ -1,7 +1,6 @@
 // Makes the labels of a test's children.
 ghost use Rattle.std.specs.Prelude.{◌≡◌, ◌<◌, [], ◌∷◌, ◌++◌, length, map, IfOk, OnOk};
 ghost use Rattle.cp_model.specs.Problem.{numbers_from};
-ghost use Rattle.cp_cohort.specs.Views.{child_view};
 ghost use Rattle.cp_tree.specs.Made.{made_of_child};
 ghost use Rattle.cp_search.specs.MadeLabels.{AreFound, AddsMade, AddMade};
 
@@ -19,7 +18,7 @@ fn make_child(
 ) -> Result<(), AllocError>
     requires found { AreFound made.old }
     requires parent { parent < length made.old }
-    ensures { OnOk result (AddsMade (made_of_child parent (child_view child)) made.old made.new) }
+    ensures { OnOk result (AddsMade (made_of_child parent child) made.old made.new) }
 {
     let Child {
         mut skeleton,
@@ -40,7 +39,7 @@ fn add_child(
 ) -> Result<(), AllocError>
     requires found { AreFound made.old }
     requires parent { parent < length made.old }
-    ensures made { OnOk result (AddsMade (made_of_child parent (child_view child)) made.old made.new) }
+    ensures made { OnOk result (AddsMade (made_of_child parent child) made.old made.new) }
     ensures numbers { OnOk result (numbers.new.items ≡ numbers.old.items ++ length made.old ∷ []) }
 {
     numbers.push(made.len())?;
@@ -57,7 +56,7 @@ pub(crate) fn make_children(
 ) -> Result<Vec<usize>, AllocError>
     requires found { AreFound made.old }
     requires parent { parent < length made.old }
-    ensures made { OnOk result (AddMade (map (made_of_child parent) (map child_view children.items)) made.old made.new) }
+    ensures made { OnOk result (AddMade (map (made_of_child parent) children.items) made.old made.new) }
     ensures numbers { IfOk result (λ numbers. numbers.items ≡ numbers_from (length made.old) children.items) }
 {
     let mut numbers = Vec::with_capacity(alloc, children.len())?;

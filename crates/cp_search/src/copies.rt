@@ -1,7 +1,6 @@
 // Finds the label in which a new label is seen.
 ghost use Rattle.std.specs.Prelude.{◌≡◌, ◌↔◌, ◌<◌, length, IsTrue, IfOk, IfSome};
 ghost use Rattle.cp_lists.specs.Lists.{IsIn};
-ghost use Rattle.cp_skel.specs.View.{skeleton_view};
 ghost use Rattle.cp_fingerprint.specs.Signatures.{signature_of};
 ghost use Rattle.cp_search.specs.LeastNumber.{FindsLeast, IsFlagged};
 ghost use Rattle.cp_search.specs.MadeLabels.{MayBeSeenIn, MayBeSeen, AreFound};
@@ -33,9 +32,9 @@ fn first_copy(
     signature: &Signature,
     skeleton: &Skeleton,
 ) -> Result<Option<usize>, AllocError>
-    requires signature { signature.now ≡ signature_of (skeleton_view skeleton.now) }
-    requires signatures { (m : program.Made) → IsIn m made.now → m.signature ≡ signature_of (skeleton_view m.skeleton) }
-    ensures { IfOk result (FindsLeast (MayBeSeenIn made.now forbidden.now (skeleton_view skeleton.now))) }
+    requires signature { signature.now ≡ signature_of skeleton.now }
+    requires signatures { (m : program.Made) → IsIn m made.now → m.signature ≡ signature_of m.skeleton }
+    ensures { IfOk result (FindsLeast (MayBeSeenIn made.now forbidden.now skeleton.now)) }
 {
     let buckets = made.with_key(signature.bucket_key());
     for number in buckets {
@@ -65,8 +64,8 @@ pub(crate) fn copied_label(
 ) -> Result<Option<usize>, AllocError>
     requires found { AreFound made.now }
     requires parent { IfSome parent (λ p. p < length made.now) }
-    requires signature { signature.now ≡ signature_of (skeleton_view skeleton.now) }
-    ensures { IfOk result (FindsLeast (MayBeSeen made.now parent (skeleton_view skeleton.now))) }
+    requires signature { signature.now ≡ signature_of skeleton.now }
+    ensures { IfOk result (FindsLeast (MayBeSeen made.now parent skeleton.now)) }
 {
     let Some(copy) = first_copy(alloc, made, &[], signature, skeleton)? else {
         return Ok(None);

@@ -1,21 +1,19 @@
 // Resolves labels one after another.
-ghost use Rattle.std.specs.Prelude.{◌≡◌, ◌≢◌, ◌<◌, ◌≤◌, ◌+◌, ℕ, List, [], length, map, true, false, IfOk, OnOk, Option, Some, None};
+ghost use Rattle.std.specs.Prelude.{◌≡◌, ◌≢◌, ◌<◌, ◌≤◌, ◌+◌, List, [], length, map, true, false, IfOk, OnOk, Option, Some, None};
 ghost use Rattle.cp_lists.specs.Lists.{item_at};
 ghost use Rattle.cp_model.specs.Problem.{numbers_from};
 ghost use Rattle.cp_model.specs.PointOfView.{HasDeclaredVariables};
 ghost use Rattle.cp_model.specs.Skeleton.{IsSkeleton};
 ghost use Rattle.cp_model.specs.Strand.{Protocol as PlainProtocol};
-ghost use Rattle.cp_skel.specs.View.{skeleton_view};
-ghost use Rattle.cp_cohort.specs.Views.{child_view};
 ghost use Rattle.cp_derive.specs.Unrealised.{ListsUnrealised};
 ghost use Rattle.cp_expansion.specs.Expansion.{IsExpansionOf};
-ghost use Rattle.cp_expansion.specs.Views.{expansion_view};
+ghost use Rattle.cp_expansion.specs.Views.{expansion_by};
 ghost use Rattle.cp_tree.specs.Made as plain;
+ghost use Rattle.cp_tree.specs.Made.{made_of_root};
 ghost use Rattle.cp_search.specs.declared.made.Made as program;
-ghost use Rattle.cp_search.specs.Roots.{root_made};
 ghost use Rattle.cp_search.specs.MadeLabels.{AreFound, AddMade};
 ghost use Rattle.cp_search.specs.GeneralLabels.{ResolvesAs};
-ghost use Rattle.cp_search.specs.ResolvedLabels.{IsLeafOf, IsToExpand, IsNextToExpand, ExpandsLabel, HasSearched, AreSoundMade, AreSoundRoots};
+ghost use Rattle.cp_search.specs.ResolvedLabels.{IsLeafOf, IsNextToExpand, ExpandsLabel, HasSearched, AreSoundMade, AreSoundRoots};
 
 use crate::children::make_children;
 use crate::general_labels::generalise_label;
@@ -108,12 +106,11 @@ fn expansion_of(
     protocol: &Protocol,
     label: &Made,
 ) -> Result<(Test, Expansion), AllocError>
-    requires skeleton { IsSkeleton protocol.now (skeleton_view label.now.skeleton) }
-    requires declared { HasDeclaredVariables label.now.skeleton.variables (skeleton_view label.now.skeleton) }
-    requires listed { ListsUnrealised (skeleton_view label.now.skeleton) label.now.unrealised }
+    requires skeleton { IsSkeleton protocol.now label.now.skeleton }
+    requires declared { HasDeclaredVariables label.now.skeleton.variables label.now.skeleton }
+    requires listed { ListsUnrealised label.now.skeleton label.now.unrealised }
     requires unrealised { label.now.unrealised ≢ [] }
-    ensures exact { IfOk result (λ r. IsExpansionOf protocol.now label.now.skeleton.variables (skeleton_view label.now.skeleton) (expansion_view r.0 r.1)) }
-    ensures same { IfOk result (λ r. skeleton_view r.1.skeleton ≡ skeleton_view label.now.skeleton) }
+    ensures { IfOk result (λ r. IsExpansionOf protocol.now label.now.skeleton (expansion_by r.0 r.1)) }
 {
     let Some(test) = test_of(alloc, &label.skeleton, label.unrealised.as_slice())? else {
         unreachable!()
@@ -132,7 +129,7 @@ fn expand_to(
 ) -> Result<Expanded, AllocError>
     requires found { AreFound made.old }
     requires there { number < length made.old }
-    ensures { IfOk result (λ e. AddMade (map (plain.made_of_child number) (map child_view expansion.children.items)) made.old made.new × (e.children ≡ numbers_from (length made.old) expansion.children.items) × (e.skeleton ≡ expansion.skeleton) × (e.test ≡ test) × (e.patterns ≡ expansion.patterns.items)) }
+    ensures { IfOk result (λ e. AddMade (map (plain.made_of_child number) expansion.children.items) made.old made.new × (e.children ≡ numbers_from (length made.old) expansion.children.items) × (e.skeleton ≡ expansion.skeleton) × (e.test ≡ test) × (e.patterns ≡ expansion.patterns.items)) }
 {
     let Expansion {
         skeleton,
@@ -196,7 +193,7 @@ pub(crate) fn search_from(
     roots: Vec<Root>,
 ) -> Result<Search, AllocError>
     requires sound { AreSoundRoots protocol.now roots.items }
-    ensures searched { IfOk result (HasSearched protocol.now limits (map root_made roots.items)) }
+    ensures searched { IfOk result (HasSearched protocol.now limits (map made_of_root roots.items)) }
     ensures all { IfOk result (λ s. length s.settled.items ≡ length s.made) }
 {
     let made = make_roots(alloc, roots)?;

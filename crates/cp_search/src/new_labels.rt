@@ -1,6 +1,5 @@
 // Makes labels.
 ghost use Rattle.std.specs.Prelude.{◌≡◌, ◌<◌, length, true, false, None, IfSome, IfOk, OnOk};
-ghost use Rattle.cp_skel.specs.View.{skeleton_view};
 ghost use Rattle.cp_derive.specs.Unrealised.{ListsUnrealised};
 ghost use Rattle.cp_fingerprint.specs.Signatures.{signature_of};
 ghost use Rattle.cp_general.specs.Generalisation.{IsMaximallyGeneral};
@@ -32,9 +31,9 @@ fn find(
 ) -> Result<Findings, AllocError>
     requires found { AreFound made.now }
     requires parent { IfSome parent (λ p. p < length made.now) }
-    ensures signature { IfOk result (λ f. f.signature ≡ signature_of (skeleton_view skeleton.now)) }
-    ensures seen { IfOk result (λ f. FindsLeast (MayBeSeen made.now parent (skeleton_view skeleton.now)) f.seen_in) }
-    ensures listed { IfOk result (λ f. ListsUnrealised (skeleton_view skeleton.now) f.unrealised) }
+    ensures signature { IfOk result (λ f. f.signature ≡ signature_of skeleton.now) }
+    ensures seen { IfOk result (λ f. FindsLeast (MayBeSeen made.now parent skeleton.now) f.seen_in) }
+    ensures listed { IfOk result (λ f. ListsUnrealised skeleton.now f.unrealised) }
 {
     let signature = Signature::of(alloc, skeleton)?;
     let seen_in = copied_label(alloc, made, parent, &signature, skeleton)?;
@@ -57,9 +56,9 @@ pub(crate) fn make(
 ) -> Result<(), AllocError>
     requires found { AreFound made.old }
     requires parent { IfSome parent (λ p. p < length made.old) }
-    requires general { general ≡ true → IsMaximallyGeneral (skeleton_view skeleton) }
+    requires general { general ≡ true → IsMaximallyGeneral skeleton }
     ensures general { OnOk result (AddsGeneral general made.old made.new) }
-    ensures made { OnOk result (AddsMade (record { parent = parent; operation = operation; variables = skeleton.variables; skeleton = skeleton_view skeleton; dead = false }) made.old made.new) }
+    ensures made { OnOk result (AddsMade (record { parent = parent; operation = operation; skeleton = skeleton; dead = false }) made.old made.new) }
 {
     let Findings {
         signature,
@@ -89,7 +88,7 @@ pub(crate) fn make_dead(
     skeleton: Skeleton,
 ) -> Result<(), AllocError>
     requires found { AreFound made.old }
-    ensures { OnOk result (AddsMade (record { parent = None; operation = operation; variables = skeleton.variables; skeleton = skeleton_view skeleton; dead = true }) made.old made.new) }
+    ensures { OnOk result (AddsMade (record { parent = None; operation = operation; skeleton = skeleton; dead = true }) made.old made.new) }
 {
     let signature = Signature::of(alloc, &skeleton)?;
     made.push(

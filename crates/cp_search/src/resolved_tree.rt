@@ -1,9 +1,8 @@
 // Builds the tree once all labels are resolved.
-ghost use Rattle.std.specs.Prelude.{◌≡◌, ◌↔◌, List, ◌∷◌, length, map, reverse, Some, IsTrue, IfOk};
-ghost use Rattle.cp_skel.specs.Trees.{label_view, tree_view};
+ghost use Rattle.std.specs.Prelude.{◌≡◌, ◌↔◌, List, ◌∷◌, length, reverse, Some, IsTrue, IfOk};
+ghost use Rattle.cp_skel.specs.Tables.{DiffersInTable};
 ghost use Rattle.cp_tree.specs.Searched.{mark_by_children, IsMarked, HasOutcome};
 ghost use Rattle.cp_search.specs.Candidates.{open_from};
-ghost use Rattle.cp_skel.specs.View.{skeleton_view};
 ghost use Rattle.cp_model.specs.declared.tree.Mark.{Mark as PlainMark};
 ghost use Rattle.cp_search.specs.TreeLabels.{label_with, labels_with, AreCandidateMarks};
 ghost use Rattle.cp_search.specs.ResolvedLabels.{leaf_label, generalised_label, expanded_label, AreExpandedOf};
@@ -16,13 +15,13 @@ use crate::candidates::candidate_marks;
 use crate::label_search::Search;
 use crate::made::Made;
 use crate::resolved::{Expanded, Resolved};
-use cp_skel::{Mark, Numbers, Outcome, Tree, TreeNode};
+use cp_skel::{Label, Labels, Mark, Numbers, Outcome, Tree};
 use cp_term::Patterns;
 use std::alloc::{AllocError, Global};
 
 /// A leaf of the tree with this mark.
-fn leaf(alloc: Global, made: Made, mark: Option<Mark>) -> TreeNode
-    ensures { label_view result ≡ leaf_label made mark }
+fn leaf(alloc: Global, made: Made, mark: Option<Mark>) -> Label
+    ensures { result ≡ leaf_label made mark }
 {
     let Made {
         parent,
@@ -31,21 +30,21 @@ fn leaf(alloc: Global, made: Made, mark: Option<Mark>) -> TreeNode
         unrealised,
         ..
     } = made;
-    TreeNode {
+    Label {
         parent,
         operation,
         skeleton,
         unrealised,
         test: None,
-        patterns: Patterns::new(alloc),
+        escape: Patterns::new(alloc),
         children: Numbers::new(alloc),
         mark,
     }
 }
 
 /// The tree's label for one that generalises to the label with this number.
-fn generalised(alloc: Global, made: Made, child: usize) -> Result<TreeNode, AllocError>
-    ensures { IfOk result (λ l. label_view l ≡ generalised_label made child) }
+fn generalised(alloc: Global, made: Made, child: usize) -> Result<Label, AllocError>
+    ensures { IfOk result (λ l. l ≡ generalised_label made child) }
 {
     let mut label = leaf(alloc, made, None);
     label.children.push(child)?;
@@ -63,9 +62,9 @@ fn mark_by(children: &[usize]) -> Option<Mark>
 }
 
 /// The tree's label for an expanded one.
-fn expanded(made: Made, settled: Expanded) -> TreeNode
-    requires { skeleton_view settled.skeleton ≡ skeleton_view made.skeleton }
-    ensures { label_view result ≡ expanded_label made settled }
+fn expanded(made: Made, settled: Expanded) -> Label
+    requires { DiffersInTable made.skeleton settled.skeleton }
+    ensures { result ≡ expanded_label made settled }
 {
     let mark = mark_by(settled.children.as_slice());
     let Made {
@@ -80,13 +79,13 @@ fn expanded(made: Made, settled: Expanded) -> TreeNode
         patterns,
         children,
     } = settled;
-    TreeNode {
+    Label {
         parent,
         operation,
         skeleton,
         unrealised,
         test: Some(test),
-        patterns,
+        escape: patterns,
         children,
         mark,
     }
@@ -98,9 +97,9 @@ fn label(
     made: Made,
     settled: Resolved,
     mark: Option<Mark>,
-) -> Result<TreeNode, AllocError>
-    requires { (e : program_expanded.Expanded) → settled ≡ resolved_as.Expanded e → skeleton_view e.skeleton ≡ skeleton_view made.skeleton }
-    ensures { IfOk result (λ l. label_view l ≡ label_with made settled mark) }
+) -> Result<Label, AllocError>
+    requires { (e : program_expanded.Expanded) → settled ≡ resolved_as.Expanded e → DiffersInTable made.skeleton e.skeleton }
+    ensures { IfOk result (λ l. l ≡ label_with made settled mark) }
 {
     match settled {
         Resolved::Expanded(expansion) => Ok(expanded(made, expansion)),
@@ -126,9 +125,9 @@ fn labels(
     made: Vec<Made>,
     settled: Vec<Resolved>,
     marks: Vec<Mark>,
-) -> Result<Vec<TreeNode>, AllocError>
-    requires same { AreExpandedOf made.items settled.items }
-    ensures { IfOk result (λ ls. map label_view ls.items ≡ labels_with made.items settled.items marks.items) }
+) -> Result<Vec<Label>, AllocError>
+    requires tables { AreExpandedOf made.items settled.items }
+    ensures { IfOk result (λ ls. ls.items ≡ labels_with made.items settled.items marks.items) }
 {
     let mut labels = Vec::with_capacity(alloc, made.len())?;
     let mut rest_resolved = settled.into_iter();
@@ -146,15 +145,15 @@ fn labels(
 }
 
 /// Whether the label has this mark.
-fn has_mark(label: &TreeNode, mark: Mark) -> bool
+fn has_mark(label: &Label, mark: Mark) -> bool
     ensures { IsTrue result ↔ (label.now.mark ≡ Some mark) }
 {
     label.mark == Some(mark)
 }
 
 /// Whether some label has this mark.
-fn is_marked(labels: &[TreeNode], mark: Mark) -> bool
-    ensures { IsTrue result ↔ IsMarked (map label_view labels.now) mark }
+fn is_marked(labels: &[Label], mark: Mark) -> bool
+    ensures { IsTrue result ↔ IsMarked labels.now mark }
 {
     for label in labels {
         if has_mark(label, mark) {
@@ -165,8 +164,8 @@ fn is_marked(labels: &[TreeNode], mark: Mark) -> bool
 }
 
 /// The outcome of a search that ended with these labels.
-fn outcome_of(labels: &[TreeNode]) -> Outcome
-    ensures { HasOutcome (map label_view labels.now) result }
+fn outcome_of(labels: &[Label]) -> Outcome
+    ensures { HasOutcome labels.now result }
 {
     if is_marked(labels, Mark::LimitSteps) {
         return Outcome::LimitSteps;
@@ -180,13 +179,16 @@ fn outcome_of(labels: &[TreeNode]) -> Outcome
 /// The tree of a search that has resolved all labels.
 pub(crate) fn tree_of(alloc: Global, search: Search) -> Result<Tree, AllocError>
     requires all { length search.settled.items ≡ length search.made }
-    requires same { AreExpandedOf search.made search.settled.items }
-    ensures labels { IfOk result (λ t. (marks : List PlainMark) × AreCandidateMarks (open_from 0 search.made search.settled.items) marks × ((tree_view t).labels ≡ labels_with search.made search.settled.items marks)) }
-    ensures outcome { IfOk result (λ t. HasOutcome (tree_view t).labels (tree_view t).outcome) }
+    requires tables { AreExpandedOf search.made search.settled.items }
+    ensures labels { IfOk result (λ t. (marks : List PlainMark) × AreCandidateMarks (open_from 0 search.made search.settled.items) marks × (t.labels ≡ labels_with search.made search.settled.items marks)) }
+    ensures outcome { IfOk result (λ t. HasOutcome t.labels t.outcome) }
 {
     let Search { made, settled, .. } = search;
     let marks = candidate_marks(alloc, made.all(), &settled)?;
-    let nodes = labels(alloc, made.into_all(), settled, marks)?;
-    let outcome = outcome_of(&nodes);
-    Ok(Tree { nodes, outcome })
+    let all = labels(alloc, made.into_all(), settled, marks)?;
+    let outcome = outcome_of(&all);
+    Ok(Tree {
+        labels: Labels::of(all),
+        outcome,
+    })
 }

@@ -1,7 +1,7 @@
 // Makes the labels of the roots.
 ghost use Rattle.std.specs.Prelude.{[], map, IfOk, OnOk};
+ghost use Rattle.cp_tree.specs.Made.{made_of_root};
 ghost use Rattle.cp_search.specs.MadeLabels.{AreFound, AddsMade, AddMade};
-ghost use Rattle.cp_search.specs.Roots.{root_made};
 
 use crate::labels::Labels;
 use crate::new_labels::{make, make_dead};
@@ -11,7 +11,7 @@ use std::alloc::{AllocError, Global};
 /// Appends the label of a root.
 fn make_root(alloc: Global, made: &mut Labels, root: Root) -> Result<(), AllocError>
     requires found { AreFound made.old }
-    ensures { OnOk result (AddsMade (root_made root) made.old made.new) }
+    ensures { OnOk result (AddsMade (made_of_root root) made.old made.new) }
 {
     let Root {
         operation,
@@ -26,7 +26,7 @@ fn make_root(alloc: Global, made: &mut Labels, root: Root) -> Result<(), AllocEr
 
 /// Makes the labels of the roots, in their order.
 pub(crate) fn make_roots(alloc: Global, roots: Vec<Root>) -> Result<Labels, AllocError>
-    ensures { IfOk result (λ ms. AddMade (map root_made roots.items) [] ms) }
+    ensures { IfOk result (λ ms. AddMade (map made_of_root roots.items) [] ms) }
 {
     let mut made = Labels::new(alloc);
     for root in roots {

@@ -7,8 +7,6 @@ ghost use Rattle.cp_model.specs.PointOfView.{IsPointOfView};
 ghost use Rattle.cp_model.specs.Tree.{Label, ReachedSteps, ReachedStrands, IsTrueOf};
 ghost use Rattle.cp_model.specs.declared.tree.Mark.TheVariants.{Dead as dead};
 ghost use Rattle.cp_model.specs.declared.tree.Outcome.TheVariants.{LimitSteps as at_step_limit, LimitStrands as at_strand_limit};
-ghost use Rattle.cp_skel.specs.View.{skeleton_view};
-ghost use Rattle.cp_skel.specs.Trees.{tree_view};
 ghost use Rattle.cp_theory.specs.Lawful.{IsLawful};
 ghost use Rattle.cp_roots.specs.Over.{IsOver};
 ghost use Rattle.cp_tree.specs.Searched.{IsTreeOf};
@@ -54,14 +52,14 @@ pub fn search(
     problem: &Skeleton,
     limits: Limits,
 ) -> Result<Tree, AllocError>
-    requires over { IsOver protocol.now (skeleton_view problem.now) }
-    requires own { IsPointOfView problem.now.variables (skeleton_view problem.now) }
-    ensures true_tree { IfOk result (λ t. IsTrueOf protocol.now (skeleton_view problem.now) limits (tree_view t)) }
-    ensures exact { IfOk result (λ t. IsTreeOf protocol.now (skeleton_view problem.now) problem.now.variables limits (tree_view t)) }
-    ensures variables { IfOk result (λ t. (i : ℕ) (l : Label) → item_at (tree_view t).labels i ≡ Some l → DeclaresItsOwn problem.now.variables l) }
-    ensures lawful { IfOk result (λ t. IsLawful protocol.now (skeleton_view problem.now) (tree_view t).labels (edges (tree_view t).labels)) }
-    ensures dead_nowhere { IfOk result (λ t. (i : ℕ) (l : Label) → item_at (tree_view t).labels i ≡ Some l → l.mark ≡ Some dead → (b : Bundle) (h : Standing) → IsBundle protocol.now b → StandsIn l.skeleton b h → StandsApart l.skeleton h → ⊥) }
-    ensures limits { IfOk result (λ t. (((tree_view t).outcome ≡ at_step_limit) ↔ ReachedSteps limits (tree_view t)) × (((tree_view t).outcome ≡ at_strand_limit) ↔ ReachedStrands limits (tree_view t))) }
+    requires over { IsOver protocol.now problem.now }
+    requires own { IsPointOfView problem.now.variables problem.now }
+    ensures true_tree { IfOk result (λ t. IsTrueOf protocol.now problem.now limits t) }
+    ensures exact { IfOk result (λ t. IsTreeOf protocol.now problem.now problem.now.variables limits t) }
+    ensures variables { IfOk result (λ t. (i : ℕ) (l : Label) → item_at t.labels i ≡ Some l → DeclaresItsOwn problem.now.variables l) }
+    ensures lawful { IfOk result (λ t. IsLawful protocol.now problem.now t.labels (edges t.labels)) }
+    ensures dead_nowhere { IfOk result (λ t. (i : ℕ) (l : Label) → item_at t.labels i ≡ Some l → l.mark ≡ Some dead → (b : Bundle) (h : Standing) → IsBundle protocol.now b → StandsIn l.skeleton b h → StandsApart l.skeleton h → ⊥) }
+    ensures limits { IfOk result (λ t. ((t.outcome ≡ at_step_limit) ↔ ReachedSteps limits t) × ((t.outcome ≡ at_strand_limit) ↔ ReachedStrands limits t)) }
 {
     roots_have_declared_variables();
     search_trees_are_true();

@@ -1,6 +1,5 @@
 // For each candidate, the candidates of which it is an instance.
 ghost use Rattle.std.specs.Prelude.{◌≡◌, ◌↔◌, ◌<◌, length, map, IsTrue, IfOk};
-ghost use Rattle.cp_skel.specs.View.{skeleton_view};
 ghost use Rattle.cp_fingerprint.specs.Signatures.{signature_of};
 ghost use Rattle.cp_shapes.specs.Shapes.{IsInstanceWithin};
 ghost use Rattle.cp_shapes.specs.Rows.{IsRowOf, AreEmbeddingRowsOf, rows_view};
@@ -12,7 +11,7 @@ use std::alloc::{AllocError, Global};
 
 /// The signatures of the candidates.
 fn signatures(alloc: Global, candidates: &[&Skeleton]) -> Result<Vec<Signature>, AllocError>
-    ensures { IfOk result (λ signatures. signatures.items ≡ map (λ k. signature_of (skeleton_view k.now)) candidates.now) }
+    ensures { IfOk result (λ signatures. signatures.items ≡ map (λ k. signature_of k.now) candidates.now) }
 {
     let mut signatures = Vec::new(alloc);
     for candidate in candidates {
@@ -31,7 +30,7 @@ fn is_instance(
 ) -> Result<bool, AllocError>
     requires instance_within { instance < length candidates.now }
     requires shape_within { shape < length candidates.now }
-    ensures { IfOk result (λ flag. IsTrue flag ↔ IsInstanceWithin (map (λ k. skeleton_view k.now) candidates.now) instance shape) }
+    ensures { IfOk result (λ flag. IsTrue flag ↔ IsInstanceWithin (map (λ k. k.now) candidates.now) instance shape) }
 {
     if shape == instance {
         return Ok(false);
@@ -53,9 +52,9 @@ fn row_of(
     signatures: &[Signature],
     instance: usize,
 ) -> Result<Vec<usize>, AllocError>
-    requires signatures { signatures.now ≡ map (λ k. signature_of (skeleton_view k.now)) candidates.now }
+    requires signatures { signatures.now ≡ map (λ k. signature_of k.now) candidates.now }
     requires within { instance < length candidates.now }
-    ensures { IfOk result (λ row. IsRowOf (map (λ k. skeleton_view k.now) candidates.now) instance row.items) }
+    ensures { IfOk result (λ row. IsRowOf (map (λ k. k.now) candidates.now) instance row.items) }
 {
     let own = &signatures[instance];
     let mut row = Vec::new(alloc);
@@ -73,7 +72,7 @@ fn row_of(
 
 /// For each candidate, the candidates of which it is an instance, in order.
 pub(crate) fn rows(alloc: Global, candidates: &[&Skeleton]) -> Result<Vec<Vec<usize>>, AllocError>
-    ensures { IfOk result (λ rows. AreEmbeddingRowsOf (map (λ k. skeleton_view k.now) candidates.now) (rows_view rows.items)) }
+    ensures { IfOk result (λ rows. AreEmbeddingRowsOf (map (λ k. k.now) candidates.now) (rows_view rows.items)) }
 {
     let signatures = signatures(alloc, candidates)?;
     let mut rows = Vec::new(alloc);

@@ -2,7 +2,6 @@
 ghost use Rattle.std.specs.Prelude.{◌≡◌, ℕ, List, map, IfOk};
 ghost use Rattle.cp_lists.specs.Lists.{item_at};
 ghost use Rattle.cp_model.specs.Skeleton as model;
-ghost use Rattle.cp_skel.specs.View.{skeleton_view};
 ghost use Rattle.cp_shapes.specs.Shapes.{AreShapeMarksOf};
 ghost use Rattle.cp_shapes.specs.Rows.{IsRowOf, AreEmbeddingRowsOf, is_empty_row, FindsShape, rows_view};
 
@@ -35,7 +34,7 @@ fn first_shape(rows: &[Vec<usize>], row: &[usize]) -> Option<usize>
 /// For each candidate the index of the first shape of which it is an instance; `None` exactly if it is a shape itself. A
 /// candidate is an instance of another that embeds in it, unless it embeds in that one too and comes first.
 pub fn shapes(alloc: Global, candidates: &[&Skeleton]) -> Result<Vec<Option<usize>>, AllocError>
-    ensures exact { IfOk result (λ marks. AreShapeMarksOf (map (λ k. skeleton_view k.now) candidates.now) marks.items) }
+    ensures exact { IfOk result (λ marks. AreShapeMarksOf (map (λ k. k.now) candidates.now) marks.items) }
 {
     let rows = rows(alloc, candidates)?;
     let mut marks = Vec::new(alloc);

@@ -6,38 +6,36 @@ use Rattle.cp_model.specs.Order.{ReachesAlong}
 use Rattle.cp_model.specs.Skeleton.{Skeleton, Before, IsOrderPair}
 use Rattle.cp_order.specs.Closed.{KeepsOrder}
 use Rattle.cp_order.specs.PredecessorNodes.{Target}
-use Rattle.cp_model.specs.Data.{SkeletonData}
 use Rattle.cp_skel.specs.Ordered.{IsOrdered, ordered_by}
 use Rattle.cp_skel.specs.Sound.{IsSound}
-use Rattle.cp_skel.specs.View.{skeleton_view}
 use Rattle.cp_skel.proofs.OrderKept.{leads_back, leads_not_back, more_ordered, kept_before}
 use Rattle.cp_skel.proofs.SoundSkeletons.{sound_ordered, added_sound}
 
-module _ (parts seen : SkeletonData) (same : parts ≡ seen) (sound : IsSound (skeleton_view parts)) (p : OrderPair) (fits : IsOrderPair (skeleton_view seen) p)
-    (leads : Bool) (l : Target) (pairs : List OrderPair) (gathered : l ≡ record { pairs = pairs; node = p.earlier }) (own : pairs ≡ parts.order) (has : (leads ≡ true) ↔ ReachesAlong l.pairs p.later l.node) where
+module _ (parts seen : Skeleton) (same : parts ≡ seen) (sound : IsSound parts) (p : OrderPair) (fits : IsOrderPair seen p)
+    (leads : Bool) (l : Target) (pairs : List OrderPair) (gathered : l ≡ record { pairs = pairs; node = p.earlier }) (own : pairs ≡ parts.pairs) (has : (leads ≡ true) ↔ ReachesAlong l.pairs p.later l.node) where
   abbrev k : Skeleton
-  k = skeleton_view parts
+  k = parts
 
   pair : IsOrderPair k p
-  pair = subst (λ d. IsOrderPair (skeleton_view d) p) (sym same) fits
+  pair = subst (λ d. IsOrderPair d p) (sym same) fits
 
-  told : (leads ≡ true) ↔ ReachesAlong parts.order p.later p.earlier
+  told : (leads ≡ true) ↔ ReachesAlong parts.pairs p.later p.earlier
   told = subst (λ (t : Target). (leads ≡ true) ↔ ReachesAlong t.pairs p.later t.node) (gathered ∙ ap (λ (ps : List OrderPair). record { pairs = ps; node = p.earlier }) own) has
 
   free : leads ≡ false → Before k p.later p.earlier → ⊥
   free = leads_not_back k p leads (sound_ordered k sound) pair told
 
-  pub is_back : leads ≡ true → Before (skeleton_view seen) p.later p.earlier
-  is_back h = subst (λ d. Before (skeleton_view d) p.later p.earlier) same (leads_back k p leads (sound_ordered k sound) pair told h)
+  pub is_back : leads ≡ true → Before seen p.later p.earlier
+  is_back h = subst (λ d. Before d p.later p.earlier) same (leads_back k p leads (sound_ordered k sound) pair told h)
 
-  pub not_back : leads ≡ false → Before (skeleton_view seen) p.later p.earlier → ⊥
-  not_back h b = free h (subst (λ d. Before (skeleton_view d) p.later p.earlier) (sym same) b)
+  pub not_back : leads ≡ false → Before seen p.later p.earlier → ⊥
+  not_back h b = free h (subst (λ d. Before d p.later p.earlier) (sym same) b)
 
-  pub sound_with : leads ≡ false → (new : List OrderPair) → KeepsOrder (p ∷ parts.order) new → IsSound (ordered_by k new)
+  pub sound_with : leads ≡ false → (new : List OrderPair) → KeepsOrder (p ∷ parts.pairs) new → IsSound (ordered_by k new)
   sound_with h new keeps = added_sound k p new pair (free h) keeps sound
 
-  pub before_with : leads ≡ false → (new : List OrderPair) → KeepsOrder (p ∷ parts.order) new → (x y : Node) → Before (ordered_by k new) x y ↔ Before (ordered_by (skeleton_view seen) (p ∷ (skeleton_view seen).pairs)) x y
+  pub before_with : leads ≡ false → (new : List OrderPair) → KeepsOrder (p ∷ parts.pairs) new → (x y : Node) → Before (ordered_by k new) x y ↔ Before (ordered_by seen (p ∷ seen.pairs)) x y
   before_with h new keeps =
       let more : IsOrdered (ordered_by k (p ∷ k.pairs)) = more_ordered k p (sound_ordered k sound) pair (free h) in
-      subst (λ d. (x y : Node) → Before (ordered_by k new) x y ↔ Before (ordered_by (skeleton_view d) (p ∷ (skeleton_view d).pairs)) x y) same
+      subst (λ d. (x y : Node) → Before (ordered_by k new) x y ↔ Before (ordered_by d (p ∷ d.pairs)) x y) same
       (kept_before (ordered_by k (p ∷ k.pairs)) more new keeps)

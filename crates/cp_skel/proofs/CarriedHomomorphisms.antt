@@ -4,11 +4,13 @@ use Rattle.std.proofs.Common.{◌≡◌, ◌≢◌, ◌⊎◌, inl, inr, ℕ, ze
 use Rattle.std.specs.Prelude.{Some}
 use Rattle.std.proofs.lemmas.Bool.{cases_eq}
 use Rattle.cp_lists.specs.Lists.{item_at, IsIn, there, one_step, more_steps}
-use Rattle.cp_model.specs.Term.{AtomTerm, Term, Substitution, apply_to, apply_to_atom, AgreeOnTerms}
+use Rattle.cp_model.specs.Term.{AtomTerm, Term, apply_to, apply_to_atom, AgreeOnTerms}
+use Rattle.cp_model.specs.Bindings.{Binding, as_substitution}
+use Rattle.cp_model.specs.declared.variable.Declaration.{Declaration}
 use Rattle.cp_model.specs.Strand.{Role, Protocol, variables_of_prefix}
 use Rattle.cp_model.specs.Bundle.{node_at}
 use Rattle.cp_model.specs.declared.node.Node.{Node}
-use Rattle.cp_model.specs.Skeleton.{SkeletonStrand, instance, listener, UniqueAt, Assumptions, FromProblem, Skeleton, OrderStep, along_strand_of, along_pair, Before, IsOrderPair, IsOrigin, GivesAssumptions, IsSkeleton}
+use Rattle.cp_model.specs.Skeleton.{SkeletonStrand, instance, listener, UniqueAt, Assumptions, FromProblem, Skeleton, skeleton_of, OrderStep, along_strand_of, along_pair, Before, IsOrderPair, IsOrigin, GivesAssumptions, IsSkeleton}
 use Rattle.cp_model.specs.declared.node.OrderPair.{OrderPair}
 use Rattle.cp_model.specs.Homomorphism.{SkeletonMap, mapped, GoesToInstance, IsHomomorphism, substitution_by, strand_in, map_from_problem, CarriesHomomorphism}
 use Rattle.cp_model.specs.Stated.{KeepsStated}
@@ -21,7 +23,7 @@ use Rattle.cp_model.specs.Extensions.{AddsListener, AddsStrand, CanExtend, Exten
 use Rattle.cp_skel.specs.Ordered.{IsOrdered, ordered_by, DiffersInOrder}
 use Rattle.cp_skel.specs.KeptByChanges.{KeptByChanges}
 use Rattle.cp_skel.specs.Sound.{IsSound}
-use Rattle.cp_strand.specs.Declares.{DeclaresItsVariables}
+use Rattle.cp_model.specs.Declares.{DeclaresItsVariables}
 use Rattle.cp_skel.proofs.Grown.{Grows}
 use Rattle.cp_skel.proofs.OrderKept.{more_ordered}
 use Rattle.cp_skel.proofs.StaySkeletons.{stays, appended-grows, extended-grows}
@@ -30,8 +32,8 @@ use Rattle.cp_skel.proofs.StaySkeletons.{stays, appended-grows, extended-grows}
 
 -- What one skeleton says another says too, at the same strands, and with the same way from the problem.
 pub record SaysMore (old new : Skeleton) : Type 0 where
-  pub instances : (s : ℕ) (role : Role) (height : ℕ) (terms : Substitution) → item_at old.strands s ≡ Some (instance role height terms) →
-      (h : ℕ) × (ts : Substitution) × (item_at new.strands s ≡ Some (instance role h ts)) × (height ≤ h) × AgreeOnTerms (variables_of_prefix role height) terms ts
+  pub instances : (s : ℕ) (role : Role) (height : ℕ) (terms : List Binding) → item_at old.strands s ≡ Some (instance role height terms) →
+      (h : ℕ) × (ts : List Binding) × (item_at new.strands s ≡ Some (instance role h ts)) × (height ≤ h) × AgreeOnTerms (variables_of_prefix role height) (as_substitution terms) (as_substitution ts)
   pub listeners : (s : ℕ) (t : Term) → item_at old.strands s ≡ Some (listener t) → item_at new.strands s ≡ Some (listener t)
   pub ordered : (x y : Node) → Before old x y → Before new x y
   pub non : (v : AtomTerm) → IsIn v old.assumptions.non_originating → IsIn v new.assumptions.non_originating
@@ -43,7 +45,7 @@ module _ (problem old new : Skeleton) (more : SaysMore old new) (carries : Carri
   abbrev f : SkeletonMap
   f = map_from_problem old
 
-  instance_goes : (s : ℕ) (role : Role) (height : ℕ) (terms : Substitution) → item_at problem.strands s ≡ Some (instance role height terms) → GoesToInstance new f s role height terms
+  instance_goes : (s : ℕ) (role : Role) (height : ℕ) (terms : List Binding) → item_at problem.strands s ≡ Some (instance role height terms) → GoesToInstance new f s role height terms
   instance_goes s role height terms at =
       let first = carries.homomorphism.instances s role height terms at in
       let second = more.instances (f.strands s) role first.to_height first.to_terms first.on_instance in
@@ -120,7 +122,7 @@ module _ (old new : Skeleton) (grows : Grows old new) where
 adds_keeps : {A : Type 0} {P : A → Type 0} {old new : List A} → AddsOnce P old new → (x : A) → IsIn x old → IsIn x new
 adds_keeps a x i = subst (IsIn x) (sym a.behind) (in_append_left a.more i)
 
-agree_itself : (role : Role) (height : ℕ) (terms : Substitution) → AgreeOnTerms (variables_of_prefix role height) terms terms
+agree_itself : (role : Role) (height : ℕ) (terms : List Binding) → AgreeOnTerms (variables_of_prefix role height) (as_substitution terms) (as_substitution terms)
 agree_itself role height terms x i = refl
 
 pub listener_says_more : (t : Term) (old new : Skeleton) → AddsListener t old new → SaysMore old new
@@ -153,26 +155,26 @@ strand_says_more role height values old new adds =
 
 module _ (s height : ℕ) (values : List Term) (old new : Skeleton) (x : Extends s height values old new) where
   module _ (higher : x.before ≤ height) where
-    only : (before : ℕ) (role : Role) (terms : Substitution) → item_at old.strands s ≡ Some (instance role before terms) → before ≤ height
+    only : (before : ℕ) (role : Role) (terms : List Binding) → item_at old.strands s ≡ Some (instance role before terms) → before ≤ height
     only before role terms at =
         let both : Some (instance x.role x.before x.old_terms) ≡ Some (instance role before terms) = sym x.was_instance ∙ at in
         let same : x.before ≡ before = cc in
         subst (λ n. n ≤ height) same higher
 
-    instance_more : (t : ℕ) (role : Role) (h : ℕ) (ts : Substitution) → (t ≡ s) ⊎ (t ≢ s) → item_at old.strands t ≡ Some (instance role h ts) →
-        (h' : ℕ) × (ts' : Substitution) × (item_at new.strands t ≡ Some (instance role h' ts')) × (h ≤ h') × AgreeOnTerms (variables_of_prefix role h) ts ts'
+    instance_more : (t : ℕ) (role : Role) (h : ℕ) (ts : List Binding) → (t ≡ s) ⊎ (t ≢ s) → item_at old.strands t ≡ Some (instance role h ts) →
+        (h' : ℕ) × (ts' : List Binding) × (item_at new.strands t ≡ Some (instance role h' ts')) × (h ≤ h') × AgreeOnTerms (variables_of_prefix role h) (as_substitution ts) (as_substitution ts')
     instance_more t role h ts (inl is_s) at =
         let both : Some (instance x.role x.before x.old_terms) ≡ Some (instance role h ts) = sym x.was_instance ∙ ap (item_at old.strands) (sym is_s) ∙ at in
         let same_role : x.role ≡ role = cc in
         let same_height : x.before ≡ h = cc in
         let same_terms : x.old_terms ≡ ts = cc in
-        let one : AgreeOnTerms (variables_of_prefix role x.before) x.old_terms x.terms = subst (λ (r : Role). AgreeOnTerms (variables_of_prefix r x.before) x.old_terms x.terms) same_role x.keeps in
-        let two : AgreeOnTerms (variables_of_prefix role h) x.old_terms x.terms = subst (λ (n : ℕ). AgreeOnTerms (variables_of_prefix role n) x.old_terms x.terms) same_height one in (
+        let one : AgreeOnTerms (variables_of_prefix role x.before) (as_substitution x.old_terms) (as_substitution x.terms) = subst (λ (r : Role). AgreeOnTerms (variables_of_prefix r x.before) (as_substitution x.old_terms) (as_substitution x.terms)) same_role x.keeps in
+        let two : AgreeOnTerms (variables_of_prefix role h) (as_substitution x.old_terms) (as_substitution x.terms) = subst (λ (n : ℕ). AgreeOnTerms (variables_of_prefix role n) (as_substitution x.old_terms) (as_substitution x.terms)) same_height one in (
           height,
           x.terms,
           ap (item_at new.strands) is_s ∙ x.on_instance ∙ ap (λ (r : Role). Some (instance r height x.terms)) same_role,
           subst (λ n. n ≤ height) same_height higher,
-          subst (λ (d : Substitution). AgreeOnTerms (variables_of_prefix role h) d x.terms) same_terms two,
+          subst (λ (d : List Binding). AgreeOnTerms (variables_of_prefix role h) (as_substitution d) (as_substitution x.terms)) same_terms two,
         )
     instance_more t role h ts (inr other) at = (h, ts, x.others t other ∙ at, le_refl h, agree_itself role h ts)
 
@@ -240,15 +242,19 @@ kept_by_changes P keeps = record {
 
 -- ---- skeletons over a protocol
 
-module _ (protocol : Protocol) (k : Skeleton) (is : IsSkeleton protocol k) (pairs : List OrderPair) where
-  origin_too : (u : UniqueAt) → IsOrigin k u → IsOrigin (ordered_by k pairs) u
+module _ (protocol : Protocol) (k : Skeleton) (is : IsSkeleton protocol k) (variables : List Declaration) (pairs : List OrderPair) where
+  -- The skeleton with this table and these pairs.
+  abbrev with_both : Skeleton
+  with_both = skeleton_of variables k.strands pairs k.assumptions k.from_problem
+
+  origin_too : (u : UniqueAt) → IsOrigin k u → IsOrigin with_both u
   origin_too u o = record { role = o.role; height = o.height; terms = o.terms; on_instance = o.on_instance; sent = o.sent; transmission = o.transmission; carried = o.carried }
 
-  given_too : (s : ℕ) (role : Role) (height : ℕ) (terms : Substitution) → GivesAssumptions k s role height terms → GivesAssumptions (ordered_by k pairs) s role height terms
+  given_too : (s : ℕ) (role : Role) (height : ℕ) (terms : List Binding) → GivesAssumptions k s role height terms → GivesAssumptions with_both s role height terms
   given_too s role height terms g = record { non = g.non; penetrator_non = g.penetrator_non; unique = g.unique }
 
-  pub ordered_is_skeleton : IsOrdered (ordered_by k pairs) → IsSkeleton protocol (ordered_by k pairs)
-  ordered_is_skeleton ordered = record {
+  both_is_skeleton : IsOrdered with_both → IsSkeleton protocol with_both
+  both_is_skeleton ordered = record {
     of_role = is.of_role;
     heights = is.heights;
     order_pairs = ordered.order_pairs;
@@ -257,10 +263,14 @@ module _ (protocol : Protocol) (k : Skeleton) (is : IsSkeleton protocol k) (pair
     given = λ s role height terms at. given_too s role height terms (is.given s role height terms at);
   }
 
+pub ordered_is_skeleton : (protocol : Protocol) (k : Skeleton) → IsSkeleton protocol k → (pairs : List OrderPair) → IsOrdered (ordered_by k pairs) → IsSkeleton protocol (ordered_by k pairs)
+ordered_is_skeleton protocol k is pairs ordered = both_is_skeleton protocol k is k.variables pairs ordered
+
 pub reordered_stays_skeleton : (protocol : Protocol) (old new : Skeleton) → IsSkeleton protocol old → DiffersInOrder old new → IsOrdered new → IsSkeleton protocol new
 reordered_stays_skeleton protocol old new is same ordered =
-    let whole : ordered_by old new.pairs ≡ new = sym (λ i. record { strands = same.strands i; pairs = new.pairs; assumptions = same.assumptions i; from_problem = same.from_problem i }) in
-    subst (IsSkeleton protocol) whole (ordered_is_skeleton protocol old is new.pairs (subst IsOrdered (sym whole) ordered))
+    let whole : skeleton_of new.variables old.strands new.pairs old.assumptions old.from_problem ≡ new =
+    sym (λ i. record { variables = new.variables; strands = same.strands i; pairs = new.pairs; assumptions = same.assumptions i; from_problem = same.from_problem i }) in
+    subst (IsSkeleton protocol) whole (both_is_skeleton protocol old is new.variables new.pairs (subst IsOrdered (sym whole) ordered))
 
 pub pair_stays_skeleton : (protocol : Protocol) (k : Skeleton) (p : OrderPair) → IsSkeleton protocol k → IsOrderPair k p → (Before k p.later p.earlier → ⊥) → IsSkeleton protocol (ordered_by k (p ∷ k.pairs))
 pair_stays_skeleton protocol k p is pair free = ordered_is_skeleton protocol k is (p ∷ k.pairs) (more_ordered k p (record { order_pairs = is.order_pairs; no_cycle = is.no_cycle }) pair free)

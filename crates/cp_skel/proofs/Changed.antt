@@ -1,11 +1,11 @@
 -- Skeletons with a strand more, and with a longer strand, as they are made.
-use Rattle.std.proofs.Common.{◌≡◌, ◌≢◌, ℕ, zero, suc, ◌<◌, ◌≤◌, List, [], ◌∷◌, ◌++◌, length, set, map, refl, sym, ap, ◌∙◌, subst, arith}
+use Rattle.std.proofs.Common.{◌≡◌, ◌≢◌, ℕ, zero, suc, ◌<◌, ◌≤◌, List, [], ◌∷◌, ◌++◌, length, set, refl, sym, ap, ◌∙◌, subst, arith}
 use Rattle.std.specs.Prelude.{Some}
 use Rattle.cp_lists.specs.Lists.{item_at}
 use Rattle.cp_model.specs.Term.{Term, AgreeOnTerms}
+use Rattle.cp_model.specs.Bindings.{as_substitution, bindings_of}
 use Rattle.cp_model.specs.Strand.{Role, variables_of_prefix}
 use Rattle.cp_model.specs.Skeleton.{SkeletonStrand, instance, Assumptions, Skeleton}
-use Rattle.cp_model.specs.Homomorphism.{substitution_by}
 use Rattle.cp_model.specs.GivenAssumptions.{AddsGiven}
 use Rattle.cp_skel.specs.JoinedAssumptions.{joined_assumptions}
 use Rattle.cp_model.specs.PrefixVariables.{prefix_variables, is_added, added_variables, AreTermsFor, terms_of}
@@ -18,35 +18,35 @@ made role before height old values = valued (is_added (variables_of_prefix role 
 
 module _ (old : Skeleton) (role r : Role) (height h : ℕ) (values ts : List Term) (more reserved joint : Assumptions) (same_role : r ≡ role) (same_height : h ≡ height)
     (kept : reserved ≡ old.assumptions) (all : joint ≡ joined_assumptions reserved more) where
-  given : (s : ℕ) → AddsGiven r h (substitution_by ts) s old.assumptions (joined_assumptions old.assumptions more) → AddsGiven role height (substitution_by ts) s old.assumptions joint
+  given : (s : ℕ) → AddsGiven r h (bindings_of ts) s old.assumptions (joined_assumptions old.assumptions more) → AddsGiven role height (bindings_of ts) s old.assumptions joint
   given s g =
       let whole : joined_assumptions old.assumptions more ≡ joint = sym (all ∙ ap (λ a. joined_assumptions a more) kept) in
-      subst (AddsGiven role height (substitution_by ts) s old.assumptions) whole
-      (subst (λ k. AddsGiven role k (substitution_by ts) s old.assumptions (joined_assumptions old.assumptions more)) same_height
-      (subst (λ q. AddsGiven q h (substitution_by ts) s old.assumptions (joined_assumptions old.assumptions more)) same_role g))
+      subst (AddsGiven role height (bindings_of ts) s old.assumptions) whole
+      (subst (λ k. AddsGiven role k (bindings_of ts) s old.assumptions (joined_assumptions old.assumptions more)) same_height
+      (subst (λ q. AddsGiven q h (bindings_of ts) s old.assumptions (joined_assumptions old.assumptions more)) same_role g))
 
   pub strand-added : (strands : List SkeletonStrand) (before : List Term) (n : ℕ) → ts ≡ made role 0 height before values → AreTermsFor (prefix_variables role height) values →
-      strands ≡ old.strands ++ instance r h (substitution_by ts) ∷ [] → n ≡ length old.strands →
-      AddsGiven r h (substitution_by ts) n old.assumptions (joined_assumptions old.assumptions more) →
-      AddsStrand role height values old (record { strands = strands; pairs = old.pairs; assumptions = joint; from_problem = old.from_problem })
+      strands ≡ old.strands ++ instance r h (bindings_of ts) ∷ [] → n ≡ length old.strands →
+      AddsGiven r h (bindings_of ts) n old.assumptions (joined_assumptions old.assumptions more) →
+      AddsStrand role height values old (record { variables = old.variables; strands = strands; pairs = old.pairs; assumptions = joint; from_problem = old.from_problem })
   strand-added strands before n is fit behind number g = record {
-    terms = substitution_by ts;
-    gives = ap (λ us. terms_of (substitution_by us) (prefix_variables role height)) is
-        ∙ ap (terms_of (substitution_by (made role 0 height before values))) (sym (all-added role height))
+    terms = bindings_of ts;
+    gives = ap (λ us. terms_of (as_substitution (bindings_of us)) (prefix_variables role height)) is
+        ∙ ap (terms_of (as_substitution (bindings_of (made role 0 height before values)))) (sym (all-added role height))
         ∙ value-terms (is_added (variables_of_prefix role 0) (variables_of_prefix role height)) before role.variables values (subst (λ xs. AreTermsFor xs values) (sym (all-added role height)) fit);
-    strands = behind ∙ ap (λ q. old.strands ++ instance q h (substitution_by ts) ∷ []) same_role ∙ ap (λ k. old.strands ++ instance role k (substitution_by ts) ∷ []) same_height;
+    strands = behind ∙ ap (λ q. old.strands ++ instance q h (bindings_of ts) ∷ []) same_role ∙ ap (λ k. old.strands ++ instance role k (bindings_of ts) ∷ []) same_height;
     pairs = refl;
-    assumptions = subst (λ m. AddsGiven role height (substitution_by ts) m old.assumptions joint) number (given n g);
+    assumptions = subst (λ m. AddsGiven role height (bindings_of ts) m old.assumptions joint) number (given n g);
     from_problem = refl;
   }
 
   pub strand-extended : (strands : List SkeletonStrand) (s before : ℕ) (terms : List Term) (can : CanExtend old s height values) → IsClosedPrefix can.role height →
-      item_at old.strands s ≡ Some (instance role before (substitution_by terms)) → ts ≡ made role before height terms values →
-      item_at strands s ≡ Some (instance r h (substitution_by ts)) → ((t : ℕ) → t ≢ s → item_at strands t ≡ item_at old.strands t) →
-      AddsGiven r h (substitution_by ts) s old.assumptions (joined_assumptions old.assumptions more) →
-      Extends s height values old (record { strands = strands; pairs = old.pairs; assumptions = joint; from_problem = old.from_problem })
+      item_at old.strands s ≡ Some (instance role before (bindings_of terms)) → ts ≡ made role before height terms values →
+      item_at strands s ≡ Some (instance r h (bindings_of ts)) → ((t : ℕ) → t ≢ s → item_at strands t ≡ item_at old.strands t) →
+      AddsGiven r h (bindings_of ts) s old.assumptions (joined_assumptions old.assumptions more) →
+      Extends s height values old (record { variables = old.variables; strands = strands; pairs = old.pairs; assumptions = joint; from_problem = old.from_problem })
   strand-extended strands s before terms can declared was is on others g =
-      let both : Some (instance can.role can.before can.terms) ≡ Some (instance role before (substitution_by terms)) = sym can.on_instance ∙ was in
+      let both : Some (instance can.role can.before can.terms) ≡ Some (instance role before (bindings_of terms)) = sym can.on_instance ∙ was in
       let role_is : can.role ≡ role = cc in
       let before_is : can.before ≡ before = cc in
       let closed : IsClosedPrefix role height = subst (λ q. IsClosedPrefix q height) role_is declared in
@@ -56,12 +56,12 @@ module _ (old : Skeleton) (role r : Role) (height h : ℕ) (values ts : List Ter
       record {
         role = role;
         before = before;
-        old_terms = substitution_by terms;
+        old_terms = bindings_of terms;
         was_instance = was;
-        terms = substitution_by ts;
-        on_instance = on ∙ ap (λ q. Some (instance q h (substitution_by ts))) same_role ∙ ap (λ k. Some (instance role k (substitution_by ts))) same_height;
-        keeps = subst (λ us. AgreeOnTerms (variables_of_prefix role before) (substitution_by terms) (substitution_by us)) (sym is) (keeps-terms role before height terms values higher closed);
-        gives = ap (λ us. terms_of (substitution_by us) (added_variables role before height)) is
+        terms = bindings_of ts;
+        on_instance = on ∙ ap (λ q. Some (instance q h (bindings_of ts))) same_role ∙ ap (λ k. Some (instance role k (bindings_of ts))) same_height;
+        keeps = subst (λ us. AgreeOnTerms (variables_of_prefix role before) (as_substitution (bindings_of terms)) (as_substitution (bindings_of us))) (sym is) (keeps-terms role before height terms values higher closed);
+        gives = ap (λ us. terms_of (as_substitution (bindings_of us)) (added_variables role before height)) is
             ∙ value-terms (is_added (variables_of_prefix role before) (variables_of_prefix role height)) terms role.variables values fit;
         others = others;
         pairs = refl;
@@ -71,14 +71,14 @@ module _ (old : Skeleton) (role r : Role) (height h : ℕ) (values ts : List Ter
 
 -- ---- a list in which one item is another
 
-pub set-there : {A B : Type 0} (f : A → B) (xs : List A) (i : ℕ) (y : A) → i < length xs → item_at (map f (set xs i y)) i ≡ Some (f y)
-set-there f [] i y lt = absurd (omega arith)
-set-there f (x ∷ xs) zero y lt = refl
-set-there f (x ∷ xs) (suc i) y lt = set-there f xs i y (omega arith)
+pub set-there : {A : Type 0} (xs : List A) (i : ℕ) (y : A) → i < length xs → item_at (set xs i y) i ≡ Some y
+set-there [] i y lt = absurd (omega arith)
+set-there (x ∷ xs) zero y lt = refl
+set-there (x ∷ xs) (suc i) y lt = set-there xs i y (omega arith)
 
-pub set-elsewhere : {A B : Type 0} (f : A → B) (xs : List A) (i : ℕ) (y : A) (j : ℕ) → j ≢ i → item_at (map f (set xs i y)) j ≡ item_at (map f xs) j
-set-elsewhere f [] i y j other = refl
-set-elsewhere f (x ∷ xs) zero y zero other = absurd (other refl)
-set-elsewhere f (x ∷ xs) zero y (suc j) other = refl
-set-elsewhere f (x ∷ xs) (suc i) y zero other = refl
-set-elsewhere f (x ∷ xs) (suc i) y (suc j) other = set-elsewhere f xs i y j (λ e. other (ap suc e))
+pub set-elsewhere : {A : Type 0} (xs : List A) (i : ℕ) (y : A) (j : ℕ) → j ≢ i → item_at (set xs i y) j ≡ item_at xs j
+set-elsewhere [] i y j other = refl
+set-elsewhere (x ∷ xs) zero y zero other = absurd (other refl)
+set-elsewhere (x ∷ xs) zero y (suc j) other = refl
+set-elsewhere (x ∷ xs) (suc i) y zero other = refl
+set-elsewhere (x ∷ xs) (suc i) y (suc j) other = set-elsewhere xs i y j (λ e. other (ap suc e))

@@ -4,6 +4,7 @@ use Rattle.std.specs.Prelude.{Some}
 use Rattle.std.proofs.lemmas.Bool.{cases_eq}
 use Rattle.cp_lists.specs.Lists.{item_at, IsIn, here, there}
 use Rattle.cp_model.specs.Term.{AtomTerm, Term, variable_term, variables_of_atom, variables_of, Substitution, apply_to}
+use Rattle.cp_model.specs.Bindings.{Binding, as_substitution}
 use Rattle.cp_model.specs.declared.variable.Variable.{Variable}
 use Rattle.cp_model.specs.Strand.{Role, prefix_of, variables_of_trace, variables_of_prefix}
 use Rattle.cp_model.specs.declared.variable.Declaration.{Declaration}
@@ -57,16 +58,16 @@ module _ (ds : List Declaration) where
 
   -- ---- what an instance has
 
-  module _ (role : Role) (height : ℕ) (terms : Substitution) (each : (z : Variable) → IsIn z (variables_of_prefix role height) → (y : Variable) → IsIn y (variables_of (apply_to terms (variable_term z))) → IsOne y) where
+  module _ (role : Role) (height : ℕ) (terms : List Binding) (each : (z : Variable) → IsIn z (variables_of_prefix role height) → (y : Variable) → IsIn y (variables_of (apply_to (as_substitution terms) (variable_term z))) → IsOne y) where
     instance_declared : (y : Variable) → IsIn y (variables_of_trace (skeleton_trace (instance role height terms))) → IsOne y
-    instance_declared = of_trace IsOne terms (prefix_of role height) each
+    instance_declared = of_trace IsOne (as_substitution terms) (prefix_of role height) each
 
     given_declared : (stated : List AtomTerm) (v : AtomTerm) → IsGivenFrom stated role height terms v → (y : Variable) → IsIn y (variables_of_atom v) → IsOne y
-    given_declared stated v g y i = of_atom IsOne terms g.atom (λ z m. each z (g.applies z m)) y (subst (λ (w : AtomTerm). IsIn y (variables_of_atom w)) g.same i)
+    given_declared stated v g y i = of_atom IsOne (as_substitution terms) g.atom (λ z m. each z (g.applies z m)) y (subst (λ (w : AtomTerm). IsIn y (variables_of_atom w)) g.same i)
 
     origin_declared : (stated : List AtomTerm) (s : ℕ) (u : UniqueAt) → IsOriginFrom stated role height terms s u → (y : Variable) → IsIn y (variables_of_atom u.value) → IsOne y
     origin_declared stated s u g y i =
-        of_atom IsOne terms g.atom (λ z m. each z (applies_at role height g.atom g.index g.applies z m)) y (subst (λ (w : UniqueAt). IsIn y (variables_of_atom w.value)) g.same i)
+        of_atom IsOne (as_substitution terms) g.atom (λ z m. each z (applies_at role height g.atom g.index g.applies z m)) y (subst (λ (w : UniqueAt). IsIn y (variables_of_atom w.value)) g.same i)
 
     grown_assumptions : (s : ℕ) (old new : Assumptions) → AddsGiven role height terms s old new → ((x : Variable) → IsIn x (variables_of_assumptions old) → IsOne x) → (x : Variable) → IsIn x (variables_of_assumptions new) → IsOne x
     grown_assumptions s old new a before x i =
@@ -126,23 +127,23 @@ module _ (ds : List Declaration) where
       by_parts old new h adds.from_problem (behind old new h adds.from_problem (instance role height adds.terms) adds.strands (instance_declared role height adds.terms each))
       (grown_assumptions role height adds.terms each (length old.strands) old.assumptions new.assumptions adds.assumptions (old_assumptions old new h adds.from_problem))
     where
-      each : (z : Variable) → IsIn z (variables_of_prefix role height) → (y : Variable) → IsIn y (variables_of (apply_to adds.terms (variable_term z))) → IsOne y
+      each : (z : Variable) → IsIn z (variables_of_prefix role height) → (y : Variable) → IsIn y (variables_of (apply_to (as_substitution adds.terms) (variable_term z))) → IsOne y
       each z i y j =
-          of_values (apply_to adds.terms (variable_term z)) y
-          (subst (IsIn (apply_to adds.terms (variable_term z))) adds.gives (in_terms adds.terms (prefix_variables role height) z ((in-prefix role z height).1 (closed z i, i)))) j
+          of_values (apply_to (as_substitution adds.terms) (variable_term z)) y
+          (subst (IsIn (apply_to (as_substitution adds.terms) (variable_term z))) adds.gives (in_terms (as_substitution adds.terms) (prefix_variables role height) z ((in-prefix role z height).1 (closed z i, i)))) j
 
   module _ (s height : ℕ) (values : List Term) (old new : Skeleton) (x : Extends s height values old new) (closed : IsClosedPrefix x.role height) (of_values : AreOfDeclared values) (h : HasDeclaredVariables ds old) where
-    of_old : (z : Variable) → IsIn z (variables_of_prefix x.role x.before) → (y : Variable) → IsIn y (variables_of (apply_to x.terms (variable_term z))) → IsOne y
+    of_old : (z : Variable) → IsIn z (variables_of_prefix x.role x.before) → (y : Variable) → IsIn y (variables_of (apply_to (as_substitution x.terms) (variable_term z))) → IsOne y
     of_old z i y j =
         old_strand old new h x.from_problem s (instance x.role x.before x.old_terms) x.was_instance y
-        (in_trace_under x.old_terms (prefix_of x.role x.before) z y i (subst (λ (t : Term). IsIn y (variables_of t)) (sym (x.keeps z i)) j))
+        (in_trace_under (as_substitution x.old_terms) (prefix_of x.role x.before) z y i (subst (λ (t : Term). IsIn y (variables_of t)) (sym (x.keeps z i)) j))
 
-    of_new : (z : Variable) → IsIn z (variables_of_prefix x.role height) → (IsIn z (variables_of_prefix x.role x.before) → ⊥) → (y : Variable) → IsIn y (variables_of (apply_to x.terms (variable_term z))) → IsOne y
+    of_new : (z : Variable) → IsIn z (variables_of_prefix x.role height) → (IsIn z (variables_of_prefix x.role x.before) → ⊥) → (y : Variable) → IsIn y (variables_of (apply_to (as_substitution x.terms) (variable_term z))) → IsOne y
     of_new z i never y j =
-        of_values (apply_to x.terms (variable_term z)) y
-        (subst (IsIn (apply_to x.terms (variable_term z))) x.gives (in_terms x.terms (added_variables x.role x.before height) z ((in-added x.role z x.before height).1 (closed z i, i, never)))) j
+        of_values (apply_to (as_substitution x.terms) (variable_term z)) y
+        (subst (IsIn (apply_to (as_substitution x.terms) (variable_term z))) x.gives (in_terms (as_substitution x.terms) (added_variables x.role x.before height) z ((in-added x.role z x.before height).1 (closed z i, i, never)))) j
 
-    each_term : (z : Variable) → IsIn z (variables_of_prefix x.role height) → (y : Variable) → IsIn y (variables_of (apply_to x.terms (variable_term z))) → IsOne y
+    each_term : (z : Variable) → IsIn z (variables_of_prefix x.role height) → (y : Variable) → IsIn y (variables_of (apply_to (as_substitution x.terms) (variable_term z))) → IsOne y
     each_term z i y j = by_test (has_variable (variables_of_prefix x.role x.before) z) refl
       where
         by_test : (b : Bool) → has_variable (variables_of_prefix x.role x.before) z ≡ b → IsOne y

@@ -1,18 +1,19 @@
 -- What strands give, and what is forgotten with one of them.
-use Rattle.std.proofs.Common.{◌≡◌, ◌≢◌, ◌↔◌, ◌⊎◌, inl, inr, ℕ, zero, suc, ◌+◌, ◌<◌, List, [], ◌∷◌, ◌++◌, map, take, length, get_or, refl, sym, ap, ◌∙◌, subst, Some, None, arith}
-use Rattle.std.proofs.lemmas.List.{map_more}
+use Rattle.std.proofs.Common.{◌≡◌, ◌≢◌, ◌↔◌, ◌⊎◌, inl, inr, ℕ, zero, suc, ◌+◌, ◌<◌, List, [], ◌∷◌, ◌++◌, take, length, get_or, refl, sym, ap, ◌∙◌, subst, Some, None, arith}
+use Rattle.cp_lists.proofs.Fronts.{take_next}
 use Rattle.cp_lists.specs.Lists.{item_at, IsIn}
-use Rattle.cp_model.specs.Term.{AtomTerm, Substitution}
+use Rattle.cp_model.specs.Term.{AtomTerm}
+use Rattle.cp_model.specs.Bindings.{Binding}
 use Rattle.cp_model.specs.Strand.{Role}
 use Rattle.cp_model.specs.Skeleton.{SkeletonStrand, instance}
 use Rattle.cp_lists.proofs.Members.{in_append, in_append_left, none_in_empty}
-use Rattle.cp_lists.proofs.Items.{item_still, item_last, item_of_push, map_of_read}
+use Rattle.cp_lists.proofs.Items.{item_still, item_last, item_of_push, item_of_read}
 use Rattle.cp_model.specs.GivenAssumptions.{IsGivenFrom, AddsOnce}
 use Rattle.cp_skel.specs.Kinds.{IsInFirstAlone}
 use Rattle.cp_skel.specs.Deletion.{LeavesOut, all_left, is_gone, is_left, GivesFrom, IsStatedAt, IsGivenElsewhere, IsForgotten}
 
 -- What an instance gives is added to what was given.
-pub adds_given : (stated : Role → List AtomTerm) (strand : SkeletonStrand) (role : Role) (height : ℕ) (terms : Substitution) (xs old more : List AtomTerm) →
+pub adds_given : (stated : Role → List AtomTerm) (strand : SkeletonStrand) (role : Role) (height : ℕ) (terms : List Binding) (xs old more : List AtomTerm) →
     strand ≡ instance role height terms → xs ≡ stated role → AddsOnce (IsGivenFrom xs role height terms) old (old ++ more) →
     (v : AtomTerm) → IsIn v (old ++ more) ↔ (IsIn v old ⊎ GivesFrom stated strand v)
 adds_given stated strand role height terms xs old more is same a v = (
@@ -80,39 +81,39 @@ leaves_same gone other form [] ys same all_left = all_left
 leaves_same gone other form (x ∷ xs) ys same (is_gone g l) = is_gone ((same x).0 g) (leaves_same gone other form xs ys same l)
 leaves_same gone other form (x ∷ xs) ys same (is_left {ys = zs} g l) = is_left (λ o. g ((same x).1 o)) (leaves_same gone other form xs zs same l)
 
-length_taken : {A : Type 0} (view : A → SkeletonStrand) (xs : List A) (i : ℕ) → i < length xs → length (map view (take i xs)) ≡ i
-length_taken view [] i l = absurd (omega arith)
-length_taken view (x ∷ xs) zero l = refl
-length_taken view (x ∷ xs) (suc i) l = ap suc (length_taken view xs i (omega arith))
+length_taken : (xs : List SkeletonStrand) (i : ℕ) → i < length xs → length (take i xs) ≡ i
+length_taken [] i l = absurd (omega arith)
+length_taken (x ∷ xs) zero l = refl
+length_taken (x ∷ xs) (suc i) l = ap suc (length_taken xs i (omega arith))
 
 -- A loop over strands that gathers what those that are not number d give, as far as place i.
-module _ {A : Type 0} (view : A → SkeletonStrand) (stated : Role → List AtomTerm) (d : ℕ) (xs : List A) (i : ℕ) (x : A) where
-  next : i < length xs → x ≡ get_or xs i x → map view (take i xs) ++ view x ∷ [] ≡ map view (take (i + 1) xs)
-  next l e = sym (map_more view xs i x l ∙ ap (λ (z : A). map view (take i xs) ++ view z ∷ []) (sym e))
+module _ (stated : Role → List AtomTerm) (d : ℕ) (xs : List SkeletonStrand) (i : ℕ) (x : SkeletonStrand) where
+  next : i < length xs → x ≡ get_or xs i x → take i xs ++ x ∷ [] ≡ take (i + 1) xs
+  next l e = take_next xs i x (item_of_read xs i x l e)
 
   pub next_passed : (given : List AtomTerm) → i < length xs → x ≡ get_or xs i x → i ≡ d →
-      ((v : AtomTerm) → IsIn v given ↔ IsGivenElsewhere stated (map view (take i xs)) d v) → (v : AtomTerm) → IsIn v given ↔ IsGivenElsewhere stated (map view (take (i + 1) xs)) d v
+      ((v : AtomTerm) → IsIn v given ↔ IsGivenElsewhere stated (take i xs) d v) → (v : AtomTerm) → IsIn v given ↔ IsGivenElsewhere stated (take (i + 1) xs) d v
   next_passed given l e same inv v =
-      let p = passed_over stated d v (map view (take i xs)) (view x) (length_taken view xs i l ∙ same) in (
+      let p = passed_over stated d v (take i xs) x (length_taken xs i l ∙ same) in (
         λ h. subst (λ ys. IsGivenElsewhere stated ys d v) (next l e) (p.0 ((inv v).0 h)),
         λ g. (inv v).1 (p.1 (subst (λ ys. IsGivenElsewhere stated ys d v) (sym (next l e)) g)),
       )
 
   pub next_taken : (given base more new : List AtomTerm) → i < length xs → x ≡ get_or xs i x → i ≢ d → base ≡ given → new ≡ given ++ more →
-      ((v : AtomTerm) → IsIn v (base ++ more) ↔ (IsIn v base ⊎ GivesFrom stated (view x) v)) →
-      ((v : AtomTerm) → IsIn v given ↔ IsGivenElsewhere stated (map view (take i xs)) d v) → (v : AtomTerm) → IsIn v new ↔ IsGivenElsewhere stated (map view (take (i + 1) xs)) d v
+      ((v : AtomTerm) → IsIn v (base ++ more) ↔ (IsIn v base ⊎ GivesFrom stated x v)) →
+      ((v : AtomTerm) → IsIn v given ↔ IsGivenElsewhere stated (take i xs) d v) → (v : AtomTerm) → IsIn v new ↔ IsGivenElsewhere stated (take (i + 1) xs) d v
   next_taken given base more new l e other b n adds inv v =
-      let added : IsIn v (given ++ more) ↔ (IsIn v given ⊎ GivesFrom stated (view x) v) = subst (λ ys. IsIn v (ys ++ more) ↔ (IsIn v ys ⊎ GivesFrom stated (view x) v)) b (adds v) in
-      let t = taken_in stated d v (map view (take i xs)) (view x) (subst (λ k. k ≢ d) (sym (length_taken view xs i l)) other) in (
+      let added : IsIn v (given ++ more) ↔ (IsIn v given ⊎ GivesFrom stated x v) = subst (λ ys. IsIn v (ys ++ more) ↔ (IsIn v ys ⊎ GivesFrom stated x v)) b (adds v) in
+      let t = taken_in stated d v (take i xs) x (subst (λ k. k ≢ d) (sym (length_taken xs i l)) other) in (
         λ h. subst (λ ys. IsGivenElsewhere stated ys d v) (next l e) (t.0 (to (added.0 (subst (IsIn v) n h)))),
         λ g. subst (IsIn v) (sym n) (added.1 (from (t.1 (subst (λ ys. IsGivenElsewhere stated ys d v) (sym (next l e)) g)))),
       )
     where
-      to : IsIn v given ⊎ GivesFrom stated (view x) v → IsGivenElsewhere stated (map view (take i xs)) d v ⊎ GivesFrom stated (view x) v
+      to : IsIn v given ⊎ GivesFrom stated x v → IsGivenElsewhere stated (take i xs) d v ⊎ GivesFrom stated x v
       to (inl h) = inl ((inv v).0 h)
       to (inr g) = inr g
 
-      from : IsGivenElsewhere stated (map view (take i xs)) d v ⊎ GivesFrom stated (view x) v → IsIn v given ⊎ GivesFrom stated (view x) v
+      from : IsGivenElsewhere stated (take i xs) d v ⊎ GivesFrom stated x v → IsIn v given ⊎ GivesFrom stated x v
       from (inl h) = inl ((inv v).1 h)
       from (inr g) = inr g
 
@@ -122,14 +123,14 @@ none_elsewhere stated d given e v =
     (λ h. absurd (none_in_empty e h), λ g. let p : None ≡ Some g.gives.strand = g.gives.there_is in absurd (cc))
 
 -- An atom that is in the list of what strand number d gives alone is forgotten with it.
-pub forgotten_alone : {A : Type 0} (view : A → SkeletonStrand) (stated : Role → List AtomTerm) (d : ℕ) (xs : List A) (x : A) (base more gave elsewhere else own : List AtomTerm) →
+pub forgotten_alone : (stated : Role → List AtomTerm) (d : ℕ) (xs : List SkeletonStrand) (x : SkeletonStrand) (base more gave elsewhere else own : List AtomTerm) →
     d < length xs → x ≡ get_or xs d x → base ≡ [] → gave ≡ more → else ≡ elsewhere →
-    ((v : AtomTerm) → IsIn v (base ++ more) ↔ (IsIn v base ⊎ GivesFrom stated (view x) v)) →
-    ((v : AtomTerm) → IsIn v elsewhere ↔ IsGivenElsewhere stated (map view xs) d v) →
-    (v : AtomTerm) → IsInFirstAlone gave else own v ↔ IsForgotten stated (map view xs) own d v
-forgotten_alone view stated d xs x base more gave elsewhere else own l e none g s given others v = (
+    ((v : AtomTerm) → IsIn v (base ++ more) ↔ (IsIn v base ⊎ GivesFrom stated x v)) →
+    ((v : AtomTerm) → IsIn v elsewhere ↔ IsGivenElsewhere stated xs d v) →
+    (v : AtomTerm) → IsInFirstAlone gave else own v ↔ IsForgotten stated xs own d v
+forgotten_alone stated d xs x base more gave elsewhere else own l e none g s given others v = (
   λ a. record {
-    gave = record { strand = view x; there_is = here; gives = only ((of_given v).0 (subst (IsIn v) g a.in_first)) };
+    gave = record { strand = x; there_is = here; gives = only ((of_given v).0 (subst (IsIn v) g a.in_first)) };
     alone = λ o. a.not_second (subst (IsIn v) (sym s) ((others v).1 o));
     not_own = a.not_third;
   },
@@ -140,21 +141,21 @@ forgotten_alone view stated d xs x base more gave elsewhere else own l e none g 
   },
 )
   where
-    here : item_at (map view xs) d ≡ Some (view x)
-    here = map_of_read view xs d x l e
+    here : item_at xs d ≡ Some x
+    here = item_of_read xs d x l e
 
-    of_given : (v : AtomTerm) → IsIn v more ↔ (IsIn v [] ⊎ GivesFrom stated (view x) v)
-    of_given v = subst (λ ys. IsIn v (ys ++ more) ↔ (IsIn v ys ⊎ GivesFrom stated (view x) v)) none (given v)
+    of_given : (v : AtomTerm) → IsIn v more ↔ (IsIn v [] ⊎ GivesFrom stated x v)
+    of_given v = subst (λ ys. IsIn v (ys ++ more) ↔ (IsIn v ys ⊎ GivesFrom stated x v)) none (given v)
 
-    only : IsIn v [] ⊎ GivesFrom stated (view x) v → GivesFrom stated (view x) v
+    only : IsIn v [] ⊎ GivesFrom stated x v → GivesFrom stated x v
     only (inl h) = elim h [ ]
     only (inr h) = h
 
-    at_d : IsStatedAt stated (map view xs) d v → GivesFrom stated (view x) v
+    at_d : IsStatedAt stated xs d v → GivesFrom stated x v
     at_d h =
-        let p : item_at (map view xs) d ≡ Some h.strand = h.there_is in
-        let q : item_at (map view xs) d ≡ Some (view x) = here in
-        let same : h.strand ≡ view x = cc in
+        let p : item_at xs d ≡ Some h.strand = h.there_is in
+        let q : item_at xs d ≡ Some x = here in
+        let same : h.strand ≡ x = cc in
         subst (λ y. GivesFrom stated y v) same h.gives
 
 -- The same of lists that are equal.

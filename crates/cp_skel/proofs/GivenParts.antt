@@ -4,7 +4,8 @@ use Rattle.std.specs.Prelude.{Option, Some, None}
 use Rattle.std.proofs.lemmas.Bool.{lt-ltb}
 use Rattle.std.proofs.lemmas.List.{append-nil}
 use Rattle.cp_lists.specs.Lists.{IsIn, here, there}
-use Rattle.cp_model.specs.Term.{AtomTerm, atom_term, variables_of_atom, Substitution, apply_to_atom}
+use Rattle.cp_model.specs.Term.{AtomTerm, atom_term, variables_of_atom, apply_to_atom}
+use Rattle.cp_model.specs.Bindings.{Binding, as_substitution}
 use Rattle.cp_model.specs.Strand.{OriginatesInTerms, Role, variables_of_prefix, Applies, AppliesAt}
 use Rattle.cp_model.specs.Bundle.{node_at}
 use Rattle.cp_model.specs.Skeleton.{instance, UniqueAt, Assumptions}
@@ -19,16 +20,16 @@ use Rattle.cp_skel.proofs.EachOnce.{adds-onto}
 
 -- ---- atoms that apply
 
-module _ (role : Role) (height : ℕ) (terms : Substitution) where
+module _ (role : Role) (height : ℕ) (terms : List Binding) where
   behind : (a : AtomTerm) (bs : List AtomTerm) (v : AtomTerm) → IsGivenFrom bs role height terms v → IsGivenFrom (a ∷ bs) role height terms v
   behind a bs v g = record { atom = g.atom; listed = there g.listed; applies = g.applies; same = g.same }
 
-  in-front : (a : AtomTerm) (bs : List AtomTerm) (v : AtomTerm) → Applies role height a → (v ≡ apply_to_atom terms a) ⊎ IsGivenFrom bs role height terms v → IsGivenFrom (a ∷ bs) role height terms v
+  in-front : (a : AtomTerm) (bs : List AtomTerm) (v : AtomTerm) → Applies role height a → (v ≡ apply_to_atom (as_substitution terms) a) ⊎ IsGivenFrom bs role height terms v → IsGivenFrom (a ∷ bs) role height terms v
   in-front a bs v applies (inl e) = record { atom = a; listed = here; applies = applies; same = e }
   in-front a bs v applies (inr g) = behind a bs v g
 
   where-tested : (a : AtomTerm) (bs : List AtomTerm) (v : AtomTerm) (b : Bool) → has_variables (variables_of_prefix role height) (variables_of_atom a) ≡ b
-      → IsIn v (if b then apply_to_atom terms a ∷ applying role height terms bs else applying role height terms bs)
+      → IsIn v (if b then apply_to_atom (as_substitution terms) a ∷ applying role height terms bs else applying role height terms bs)
       → (IsIn v (applying role height terms bs) → IsGivenFrom bs role height terms v) → IsGivenFrom (a ∷ bs) role height terms v
   where-tested a bs v true e i rest =
       in-front a bs v (variables_there (variables_of_prefix role height) (variables_of_atom a) e)
@@ -39,17 +40,17 @@ module _ (role : Role) (height : ℕ) (terms : Substitution) where
   given-atom [] v i = absurd (not_in_none i)
   given-atom (a ∷ bs) v i = where-tested a bs v (has_variables (variables_of_prefix role height) (variables_of_atom a)) refl i (given-atom bs v)
 
-  passes : (a : AtomTerm) (ws : List AtomTerm) (v : AtomTerm) (b : Bool) → IsIn v ws → IsIn v (if b then apply_to_atom terms a ∷ ws else ws)
+  passes : (a : AtomTerm) (ws : List AtomTerm) (v : AtomTerm) (b : Bool) → IsIn v ws → IsIn v (if b then apply_to_atom (as_substitution terms) a ∷ ws else ws)
   passes a ws v true i = there i
   passes a ws v false i = i
 
-  applying-in : (stated : List AtomTerm) (a : AtomTerm) → IsIn a stated → Applies role height a → IsIn (apply_to_atom terms a) (applying role height terms stated)
+  applying-in : (stated : List AtomTerm) (a : AtomTerm) → IsIn a stated → Applies role height a → IsIn (apply_to_atom (as_substitution terms) a) (applying role height terms stated)
   applying-in [] a i applies = elim i [ ]
   applying-in (a ∷ bs) b here applies =
-      subst (λ c. IsIn (apply_to_atom terms b) (if c then apply_to_atom terms b ∷ applying role height terms bs else applying role height terms bs))
+      subst (λ c. IsIn (apply_to_atom (as_substitution terms) b) (if c then apply_to_atom (as_substitution terms) b ∷ applying role height terms bs else applying role height terms bs))
       (sym (there_variables (variables_of_prefix role height) (variables_of_atom b) applies)) here
   applying-in (a ∷ bs) b (there i) applies =
-      passes a (applying role height terms bs) (apply_to_atom terms b) (has_variables (variables_of_prefix role height) (variables_of_atom a)) (applying-in bs b i applies)
+      passes a (applying role height terms bs) (apply_to_atom (as_substitution terms) b) (has_variables (variables_of_prefix role height) (variables_of_atom a)) (applying-in bs b i applies)
 
   pub atoms-given : (stated old : List AtomTerm) → AddsOnce (IsGivenFrom stated role height terms) old (atoms_onto old (applying role height terms stated))
   atoms-given stated old =
@@ -59,9 +60,9 @@ module _ (role : Role) (height : ℕ) (terms : Substitution) where
 
 -- ---- atoms that originate
 
-module _ (role : Role) (height : ℕ) (terms : Substitution) (s : ℕ) where
+module _ (role : Role) (height : ℕ) (terms : List Binding) (s : ℕ) where
   abbrev unique-of : AtomTerm → ℕ → UniqueAt
-  unique-of a i = record { value = apply_to_atom terms a; origin = node_at s i }
+  unique-of a i = record { value = apply_to_atom (as_substitution terms) a; origin = node_at s i }
 
   when-below : (a : AtomTerm) (bs : List AtomTerm) (u : UniqueAt) (i : ℕ) (b : Bool) → nat_lt i height ≡ b → OriginatesInTerms role.trace (atom_term a) i
       → IsIn u (if b then unique-of a i ∷ [] else []) → IsOriginFrom (a ∷ bs) role height terms s u
@@ -69,7 +70,7 @@ module _ (role : Role) (height : ℕ) (terms : Substitution) (s : ℕ) where
   when-below a bs u i false e o j = absurd (not_in_none j)
 
   at-place : (a : AtomTerm) (bs : List AtomTerm) (u : UniqueAt) (o : Option ℕ) → origin_in role.trace (atom_term a) ≡ o
-      → IsIn u (unique_if_below height s (apply_to_atom terms a) o) → IsOriginFrom (a ∷ bs) role height terms s u
+      → IsIn u (unique_if_below height s (apply_to_atom (as_substitution terms) a) o) → IsOriginFrom (a ∷ bs) role height terms s u
   at-place a bs u None e j = absurd (not_in_none j)
   at-place a bs u (Some i) e j = when-below a bs u i (nat_lt i height) refl (origin_found role.trace (atom_term a) i e) j
 
@@ -78,18 +79,18 @@ module _ (role : Role) (height : ℕ) (terms : Substitution) (s : ℕ) where
   given-unique (a ∷ bs) u j =
       ⊎_elim (at-place a bs u (origin_in role.trace (atom_term a)) refl)
       (λ k. let g = given-unique bs u k in record { atom = g.atom; index = g.index; listed = there g.listed; applies = g.applies; same = g.same })
-      (in_append (unique_if_below height s (apply_to_atom terms a) (origin_in role.trace (atom_term a))) (applying_uniques role height terms s bs) j)
+      (in_append (unique_if_below height s (apply_to_atom (as_substitution terms) a) (origin_in role.trace (atom_term a))) (applying_uniques role height terms s bs) j)
 
-  here-unique : (a : AtomTerm) (i : ℕ) → AppliesAt role height a i → IsIn (unique-of a i) (unique_if_below height s (apply_to_atom terms a) (origin_in role.trace (atom_term a)))
+  here-unique : (a : AtomTerm) (i : ℕ) → AppliesAt role height a i → IsIn (unique-of a i) (unique_if_below height s (apply_to_atom (as_substitution terms) a) (origin_in role.trace (atom_term a)))
   here-unique a i applies =
-      subst (λ o. IsIn (unique-of a i) (unique_if_below height s (apply_to_atom terms a) o)) (sym (finds_origin role.trace (atom_term a) i applies.0))
+      subst (λ o. IsIn (unique-of a i) (unique_if_below height s (apply_to_atom (as_substitution terms) a) o)) (sym (finds_origin role.trace (atom_term a) i applies.0))
       (subst (λ b. IsIn (unique-of a i) (if b then unique-of a i ∷ [] else [])) (sym (lt-ltb i height applies.1)) here)
 
   applying-unique-in : (stated : List AtomTerm) (a : AtomTerm) (i : ℕ) → IsIn a stated → AppliesAt role height a i → IsIn (unique-of a i) (applying_uniques role height terms s stated)
   applying-unique-in [] a i j applies = elim j [ ]
   applying-unique-in (b ∷ bs) a i here applies = in_append_left (applying_uniques role height terms s bs) (here-unique a i applies)
   applying-unique-in (b ∷ bs) a i (there j) applies =
-      in_append_right (unique_if_below height s (apply_to_atom terms b) (origin_in role.trace (atom_term b))) (applying-unique-in bs a i j applies)
+      in_append_right (unique_if_below height s (apply_to_atom (as_substitution terms) b) (origin_in role.trace (atom_term b))) (applying-unique-in bs a i j applies)
 
   pub uniques-given : (stated : List AtomTerm) (old : List UniqueAt) → AddsOnce (IsOriginFrom stated role height terms s) old (uniques_onto old (applying_uniques role height terms s stated))
   uniques-given stated old =
@@ -99,7 +100,7 @@ module _ (role : Role) (height : ℕ) (terms : Substitution) (s : ℕ) where
 
 -- ---- what an instance gives
 
-pub given-adds : (role : Role) (height : ℕ) (terms : Substitution) (s : ℕ) (old new : Assumptions) → new ≡ with_given_from s (instance role height terms ∷ []) old → AddsGiven role height terms s old new
+pub given-adds : (role : Role) (height : ℕ) (terms : List Binding) (s : ℕ) (old new : Assumptions) → new ≡ with_given_from s (instance role height terms ∷ []) old → AddsGiven role height terms s old new
 given-adds role height terms s old new e =
     subst (AddsGiven role height terms s old) (sym e)
     (record {

@@ -1,8 +1,9 @@
 -- A skeleton with more strands or longer ones, and the same pairs: its order has no cycle either.
-use Rattle.std.proofs.Common.{◌≡◌, ℕ, suc, ◌<◌, refl, ◌∙◌, subst, ◌⊎◌, inl, inr, arith}
+use Rattle.std.proofs.Common.{◌≡◌, ℕ, suc, ◌<◌, refl, ◌∙◌, subst, ◌⊎◌, inl, inr, arith, List}
 use Rattle.std.specs.Prelude.{Some, None}
 use Rattle.cp_lists.specs.Lists.{item_at, IsIn, one_step, more_steps}
-use Rattle.cp_model.specs.Term.{Term, Substitution}
+use Rattle.cp_model.specs.Term.{Term}
+use Rattle.cp_model.specs.Bindings.{Binding}
 use Rattle.cp_model.specs.Strand.{Role}
 use Rattle.cp_model.specs.declared.strand.Event.{Event}
 use Rattle.cp_model.specs.declared.strand.Event.TheVariants.{Send as send}
@@ -15,8 +16,8 @@ use Rattle.cp_lists.proofs.Items.{item_before, there_or_none}
 -- What was there is there, and the instances are of the same roles.
 pub record Grows (old new : Skeleton) : Type 0 where
   pub events : (n : Node) (e : Event Term) → term_event_at old.strands n ≡ Some e → term_event_at new.strands n ≡ Some e
-  pub instances : (s : ℕ) (role : Role) (height : ℕ) (terms : Substitution) → item_at old.strands s ≡ Some (instance role height terms) →
-      (h : ℕ) × (t : Substitution) × (item_at new.strands s ≡ Some (instance role h t))
+  pub instances : (s : ℕ) (role : Role) (height : ℕ) (terms : List Binding) → item_at old.strands s ≡ Some (instance role height terms) →
+      (h : ℕ) × (t : List Binding) × (item_at new.strands s ≡ Some (instance role h t))
   pub pairs : new.pairs ≡ old.pairs
 
 module _ (old new : Skeleton) (grows : Grows old new) (ordered : (p : OrderPair) → IsIn p old.pairs → IsOrderPair old p) where

@@ -22,3 +22,4 @@ pub mod CarriedHomomorphisms
 pub mod EventLists
 pub mod SoundSkeletons
 mod AddedPairs
+pub mod TableAlone

@@ -4,24 +4,22 @@ use Rattle.std.proofs.Common.{◌≡◌, ℕ, List, [], ◌∷◌, ◌++◌, ref
 use Rattle.std.specs.Prelude.{Some, Result, Ok, Err, OnOk, OnErr}
 use Rattle.std.specs.List.{remove}
 use Rattle.cp_lists.specs.Lists.{item_at, IsIn, here, there}
-use Rattle.cp_model.specs.Term.{Term, Substitution}
+use Rattle.cp_model.specs.Term.{Term}
+use Rattle.cp_model.specs.Bindings.{Binding}
 use Rattle.cp_model.specs.Strand.{Role, Protocol, IsHeight}
-use Rattle.cp_model.specs.Skeleton.{SkeletonStrand, instance, listener, UniqueAt, Skeleton, Before, IsOrderPair, Assumptions, FromProblem, IsOrigin, GivesAssumptions, IsSkeleton}
+use Rattle.cp_model.specs.Skeleton.{SkeletonStrand, instance, listener, UniqueAt, Skeleton, Before, IsOrderPair, Assumptions, FromProblem, IsOrigin, GivesAssumptions, IsSkeleton, skeleton_of}
 use Rattle.cp_model.specs.declared.node.Node.{Node}
 use Rattle.cp_model.specs.declared.node.OrderPair.{OrderPair}
 use Rattle.cp_model.specs.Given.{listed}
 use Rattle.cp_model.proofs.LawPrefixes.{in_front_of_trace}
 use Rattle.cp_model.specs.Extensions.{AddsListener, AddsStrand, CanExtend, Extends, IsClosedPrefix}
 use Rattle.cp_order.specs.Closed.{KeepsOrder}
-use Rattle.cp_model.specs.Data.{StrandData, SkeletonData, skeleton_of}
-use Rattle.cp_skel.specs.View.{skeleton_view}
 use Rattle.cp_skel.specs.Deletion.{ForgetsAssumptions, KeepsFromProblem, KeepsOrderOfOthers}
-use Rattle.cp_skel.specs.Ordered.{IsOrdered, ordered_by}
-use Rattle.cp_skel.specs.DeclaredPrefixes.{HasDeclaredPrefixes}
+use Rattle.cp_skel.specs.Ordered.{IsOrdered, ordered_by, DiffersInOrder}
+use Rattle.cp_model.specs.Declares.{HasDeclaredPrefixes, DeclaresItsVariables}
 use Rattle.cp_skel.specs.Sound.{IsSound}
-use Rattle.cp_strand.specs.Declares.{DeclaresItsVariables}
 use Rattle.cp_skel.proofs.DeclaredRoles.{declared_prefixes}
-use Rattle.cp_skel.proofs.CarriedHomomorphisms.{sound_on, listener_says_more, strand_says_more, extended_says_more, extension_fits, reordered_says_more, before_too, before_wider, ordered_is_skeleton}
+use Rattle.cp_skel.proofs.CarriedHomomorphisms.{sound_on, listener_says_more, strand_says_more, extended_says_more, extension_fits, reordered_says_more, before_too, before_wider, ordered_is_skeleton, reordered_stays_skeleton}
 use Rattle.cp_skel.proofs.FromProblemWithout.{in_range_without, assumed_without, ordered_without}
 use Rattle.cp_skel.proofs.Grown.{Grows, pairs-stay, origin-stays, cycles-stay-out}
 use Rattle.cp_skel.proofs.EachOnce.{listed-non, listed-penetrator-non, listed-unique}
@@ -30,13 +28,13 @@ use Rattle.cp_skel.proofs.SkeletonWithout.{skeleton_kept}
 use Rattle.cp_skel.proofs.StaySkeletons.{listener-stays-skeleton, strand-stays-skeleton, extended-stays-skeleton}
 
 -- The skeleton of the same parts.
-pub parts_sound : (k : SkeletonData) (variables : List Declaration) (strands : List StrandData) (order : List OrderPair) (assumptions : Assumptions) (from_problem : FromProblem)
-    → variables ≡ k.variables → strands ≡ k.strands → order ≡ k.order → assumptions ≡ k.assumptions → from_problem ≡ k.from_problem
-    → IsSound (skeleton_view k) → IsSound (skeleton_view (skeleton_of variables strands order assumptions from_problem))
+pub parts_sound : (k : Skeleton) (variables : List Declaration) (strands : List SkeletonStrand) (order : List OrderPair) (assumptions : Assumptions) (from_problem : FromProblem)
+    → variables ≡ k.variables → strands ≡ k.strands → order ≡ k.pairs → assumptions ≡ k.assumptions → from_problem ≡ k.from_problem
+    → IsSound k → IsSound (skeleton_of variables strands order assumptions from_problem)
 parts_sound k variables strands order assumptions from_problem v s o a f is =
     let same : skeleton_of variables strands order assumptions from_problem ≡ k =
-    λ i. record { variables = v i; strands = s i; order = o i; assumptions = a i; from_problem = f i } in
-    subst (λ x. IsSound (skeleton_view x)) (sym same) is
+    λ i. record { variables = v i; strands = s i; pairs = o i; assumptions = a i; from_problem = f i } in
+    subst (λ x. IsSound x) (sym same) is
 
 -- Its order is one.
 pub sound_ordered : (k : Skeleton) → IsSound k → IsOrdered k
@@ -46,7 +44,7 @@ sound_ordered k s = record { order_pairs = s.skeleton.order_pairs; no_cycle = s.
 pub sound_prefixes : (k : Skeleton) → IsSound k → HasDeclaredPrefixes k
 sound_prefixes k s = declared_prefixes s.protocol k s.declared s.skeleton
 
-pub sound_longer : (k : Skeleton) (s : ℕ) (role : Role) (before height : ℕ) (terms : Substitution) → IsSound k → item_at k.strands s ≡ Some (instance role before terms) → IsClosedPrefix role height
+pub sound_longer : (k : Skeleton) (s : ℕ) (role : Role) (before height : ℕ) (terms : List Binding) → IsSound k → item_at k.strands s ≡ Some (instance role before terms) → IsClosedPrefix role height
 sound_longer k s role before height terms is at x i = is.declared role (is.skeleton.of_role s role before terms at) x (in_front_of_trace height role.trace x i)
 
 pub listener_sound : (t : Term) (old new : Skeleton) → IsSound old → AddsListener t old new → IsSound new
@@ -101,6 +99,26 @@ reordered_sound k pairs s ordered before =
     sound_on k (ordered_by k pairs) (reordered_says_more k (ordered_by k pairs) (record { strands = refl; assumptions = refl; from_problem = refl }) before) s.protocol s.declared
     (ordered_is_skeleton s.protocol k s.skeleton pairs ordered) s
 
+-- ---- with another table of variables
+
+abbrev with_table : Skeleton → List Declaration → Skeleton
+with_table k variables = record k { variables = variables }
+
+same_but_table : (k : Skeleton) (variables : List Declaration) → Grows k (with_table k variables)
+same_but_table k variables = record { events = λ n e h. h; instances = λ s role height terms at. (height, terms, at); pairs = refl }
+
+pub tabled_sound : (k : Skeleton) (variables : List Declaration) → IsSound k → IsSound (record k { variables = variables })
+tabled_sound k variables s =
+    let is = s.skeleton in
+    let grows : Grows k (with_table k variables) = same_but_table k variables in
+    let differs : DiffersInOrder k (with_table k variables) = record { strands = refl; assumptions = refl; from_problem = refl } in
+    let ordered : IsOrdered (with_table k variables) = record {
+      order_pairs = pairs-stay k (with_table k variables) grows is.order_pairs;
+      no_cycle = cycles-stay-out k (with_table k variables) grows is.order_pairs is.no_cycle;
+    } in
+    sound_on k (with_table k variables) (reordered_says_more k (with_table k variables) differs (λ x y b. before_too k (with_table k variables) grows b)) s.protocol s.declared
+    (reordered_stays_skeleton s.protocol k (with_table k variables) is differs ordered) s
+
 -- ---- with its assumptions in the order of the report
 
 abbrev with_listed : Skeleton → Skeleton
@@ -116,7 +134,7 @@ module _ (k : Skeleton) (is : IsOrdered k) where
   listed_origin : (u : UniqueAt) → IsOrigin k u → IsOrigin (with_listed k) u
   listed_origin u = origin-stays k (with_listed k) (same_strands k) is.order_pairs u
 
-  listed_gives : (s : ℕ) (role : Role) (height : ℕ) (terms : Substitution) → GivesAssumptions k s role height terms → GivesAssumptions (with_listed k) s role height terms
+  listed_gives : (s : ℕ) (role : Role) (height : ℕ) (terms : List Binding) → GivesAssumptions k s role height terms → GivesAssumptions (with_listed k) s role height terms
   listed_gives s role height terms g = record {
     non = λ v i a. ((listed-non k).same _).1 (g.non v i a);
     penetrator_non = λ v i a. ((listed-penetrator-non k).same _).1 (g.penetrator_non v i a);

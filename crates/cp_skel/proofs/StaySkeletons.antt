@@ -3,7 +3,8 @@ use Rattle.std.proofs.Common.{◌≡◌, ◌≢◌, ℕ, ◌<◌, ◌≤◌, Lis
 use Rattle.std.specs.Prelude.{Option, Some, None}
 use Rattle.std.proofs.lemmas.Bool.{cases_eq}
 use Rattle.cp_lists.specs.Lists.{item_at, IsIn}
-use Rattle.cp_model.specs.Term.{Term, Substitution, apply_to, apply_to_atom}
+use Rattle.cp_model.specs.Term.{Term, apply_to, apply_to_atom}
+use Rattle.cp_model.specs.Bindings.{Binding, as_substitution}
 use Rattle.cp_model.specs.Strand.{event_map, Role, Protocol, prefix_of, IsHeight}
 use Rattle.cp_model.specs.declared.strand.Event.{Event}
 use Rattle.cp_model.specs.declared.strand.Event.TheVariants.{Send as send}
@@ -35,20 +36,20 @@ adds-keeps a x i = subst (IsIn x) (sym a.behind) (in_append_left a.more i)
 
 -- ---- what one instance gives
 
-module _ (protocol : Protocol) (old new : Skeleton) (is : IsSkeleton protocol old) (grows : Grows old new) (role : Role) (height : ℕ) (terms : Substitution) (s : ℕ)
+module _ (protocol : Protocol) (old new : Skeleton) (is : IsSkeleton protocol old) (grows : Grows old new) (role : Role) (height : ℕ) (terms : List Binding) (s : ℕ)
     (adds : AddsGiven role height terms s old.assumptions new.assumptions) (at : item_at new.strands s ≡ Some (instance role height terms)) where
   pub given-all : GivesAssumptions new s role height terms
   given-all = record {
-    non = λ v i a. adds.non.all (apply_to_atom terms v) (record { atom = v; listed = i; applies = a; same = refl });
-    penetrator_non = λ v i a. adds.penetrator_non.all (apply_to_atom terms v) (record { atom = v; listed = i; applies = a; same = refl });
-    unique = λ v n i a. adds.unique.all (record { value = apply_to_atom terms v; origin = node_at s n }) (record { atom = v; index = n; listed = i; applies = a; same = refl });
+    non = λ v i a. adds.non.all (apply_to_atom (as_substitution terms) v) (record { atom = v; listed = i; applies = a; same = refl });
+    penetrator_non = λ v i a. adds.penetrator_non.all (apply_to_atom (as_substitution terms) v) (record { atom = v; listed = i; applies = a; same = refl });
+    unique = λ v n i a. adds.unique.all (record { value = apply_to_atom (as_substitution terms) v; origin = node_at s n }) (record { atom = v; index = n; listed = i; applies = a; same = refl });
   }
 
-  given-kept : (t : ℕ) (r : Role) (h : ℕ) (ts : Substitution) → GivesAssumptions old t r h ts → GivesAssumptions new t r h ts
+  given-kept : (t : ℕ) (r : Role) (h : ℕ) (ts : List Binding) → GivesAssumptions old t r h ts → GivesAssumptions new t r h ts
   given-kept t r h ts g = record {
-    non = λ v i a. adds-keeps adds.non (apply_to_atom ts v) (g.non v i a);
-    penetrator_non = λ v i a. adds-keeps adds.penetrator_non (apply_to_atom ts v) (g.penetrator_non v i a);
-    unique = λ v n i a. adds-keeps adds.unique (record { value = apply_to_atom ts v; origin = node_at t n }) (g.unique v n i a);
+    non = λ v i a. adds-keeps adds.non (apply_to_atom (as_substitution ts) v) (g.non v i a);
+    penetrator_non = λ v i a. adds-keeps adds.penetrator_non (apply_to_atom (as_substitution ts) v) (g.penetrator_non v i a);
+    unique = λ v n i a. adds-keeps adds.unique (record { value = apply_to_atom (as_substitution ts) v; origin = node_at t n }) (g.unique v n i a);
   }
 
   pub right-kept : (t : ℕ) (strand : SkeletonStrand) → IsRight protocol old t strand → IsRight protocol new t strand
@@ -59,16 +60,16 @@ module _ (protocol : Protocol) (old new : Skeleton) (is : IsSkeleton protocol ol
   new-origin u g =
       let o = g.applies.0 in
       let trace = prefix_of role height in
-      let event : item_at (skeleton_trace (instance role height terms)) g.index ≡ Some (send (apply_to terms o.sent)) =
-      map_of_item (event_map (apply_to terms)) trace g.index (send o.sent) (take_of_item height role.trace g.index (send o.sent) g.applies.1 o.transmission) in
+      let event : item_at (skeleton_trace (instance role height terms)) g.index ≡ Some (send (apply_to (as_substitution terms) o.sent)) =
+      map_of_item (event_map (apply_to (as_substitution terms))) trace g.index (send o.sent) (take_of_item height role.trace g.index (send o.sent) g.applies.1 o.transmission) in
       subst (IsOrigin new) (sym g.same) (record {
         role = role;
         height = height;
         terms = terms;
         on_instance = at;
-        sent = apply_to terms o.sent;
+        sent = apply_to (as_substitution terms) o.sent;
         transmission = ap (λ k. item_at (skeleton_trace_or_none k) g.index) at ∙ event;
-        carried = carried_under terms o.carried;
+        carried = carried_under (as_substitution terms) o.carried;
       })
 
   old-or-new : (u : UniqueAt) → IsIn u old.assumptions.uniquely_originating ⊎ IsIn u adds.unique.more → IsOrigin new u
@@ -151,17 +152,17 @@ listener-stays-skeleton protocol t old new is adds = subst (IsSkeleton protocol)
 
 -- ---- a longer strand
 
-module _ (s height : ℕ) (values : List Term) (old new : Skeleton) (higher : (before : ℕ) (role : Role) (terms : Substitution) → item_at old.strands s ≡ Some (instance role before terms) → before ≤ height) (x : Extends s height values old new) where
+module _ (s height : ℕ) (values : List Term) (old new : Skeleton) (higher : (before : ℕ) (role : Role) (terms : List Binding) → item_at old.strands s ≡ Some (instance role before terms) → before ≤ height) (x : Extends s height values old new) where
   longer : (i : ℕ) (e : Event Term) → item_at (skeleton_trace (instance x.role x.before x.old_terms)) i ≡ Some e → item_at (skeleton_trace (instance x.role height x.terms)) i ≡ Some e
   longer i e ev =
-      let r = item_of_map (event_map (apply_to x.old_terms)) (prefix_of x.role x.before) i e ev in
+      let r = item_of_map (event_map (apply_to (as_substitution x.old_terms))) (prefix_of x.role x.before) i e ev in
       let d = r.0 in
       let below = item_of_take x.before x.role.trace i d r.1 in
       let le : x.before ≤ height = higher x.before x.role x.old_terms x.was_instance in
       let lt : i < x.before = below.0 in
       let there : item_at (prefix_of x.role height) i ≡ Some d = take_of_item height x.role.trace i d (omega (arith, le, lt)) below.1 in
-      let agree = agree_event x.old_terms x.terms d (λ y p. x.keeps y (in_trace (prefix_of x.role x.before) i d y r.1 p)) in
-      map_of_item (event_map (apply_to x.terms)) (prefix_of x.role height) i d there ∙ ap Some (sym agree ∙ r.2)
+      let agree = agree_event (as_substitution x.old_terms) (as_substitution x.terms) d (λ y p. x.keeps y (in_trace (prefix_of x.role x.before) i d y r.1 p)) in
+      map_of_item (event_map (apply_to (as_substitution x.terms))) (prefix_of x.role height) i d there ∙ ap Some (sym agree ∙ r.2)
 
   events-at : (n : Node) (e : Event Term) → (n.strand ≡ s) ⊎ (n.strand ≢ s) → term_event_at old.strands n ≡ Some e → term_event_at new.strands n ≡ Some e
   events-at n e (inl here) ev =
@@ -170,7 +171,7 @@ module _ (s height : ℕ) (values : List Term) (old new : Skeleton) (higher : (b
       ap (λ o. item_at (skeleton_trace_or_none o) n.index) now ∙ longer n.index e (ap (λ o. item_at (skeleton_trace_or_none o) n.index) (sym was) ∙ ev)
   events-at n e (inr other) ev = ap (λ o. item_at (skeleton_trace_or_none o) n.index) (x.others n.strand other) ∙ ev
 
-  instances-at : (t : ℕ) (role : Role) (h : ℕ) (ts : Substitution) → (t ≡ s) ⊎ (t ≢ s) → item_at old.strands t ≡ Some (instance role h ts) → (h' : ℕ) × (t' : Substitution) × (item_at new.strands t ≡ Some (instance role h' t'))
+  instances-at : (t : ℕ) (role : Role) (h : ℕ) (ts : List Binding) → (t ≡ s) ⊎ (t ≢ s) → item_at old.strands t ≡ Some (instance role h ts) → (h' : ℕ) × (t' : List Binding) × (item_at new.strands t ≡ Some (instance role h' t'))
   instances-at t role h ts (inl here) e =
       let both : Some (instance x.role x.before x.old_terms) ≡ Some (instance role h ts) = sym x.was_instance ∙ ap (item_at old.strands) (sym here) ∙ e in
       let same : x.role ≡ role = cc in
@@ -189,7 +190,7 @@ pub extended-stays-skeleton : (protocol : Protocol) (s height : ℕ) (values : L
 extended-stays-skeleton protocol s height values old new can is x =
     still-skeleton protocol old new is grows x.role height x.terms s x.assumptions x.on_instance (λ t k e. each t k (cases_eq t s) e)
   where
-    at-most : (before : ℕ) (role : Role) (terms : Substitution) → item_at old.strands s ≡ Some (instance role before terms) → before ≤ height
+    at-most : (before : ℕ) (role : Role) (terms : List Binding) → item_at old.strands s ≡ Some (instance role before terms) → before ≤ height
     at-most before role terms e =
         let both : Some (instance can.role can.before can.terms) ≡ Some (instance role before terms) = sym can.on_instance ∙ e in
         let same : can.before ≡ before = cc in

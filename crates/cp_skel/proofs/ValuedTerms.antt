@@ -5,13 +5,15 @@ use Rattle.std.specs.List.{filter}
 use Rattle.std.proofs.Math.Bool.{and-true}
 use Rattle.std.proofs.lemmas.Bool.{cases_Bool}
 use Rattle.cp_lists.specs.Lists.{item_at}
-use Rattle.cp_model.specs.Term.{Term, variable_term, AgreeOnTerms, apply_to}
+use Rattle.cp_model.specs.Term.{Term, variable_term, Substitution, AgreeOnTerms, apply_to}
+use Rattle.cp_model.specs.Bindings.{as_substitution, bindings_of}
 use Rattle.cp_model.specs.declared.sort.Sort.{Sort}
 use Rattle.cp_model.specs.declared.variable.Variable.{Variable}
 use Rattle.cp_model.specs.Strand.{Role, variables_of_prefix}
 use Rattle.cp_model.specs.declared.variable.Declaration.{Declaration}
 use Rattle.cp_model.specs.Problem.{declared_sort, IsDeclared}
-use Rattle.cp_model.specs.Homomorphism.{substitution_by}
+use Rattle.cp_model.specs.Values.{substitution_by}
+use Rattle.cp_model.proofs.DeclaredTerms.{bindings_are}
 use Rattle.cp_model.proofs.LawPrefixes.{variables_of_higher}
 use Rattle.cp_model.specs.Same.{has_variable}
 use Rattle.cp_model.proofs.SameTests.{in_has_variable}
@@ -129,8 +131,10 @@ unfolding StandFrom
 stand-all ts i m t e at = let number : m ≡ i = omega (arith, e) in ap (item_at ts) number ∙ at
 
 pub value-terms : (wanted : Variable → Bool) (old : List Term) (ds : List Declaration) (vs : List Term) → AreTermsFor (filter wanted (declared_variables 0 ds)) vs →
-    terms_of (substitution_by (valued wanted old 0 ds vs)) (filter wanted (declared_variables 0 ds)) ≡ vs
-value-terms wanted old ds vs fit = takes-values wanted old (valued wanted old 0 ds vs) 0 ds vs fit (stand-all (valued wanted old 0 ds vs))
+    terms_of (as_substitution (bindings_of (valued wanted old 0 ds vs))) (filter wanted (declared_variables 0 ds)) ≡ vs
+value-terms wanted old ds vs fit =
+    ap (λ (s : Substitution). terms_of s (filter wanted (declared_variables 0 ds))) (bindings_are (valued wanted old 0 ds vs))
+    ∙ takes-values wanted old (valued wanted old 0 ds vs) 0 ds vs fit (stand-all (valued wanted old 0 ds vs))
 
 -- ---- prefixes
 
@@ -149,8 +153,10 @@ not-added true b e = ap not e
 not-added false b e = refl
 
 pub keeps-terms : (role : Role) (before height : ℕ) (old vs : List Term) → before ≤ height → IsClosedPrefix role height →
-    AgreeOnTerms (variables_of_prefix role before) (substitution_by old)
-    (substitution_by (valued (is_added (variables_of_prefix role before) (variables_of_prefix role height)) old 0 role.variables vs))
+    AgreeOnTerms (variables_of_prefix role before) (as_substitution (bindings_of old))
+    (as_substitution (bindings_of (valued (is_added (variables_of_prefix role before) (variables_of_prefix role height)) old 0 role.variables vs)))
 keeps-terms role before height old vs le closed x i =
-    kept-term (is_added (variables_of_prefix role before) (variables_of_prefix role height)) old role.variables vs x (closed x (variables_of_higher role before height le x i))
+    ap (λ (s : Substitution). apply_to s (variable_term x)) (bindings_are old)
+    ∙ kept-term (is_added (variables_of_prefix role before) (variables_of_prefix role height)) old role.variables vs x (closed x (variables_of_higher role before height le x i))
     (not-added (has_variable (variables_of_prefix role height) x) (has_variable (variables_of_prefix role before) x) (in_has_variable (variables_of_prefix role before) x i))
+    ∙ ap (λ (s : Substitution). apply_to s (variable_term x)) (sym (bindings_are (valued (is_added (variables_of_prefix role before) (variables_of_prefix role height)) old 0 role.variables vs)))

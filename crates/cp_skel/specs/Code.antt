@@ -3,14 +3,13 @@ use Rattle.std.specs.Prelude.{ℕ, List, refl}
 use Rattle.std.specs.Coded.{Coded, code_by, coded_ℕ, coded_list, coded×}
 use Rattle.cp_model.specs.Term.{AtomTerm, Term}
 use Rattle.cp_model.specs.declared.node.Node.{Node}
-use Rattle.cp_model.specs.Skeleton.{UniqueAt, Assumptions, FromProblem}
+use Rattle.cp_model.specs.Skeleton.{UniqueAt, Assumptions, FromProblem, SkeletonStrand, Skeleton}
 use Rattle.cp_model.specs.declared.node.OrderPair.{OrderPair}
 use Rattle.cp_term.specs.Code.{coded_atom_term, coded_term}
-use Rattle.cp_model.specs.Data.{StrandData, SkeletonData}
 use Rattle.cp_model.specs.declared.variable.Declaration.{Declaration}
 use Rattle.cp_strand.specs.Code.{coded_atoms, coded_declaration, coded_strand}
 
-abbrev coded_node : Coded Node
+abbrev pub coded_node : Coded Node
 coded_node = code_by (ℕ × ℕ) (coded× coded_ℕ coded_ℕ) (λ n. (n.strand, n.index)) (λ p. record { strand = p.0; index = p.1 }) (λ n. refl)
 
 abbrev coded_pair : Coded OrderPair
@@ -33,10 +32,10 @@ coded_from_problem =
     (λ p. record { strands = p.0.0; values = p.0.1; assumptions = p.1.0; pairs = p.1.1 })
     (λ f. refl)
 
-abbrev pub coded_skeleton : Coded SkeletonData
+abbrev pub coded_skeleton : Coded Skeleton
 coded_skeleton =
-    code_by ((List Declaration × List StrandData) × (List OrderPair × (Assumptions × FromProblem)))
+    code_by ((List Declaration × List SkeletonStrand) × (List OrderPair × (Assumptions × FromProblem)))
     (coded× (coded× (coded_list coded_declaration) (coded_list coded_strand)) (coded× (coded_list coded_pair) (coded× coded_assumptions coded_from_problem)))
-    (λ k. ((k.variables, k.strands), (k.order, (k.assumptions, k.from_problem))))
-    (λ p. record { variables = p.0.0; strands = p.0.1; order = p.1.0; assumptions = p.1.1.0; from_problem = p.1.1.1 })
+    (λ k. ((k.variables, k.strands), (k.pairs, (k.assumptions, k.from_problem))))
+    (λ p. record { variables = p.0.0; strands = p.0.1; pairs = p.1.0; assumptions = p.1.1.0; from_problem = p.1.1.1 })
     (λ k. refl)

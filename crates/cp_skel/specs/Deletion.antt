@@ -1,7 +1,8 @@
 -- Skeletons without one of their strands.
 use Rattle.std.specs.Prelude.{◌≡◌, ◌≢◌, ◌↔◌, ◌⊎◌, ℕ, zero, suc, List, [], ◌∷◌, Some, map}
 use Rattle.cp_lists.specs.Lists.{item_at, IsIn}
-use Rattle.cp_model.specs.Term.{AtomTerm, Substitution}
+use Rattle.cp_model.specs.Term.{AtomTerm}
+use Rattle.cp_model.specs.Bindings.{Binding}
 use Rattle.cp_model.specs.Strand.{Role}
 use Rattle.cp_model.specs.Bundle.{node_at}
 use Rattle.cp_model.specs.declared.node.Node.{Node}
@@ -46,7 +47,7 @@ as_it_is x = x
 pub record GivesFrom (stated : Role → List AtomTerm) (strand : SkeletonStrand) (v : AtomTerm) : Type 0 where
   pub role : Role
   pub height : ℕ
-  pub terms : Substitution
+  pub terms : List Binding
   pub is_instance : strand ≡ instance role height terms
   pub given : IsGivenFrom (stated role) role height terms v
 

@@ -9,7 +9,7 @@ use Rattle.cp_model.specs.Extensions.{AddsListener, AddsStrand, Extends}
 use Rattle.cp_skel.specs.Ordered.{ordered_by, DiffersInOrder}
 
 -- A skeleton of which P holds goes on to be one when a listener or an instance is added, when an instance grows, when a
--- pair is added, and with any order in which what was before a node still is.
+-- pair is added, and with any table of variables and any order in which what was before a node still is.
 pub record KeptByChanges (P : Skeleton → Type 0) : Type 0 where
   pub listener : (old new : Skeleton) (t : Term) → AddsListener t old new → P old → P new
   pub strand : (old new : Skeleton) (role : Role) (height : ℕ) (values : List Term) → AddsStrand role height values old new → P old → P new

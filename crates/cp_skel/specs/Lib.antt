@@ -1,9 +1,7 @@
 pub mod Code
-pub mod View
 pub mod Parts
 pub mod Sound
-pub mod Trees
-pub mod DeclaredPrefixes
+pub mod LabelCode
 pub mod JoinedAssumptions
 pub mod Ordered
 pub mod KeptByChanges
@@ -11,3 +9,4 @@ pub mod Deletion
 pub mod Bridges
 pub mod Kinds
 pub mod Events
+pub mod Tables

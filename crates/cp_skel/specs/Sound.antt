@@ -5,7 +5,7 @@ use Rattle.cp_model.specs.Strand.{Role, Protocol}
 use Rattle.cp_model.specs.Skeleton.{Skeleton, Before, IsSkeleton}
 use Rattle.cp_model.specs.declared.node.OrderPair.{OrderPair}
 use Rattle.cp_model.specs.Stated.{HasOwnAssumptions}
-use Rattle.cp_strand.specs.Declares.{DeclaresItsVariables}
+use Rattle.cp_model.specs.Declares.{DeclaresItsVariables}
 
 -- It is a skeleton over some protocol, whose roles declare their variables: its heights are ones of its roles, its pairs
 -- go from a transmission to a reception of another strand, its order has no cycle, each recorded origin is a transmission

@@ -1,10 +1,8 @@
 // The assumptions of a skeleton without one of its strands.
-ghost use Rattle.std.specs.Prelude.{◌≡◌, ◌↔◌, ◌⊎◌, ◌++◌, ◌<◌, length, map, IsTrue, IfOk};
+ghost use Rattle.std.specs.Prelude.{◌≡◌, ◌↔◌, ◌⊎◌, ◌++◌, ◌<◌, length, IsTrue, IfOk};
 ghost use Rattle.cp_model.specs.Term.{AtomTerm};
 ghost use Rattle.cp_lists.specs.Lists.{IsIn};
-ghost use Rattle.cp_strand.specs.View.{strand_view};
-ghost use Rattle.cp_skel.specs.View.{skeleton_view};
-ghost use Rattle.cp_skel.specs.Deletion.{LeavesOut, as_it_is, GivesFrom, IsStatedAt, IsGivenElsewhere, IsForgotten, ForgetsAssumptions};
+ghost use Rattle.cp_skel.specs.Deletion.{LeavesOut, as_it_is, GivesFrom, IsGivenElsewhere, IsForgotten, ForgetsAssumptions};
 ghost use Rattle.cp_skel.specs.Kinds.{stated_as, IsInFirstAlone};
 
 use crate::assumptions::Assumptions;
@@ -39,7 +37,7 @@ fn given_by(
     given: &[Atom],
 ) -> Result<Vec<Atom>, AllocError>
     ensures { IfOk result (λ more. (v : AtomTerm)
-        → IsIn v (given.now ++ more.items) ↔ (IsIn v given.now ⊎ GivesFrom (stated_as kind) (strand_view strand.now) v)) }
+        → IsIn v (given.now ++ more.items) ↔ (IsIn v given.now ⊎ GivesFrom (stated_as kind) strand.now v)) }
 {
     match strand.shape() {
         StrandShape::Instance(instance) => {
@@ -57,7 +55,7 @@ fn given_elsewhere(
     gone: usize,
 ) -> Result<Vec<Atom>, AllocError>
     ensures { IfOk result (λ given. (v : AtomTerm)
-        → IsIn v given.items ↔ IsGivenElsewhere (stated_as kind) (map strand_view strands.now) gone v) }
+        → IsIn v given.items ↔ IsGivenElsewhere (stated_as kind) strands.now gone v) }
 {
     let mut given = Vec::new(alloc);
     for (number, strand) in strands.iter().enumerate() {
@@ -107,7 +105,7 @@ fn kind_left(
     own: &[Atom],
 ) -> Result<Vec<Atom>, AllocError>
     requires { gone < length strands.now }
-    ensures { IfOk result (λ v. LeavesOut (IsForgotten (stated_as kind) (map strand_view strands.now) own.now gone) as_it_is atoms.now v.items) }
+    ensures { IfOk result (λ v. LeavesOut (IsForgotten (stated_as kind) strands.now own.now gone) as_it_is atoms.now v.items) }
 {
     let none = Vec::new(alloc);
     let gave = given_by(alloc, kind, &strands[gone], &none)?;
@@ -121,8 +119,8 @@ pub(crate) fn assumptions_without(
     k: &Skeleton,
     gone: usize,
 ) -> Result<Assumptions, AllocError>
-    requires { gone < length (skeleton_view k.now).strands }
-    ensures { IfOk result (λ a. ForgetsAssumptions gone (skeleton_view k.now) a) }
+    requires { gone < length k.now.strands }
+    ensures { IfOk result (λ a. ForgetsAssumptions gone k.now a) }
 {
     let had = k.assumptions();
     let own = k.from_problem().assumptions();

@@ -3,7 +3,6 @@ ghost use Rattle.std.specs.Prelude.{◌≡◌, ◌<◌, length, IfOk, OnOk, OnEr
 ghost use Rattle.std.specs.List.{remove};
 ghost use Rattle.cp_lists.specs.Lists.{IsIn};
 ghost use Rattle.cp_order.specs.Closed.{IsTransitive};
-ghost use Rattle.cp_skel.specs.View.{skeleton_view};
 ghost use Rattle.cp_skel.specs.Deletion.{ForgetsAssumptions, KeepsFromProblem, KeepsOrderOfOthers};
 
 use crate::assumptions::Assumptions;
@@ -45,13 +44,13 @@ impl Skeleton {
     /// through the strand, and the order is closed. What only its role gave is forgotten, unless the problem itself
     /// states it. On an error nothing has changed.
     pub fn delete_strand(&mut self, alloc: Global, strand: usize) -> Result<(), AllocError>
-        requires there_is { strand < length (skeleton_view self.old).strands }
-        requires no_image { IsIn strand (skeleton_view self.old).from_problem.strands → ⊥ }
-        ensures strands { OnOk result ((skeleton_view self.new).strands ≡ remove (skeleton_view self.old).strands strand) }
-        ensures order { OnOk result (KeepsOrderOfOthers strand (skeleton_view self.old) (skeleton_view self.new)) }
-        ensures closed { OnOk result (IsTransitive (skeleton_view self.new).pairs) }
-        ensures assumptions { OnOk result (ForgetsAssumptions strand (skeleton_view self.old) (skeleton_view self.new).assumptions) }
-        ensures from_problem { OnOk result (KeepsFromProblem strand (skeleton_view self.old).from_problem (skeleton_view self.new).from_problem) }
+        requires there_is { strand < length self.old.strands }
+        requires no_image { IsIn strand self.old.from_problem.strands → ⊥ }
+        ensures strands { OnOk result (self.new.strands ≡ remove self.old.strands strand) }
+        ensures order { OnOk result (KeepsOrderOfOthers strand self.old self.new) }
+        ensures closed { OnOk result (IsTransitive self.new.pairs) }
+        ensures assumptions { OnOk result (ForgetsAssumptions strand self.old self.new.assumptions) }
+        ensures from_problem { OnOk result (KeepsFromProblem strand self.old.from_problem self.new.from_problem) }
         ensures variables { self.new.variables ≡ self.old.variables }
         ensures unchanged { OnErr result (self.new ≡ self.old) }
     {

@@ -2,8 +2,6 @@
 ghost use Rattle.std.specs.Prelude.{◌≡◌, ◌++◌, length, IfOk, OnOk};
 ghost use Rattle.cp_model.specs.Skeleton.{skeleton_trace};
 ghost use Rattle.cp_skel.specs.Events.{is_role_strand, located_events_on, events_of};
-ghost use Rattle.cp_strand.specs.View.{strand_view};
-ghost use Rattle.cp_skel.specs.View.{skeleton_view};
 
 use crate::skeleton::{Node, Skeleton};
 use cp_strand::{Event, Strand, StrandShape};
@@ -19,7 +17,7 @@ pub struct LocatedEvent {
 
 /// How many events the strand has.
 fn event_count(strand: &Strand) -> usize
-    ensures { result ≡ length (skeleton_trace (strand_view strand.now)) }
+    ensures { result ≡ length (skeleton_trace strand.now) }
 {
     match strand.shape() {
         StrandShape::Instance(instance) => instance.height().min(instance.role().trace().len()),
@@ -29,7 +27,7 @@ fn event_count(strand: &Strand) -> usize
 
 /// Whether the strand is an instance of a role.
 fn is_role_strand(strand: &Strand) -> bool
-    ensures { result ≡ is_role_strand (strand_view strand.now) }
+    ensures { result ≡ is_role_strand strand.now }
 {
     matches!(strand.shape(), StrandShape::Instance(_))
 }
@@ -41,7 +39,7 @@ fn add_events(
     strand: &Strand,
     occurrences: &mut Vec<LocatedEvent>,
 ) -> Result<(), AllocError>
-    ensures { OnOk result (occurrences.new.items ≡ occurrences.old.items ++ located_events_on number 0 (is_role_strand (strand_view strand.now)) (skeleton_trace (strand_view strand.now))) }
+    ensures { OnOk result (occurrences.new.items ≡ occurrences.old.items ++ located_events_on number 0 (is_role_strand strand.now) (skeleton_trace strand.now)) }
 {
     let by_role = is_role_strand(strand);
     for index in 0..event_count(strand) {
@@ -63,7 +61,7 @@ fn add_events(
 impl Skeleton {
     /// The events of the skeleton, each with its node, by strand and then by index.
     pub fn events(&self, alloc: Global) -> Result<Vec<LocatedEvent>, AllocError>
-        ensures listed { IfOk result (λ os. os.items ≡ events_of (skeleton_view self.now)) }
+        ensures listed { IfOk result (λ os. os.items ≡ events_of self.now) }
     {
         let mut occurrences = Vec::new(alloc);
         for (number, strand) in self.strands().iter().enumerate() {

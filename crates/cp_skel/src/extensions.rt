@@ -3,7 +3,6 @@ ghost use Rattle.std.specs.Prelude.{◌≡◌, length, IfOk, OnOk, OnErr};
 ghost use Rattle.cp_model.specs.Strand.{IsHeight};
 ghost use Rattle.cp_model.specs.PrefixVariables.{prefix_variables, AreTermsFor};
 ghost use Rattle.cp_model.specs.Extensions.{AddsListener, AddsStrand, CanExtend, Extends};
-ghost use Rattle.cp_skel.specs.View.{skeleton_view};
 
 use crate::role_assumptions::missing;
 use crate::skeleton::Skeleton;
@@ -15,8 +14,8 @@ use std::rc::Rc;
 impl Skeleton {
     /// Appends a listener to the strands and returns its number. On an error nothing has changed.
     pub fn add_listener(&mut self, alloc: Global, message: Term) -> Result<usize, AllocError>
-        ensures number { IfOk result (λ s. s ≡ length (skeleton_view self.old).strands) }
-        ensures changed { OnOk result (AddsListener message (skeleton_view self.old) (skeleton_view self.new)) }
+        ensures number { IfOk result (λ s. s ≡ length self.old.strands) }
+        ensures changed { OnOk result (AddsListener message self.old self.new) }
         ensures unchanged { OnErr result (self.new ≡ self.old) }
         ensures variables { self.new.variables ≡ self.old.variables }
     {
@@ -40,8 +39,8 @@ impl Skeleton {
     ) -> Result<usize, AllocError>
         requires height { IsHeight role.now.value height }
         requires values { AreTermsFor (prefix_variables role.now.value height) values.now }
-        ensures number { IfOk result (λ s. s ≡ length (skeleton_view self.old).strands) }
-        ensures changed { OnOk result (AddsStrand role.now.value height values.now (skeleton_view self.old) (skeleton_view self.new)) }
+        ensures number { IfOk result (λ s. s ≡ length self.old.strands) }
+        ensures changed { OnOk result (AddsStrand role.now.value height values.now self.old self.new) }
         ensures unchanged { OnErr result (self.new ≡ self.old) }
         ensures variables { self.new.variables ≡ self.old.variables }
     {
@@ -69,8 +68,8 @@ impl Skeleton {
         height: usize,
         values: &[Term],
     ) -> Result<(), AllocError>
-        requires { CanExtend (skeleton_view self.old) strand height values.now }
-        ensures changed { OnOk result (Extends strand height values.now (skeleton_view self.old) (skeleton_view self.new)) }
+        requires { CanExtend self.old strand height values.now }
+        ensures changed { OnOk result (Extends strand height values.now self.old self.new) }
         ensures unchanged { OnErr result (self.new ≡ self.old) }
         ensures variables { self.new.variables ≡ self.old.variables }
     {

@@ -1,8 +1,8 @@
 // The assumptions that the roles of strands give, added strand by strand.
-ghost use Rattle.std.specs.Prelude.{◌≡◌, ◌∷◌, [], map, OnOk};
+ghost use Rattle.std.specs.Prelude.{◌≡◌, ◌∷◌, [], OnOk};
 ghost use Rattle.cp_model.specs.Given.{with_given};
 ghost use Rattle.cp_model.specs.GivenAssumptions.{with_given_from};
-ghost use Rattle.cp_strand.specs.View.{instance_view, strand_view};
+ghost use Rattle.cp_strand.specs.View.{instance_view};
 
 use crate::assumptions::Assumptions;
 use crate::role_assumptions::lacking;
@@ -31,7 +31,7 @@ pub fn add_given(
     assumptions: &mut Assumptions,
 ) -> Result<(), AllocError>
     ensures { OnOk result (assumptions.new
-        ≡ with_given (map strand_view strands.now) assumptions.old) }
+        ≡ with_given strands.now assumptions.old) }
 {
     for (number, strand) in strands.iter().enumerate() {
         match strand.shape() {

@@ -9,7 +9,7 @@ ghost use Rattle.cp_model.specs.Skeleton.{UniqueAt, Skeleton, IsSkeleton};
 ghost use Rattle.cp_model.specs.Problem.{IsDeclared};
 ghost use Rattle.cp_model.specs.Same.{has_variable};
 ghost use Rattle.cp_model.specs.Given.{atoms_onto, uniques_onto, listed_atoms, listed_uniques, listed};
-ghost use Rattle.cp_skel.specs.DeclaredPrefixes.{HasDeclaredPrefixes};
+ghost use Rattle.cp_model.specs.Declares.{HasDeclaredPrefixes};
 ghost use Rattle.cp_model.specs.GivenAssumptions.{IsEachOnce, HasEachOnce};
 ghost use Rattle.cp_model.specs.PrefixVariables.{prefix_variables, added_variables};
 ghost use Rattle.cp_skel.specs.Ordered.{IsOrdered};

@@ -49,5 +49,5 @@ pub use node_order::comes_before;
 pub use report_order::listed;
 pub use role_assumptions::{has_unique, missing};
 pub use skeleton::{Node, OrderPair, Skeleton};
-pub use tree::{Test, Tree, TreeNode};
+pub use tree::{Label, Labels, Test, Tree};
 pub use variables_laws::changes_keep_declared_variables;

@@ -5,7 +5,6 @@ ghost use Rattle.cp_model.specs.Skeleton.{IsNodeOf, Before, IsOrderPair};
 ghost use Rattle.cp_order.specs.Closed.{IsTransitive};
 ghost use Rattle.cp_skel.specs.Ordered.{ordered_by, ChangesOrderOnly};
 ghost use Rattle.cp_skel.specs.Sound.{IsSound};
-ghost use Rattle.cp_skel.specs.View.{skeleton_view};
 
 use crate::skeleton::{Node, OrderPair, Skeleton};
 use cp_order::Predecessors;
@@ -19,8 +18,8 @@ impl Skeleton {
         alloc: Global,
         pairs: Vec<OrderPair>,
     ) -> Result<Skeleton, AllocError>
-        requires { IsSound (ordered_by (skeleton_view self) pairs.items) }
-        ensures { IfOk result (λ k. k ≡ record self { order = pairs.items }) }
+        requires { IsSound (ordered_by self pairs.items) }
+        ensures { IfOk result (λ k. k ≡ record self { pairs = pairs.items }) }
     {
         let order = self.order.with_pairs(alloc, pairs)?;
         self.order = order;
@@ -32,9 +31,9 @@ impl Skeleton {
     /// After `order_close` the answer is looked up, also in what the calls of this crate, normalising and collapsing
     /// then make of the skeleton.
     pub fn before(&self, n: Node, m: Node) -> bool
-        requires first { IsNodeOf (skeleton_view self.now).strands n }
-        requires second { IsNodeOf (skeleton_view self.now).strands m }
-        ensures exact { IsTrue result ↔ Before (skeleton_view self.now) n m }
+        requires first { IsNodeOf self.now.strands n }
+        requires second { IsNodeOf self.now.strands m }
+        ensures exact { IsTrue result ↔ Before self.now n m }
     {
         n != m && self.order.reaches(n, m)
     }
@@ -43,8 +42,8 @@ impl Skeleton {
     /// changed.
     pub fn order_close(&mut self, alloc: Global) -> Result<(), AllocError>
         ensures rest { OnOk result (ChangesOrderOnly self.old self.new) }
-        ensures before { OnOk result ((x y : PlainNode) → Before (skeleton_view self.new) x y ↔ Before (skeleton_view self.old) x y) }
-        ensures closed { OnOk result (IsTransitive (skeleton_view self.new).pairs) }
+        ensures before { OnOk result ((x y : PlainNode) → Before self.new x y ↔ Before self.old x y) }
+        ensures closed { OnOk result (IsTransitive self.new.pairs) }
         ensures unchanged { OnErr result (self.new ≡ self.old) }
     {
         self.order.close(alloc)
@@ -53,13 +52,13 @@ impl Skeleton {
     /// Puts n, a transmission, before m, a reception of another strand, and returns `true`. If m is before n, so that
     /// the pair would close a cycle, it changes nothing and returns `false`. On an error nothing has changed.
     pub fn add_order(&mut self, alloc: Global, n: Node, m: Node) -> Result<bool, AllocError>
-        requires pair { IsOrderPair (skeleton_view self.old) (record { earlier = n; later = m }) }
-        ensures refused { IfOk result (λ added. (added ≡ false) ↔ Before (skeleton_view self.old) m n) }
+        requires pair { IsOrderPair self.old (record { earlier = n; later = m }) }
+        ensures refused { IfOk result (λ added. (added ≡ false) ↔ Before self.old m n) }
         ensures same { IfOk result (λ added. added ≡ false → self.new ≡ self.old) }
         ensures rest { IfOk result (λ added. added ≡ true → ChangesOrderOnly self.old self.new) }
-        ensures pairs { IfOk result (λ added. added ≡ true → (skeleton_view self.new).pairs ≡ (skeleton_view self.old).pairs ++ record { earlier = n; later = m } ∷ []) }
+        ensures pairs { IfOk result (λ added. added ≡ true → self.new.pairs ≡ self.old.pairs ++ record { earlier = n; later = m } ∷ []) }
         ensures before { IfOk result (λ added. added ≡ true → (x y : PlainNode)
-            → Before (skeleton_view self.new) x y ↔ Before (ordered_by (skeleton_view self.old) (record { earlier = n; later = m } ∷ (skeleton_view self.old).pairs)) x y) }
+            → Before self.new x y ↔ Before (ordered_by self.old (record { earlier = n; later = m } ∷ self.old.pairs)) x y) }
         ensures unchanged { OnErr result (self.new ≡ self.old) }
     {
         if Predecessors::new(alloc, self.order.pairs(), n)?.has(m) {
@@ -74,9 +73,9 @@ impl Skeleton {
 /// Whether n is before m in the skeleton's order, decided by the gathered nodes that reach m along its pairs. The
 /// node m must exist.
 pub fn comes_before(k: &Skeleton, leading: &Predecessors<'_>, n: Node, m: Node) -> bool
-    requires there { IsNodeOf (skeleton_view k.now).strands m }
-    requires gathered { leading.now ≡ record { pairs = k.now.order; node = m } }
-    ensures { IsTrue result ↔ Before (skeleton_view k.now) n m }
+    requires there { IsNodeOf k.now.strands m }
+    requires gathered { leading.now ≡ record { pairs = k.now.pairs; node = m } }
+    ensures { IsTrue result ↔ Before k.now n m }
 {
     k.is_sound();
     n != m && leading.has(n)

@@ -1,9 +1,8 @@
 // Where terms originate in skeletons.
-ghost use Rattle.std.specs.Prelude.{◌≡◌, ◌↔◌, IsTrue};
+ghost use Rattle.std.specs.Prelude.{◌↔◌, IsTrue};
 ghost use Rattle.cp_lists.specs.Lists.{item_at};
 ghost use Rattle.cp_model.specs.Strand.{OriginatesInTerms};
 ghost use Rattle.cp_model.specs.Skeleton.{skeleton_trace_or_none};
-ghost use Rattle.cp_skel.specs.View.{skeleton_view};
 
 use crate::skeleton::{Node, Skeleton};
 use cp_term::Term;
@@ -13,7 +12,7 @@ impl Skeleton {
     /// of the strand carries it (CPSA Primer, "Strand Spaces"; TACAS 2007, section 2).
     pub fn originates(&self, n: Node, t: &Term) -> bool
         ensures exact { IsTrue result
-            ↔ OriginatesInTerms (skeleton_trace_or_none (item_at (skeleton_view self.now).strands n.strand)) t.now n.index }
+            ↔ OriginatesInTerms (skeleton_trace_or_none (item_at self.now.strands n.strand)) t.now n.index }
     {
         match self.strands().get(n.strand) {
             Some(strand) => strand.originates(n.index, t),

@@ -1,7 +1,6 @@
 // The order in which a report lists assumptions.
 ghost use Rattle.std.specs.Prelude.{◌≡◌, IfOk, OnOk, OnErr};
 ghost use Rattle.cp_model.specs.Given.{listed};
-ghost use Rattle.cp_skel.specs.View.{skeleton_view};
 
 use crate::assumptions::Assumptions;
 use crate::gathered::stated_first;
@@ -12,7 +11,7 @@ use std::alloc::{AllocError, Global};
 /// The assumptions of a skeleton in the order in which a report lists them: the problem's own, then those that the
 /// strands' roles give, strand by strand, each once, then any others.
 pub fn listed(alloc: Global, skeleton: &Skeleton) -> Result<Assumptions, AllocError>
-    ensures { IfOk result (λ a. a ≡ listed (skeleton_view skeleton.now)) }
+    ensures { IfOk result (λ a. a ≡ listed skeleton.now) }
 {
     let mut stated = skeleton.from_problem().assumptions().copy(alloc)?;
     add_given(alloc, skeleton.strands(), &mut stated)?;
@@ -37,7 +36,7 @@ impl Skeleton {
     /// strands' roles give, strand by strand, each once, then any others. What is assumed stays the same. On an error
     /// nothing has changed.
     pub fn list_assumptions(&mut self, alloc: Global) -> Result<(), AllocError>
-        ensures listed { OnOk result (skeleton_view self.new ≡ record (skeleton_view self.old) { assumptions = listed (skeleton_view self.old) }) }
+        ensures listed { OnOk result (self.new ≡ record self.old { assumptions = listed self.old }) }
         ensures unchanged { OnErr result (self.new ≡ self.old) }
         ensures variables { self.new.variables ≡ self.old.variables }
     {

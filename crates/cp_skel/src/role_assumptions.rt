@@ -1,7 +1,7 @@
 // The assumptions that roles give to their instances.
-ghost use Rattle.std.specs.Prelude.{◌≡◌, ◌↔◌, ◌∷◌, [], ◌++◌, IsTrue, IfOk, OnOk};
+ghost use Rattle.std.specs.Prelude.{◌≡◌, ◌↔◌, ◌∷◌, [], ◌++◌, IsTrue, IfOk};
+ghost use Rattle.cp_model.specs.Bindings.{bindings_of};
 ghost use Rattle.cp_lists.specs.Lists.{IsIn};
-ghost use Rattle.cp_model.specs.Homomorphism.{substitution_by};
 ghost use Rattle.cp_model.specs.Given.{applying, applying_uniques, atoms_onto, uniques_onto};
 ghost use Rattle.cp_model.specs.GivenAssumptions.{AddsGiven, with_given_from};
 ghost use Rattle.cp_skel.specs.JoinedAssumptions.{joined_assumptions};
@@ -29,7 +29,7 @@ pub(crate) fn missing_atoms(
     old: &[Atom],
 ) -> Result<Vec<Atom>, AllocError>
     ensures { IfOk result (λ more. old.now ++ more.items ≡ atoms_onto old.now
-        (applying instance.now.role instance.now.height (substitution_by instance.now.values) stated.now)) }
+        (applying instance.now.role instance.now.height (bindings_of instance.now.values) stated.now)) }
 {
     let prefix = prefix_of(instance.role(), instance.height());
     let mut more = Vec::new(alloc);
@@ -53,7 +53,7 @@ fn missing_uniques(
     old: &[UniqueAt],
 ) -> Result<Vec<UniqueAt>, AllocError>
     ensures { IfOk result (λ more. old.now ++ more.items ≡ uniques_onto old.now
-        (applying_uniques instance.now.role instance.now.height (substitution_by instance.now.values) strand stated.now)) }
+        (applying_uniques instance.now.role instance.now.height (bindings_of instance.now.values) strand stated.now)) }
 {
     let mut more = Vec::new(alloc);
     for atom in stated {
@@ -113,7 +113,7 @@ pub fn missing(
     instance: &Instance,
     assumptions: &Assumptions,
 ) -> Result<Assumptions, AllocError>
-    ensures { IfOk result (λ more. AddsGiven instance.now.role instance.now.height (substitution_by instance.now.values) strand
+    ensures { IfOk result (λ more. AddsGiven instance.now.role instance.now.height (bindings_of instance.now.values) strand
         assumptions.now (joined_assumptions assumptions.now more)) }
 {
     lacking(alloc, strand, instance, assumptions)

@@ -1,8 +1,7 @@
 // Skeletons, and the pairs of their orders.
 ghost use Rattle.std.specs.Prelude.{◌≡◌};
-ghost use Rattle.cp_model.specs.Data.{skeleton_of};
+ghost use Rattle.cp_model.specs.Skeleton.{skeleton_of};
 ghost use Rattle.cp_skel.specs.Sound.{IsSound};
-ghost use Rattle.cp_skel.specs.View.{skeleton_view};
 
 use crate::assumptions::Assumptions;
 use crate::from_problem::FromProblem;
@@ -44,20 +43,19 @@ impl Drop for Skeleton {
 }
 
 impl Model for Skeleton {
-    ghost use Rattle.cp_model.specs.Data.{SkeletonData};
+    ghost use Rattle.cp_model.specs.Skeleton.{Skeleton};
     ghost use Rattle.cp_skel.specs.Code.{coded_skeleton};
 
-    ghost Value = { SkeletonData };
+    ghost Value = { Skeleton };
 
     ghost coded = { coded_skeleton };
 
     ghost use Rattle.cp_skel.specs.Parts.{skeleton_of_parts};
     ghost use Rattle.cp_skel.specs.Sound.{IsSound};
-    ghost use Rattle.cp_skel.specs.View.{skeleton_view};
 
     ghost view = { skeleton_of_parts };
 
-    ghost invariant = { λ k. IsSound (skeleton_view (skeleton_of_parts k)) };
+    ghost invariant = { λ k. IsSound (skeleton_of_parts k) };
 }
 
 impl Skeleton {
@@ -69,7 +67,7 @@ impl Skeleton {
         assumptions: Assumptions,
         from_problem: FromProblem,
     ) -> Skeleton
-        requires { IsSound (skeleton_view (skeleton_of variables strands.items order assumptions from_problem)) }
+        requires { IsSound (skeleton_of variables strands.items order assumptions from_problem) }
         ensures { result ≡ skeleton_of variables strands.items order assumptions from_problem }
     {
         Skeleton {
@@ -83,7 +81,7 @@ impl Skeleton {
 
     /// Every skeleton is sound.
     pub fn is_sound(&self)
-        ensures { IsSound (skeleton_view self.now) }
+        ensures { IsSound self.now }
     {
         let _ = &self.order;
     }
@@ -104,7 +102,7 @@ impl Skeleton {
 
     /// The order of its nodes.
     pub fn order(&self) -> &Order
-        ensures { result.now ≡ self.now.order }
+        ensures { result.now ≡ self.now.pairs }
     {
         &self.order
     }

@@ -1,42 +1,51 @@
 // Derivation trees as values.
+ghost use Rattle.std.specs.Prelude.{◌≡◌};
+
 use crate::skeleton::Skeleton;
-use cp_model::{Mark, Nodes, Numbers, Operation, Outcome};
 use cp_term::{Patterns, Term};
+use std::marker::Model;
 
 /// An authentication test of a skeleton.
 pub type Test = cp_model::Test<Term>;
 
 /// One label of a tree. Labels are numbered from 0 by their places.
-pub struct TreeNode {
-    pub parent: Option<usize>,
-    pub operation: Operation,
-    pub skeleton: Skeleton,
-    pub unrealised: Nodes,
-    pub test: Option<Test>,
-    pub patterns: Patterns,
-    pub children: Numbers,
-    pub mark: Option<Mark>,
+pub type Label = cp_model::Label<Skeleton, Term, Patterns>;
+
+/// Labels, in order. Contracts see their list.
+#[derive(Drop)]
+pub struct Labels {
+    items: Vec<Label>,
 }
 
-// Its holder drops it by one call, so that less is to be proved about the holder.
-impl Drop for TreeNode {
-    fn drop(self) {
-        let TreeNode {
-            parent,
-            operation,
-            skeleton,
-            unrealised,
-            test,
-            patterns,
-            children,
-            mark,
-        } = self;
+impl Model for Labels {
+    ghost use Rattle.std.specs.Prelude.{List};
+    ghost use Rattle.cp_model.specs.Tree.{Label as Plain};
+
+    ghost Value = { List Plain };
+
+    ghost use Rattle.std.specs.Coded.{coded_list};
+    ghost use Rattle.cp_skel.specs.LabelCode.{coded_label};
+
+    ghost coded = { coded_list coded_label };
+
+    ghost view = { λ l. l.items.items };
+}
+
+impl Labels {
+    /// These labels.
+    pub fn of(items: Vec<Label>) -> Labels
+        ensures { result ≡ items.items }
+    {
+        Labels { items }
+    }
+
+    /// The labels.
+    pub fn as_slice(&self) -> &[Label]
+        ensures { result.now ≡ self.now }
+    {
+        self.items.as_slice()
     }
 }
 
 /// The derivation tree of a problem.
-#[derive(Drop)]
-pub struct Tree {
-    pub nodes: Vec<TreeNode>,
-    pub outcome: Outcome,
-}
+pub type Tree = cp_model::Tree<Labels>;

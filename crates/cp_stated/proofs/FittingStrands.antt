@@ -4,7 +4,7 @@ use Rattle.cp_base.specs.declared.place.Place.{Place}
 use Rattle.cp_lists.specs.Lists.{item_at, IsIn}
 use Rattle.cp_lists.proofs.Items.{at_place, item_of_map}
 use Rattle.cp_lists.proofs.Appended.{none_in_both}
-use Rattle.cp_model.specs.Term.{Substitution}
+use Rattle.cp_model.specs.Bindings.{Binding}
 use Rattle.cp_model.specs.Strand.{Role, IsHeight}
 use Rattle.cp_model.specs.Skeleton.{instance, listener}
 use Rattle.cp_sexpr.specs.Syntax.{Form, symbol, string, number, list}
@@ -29,7 +29,7 @@ height_fits role (string at t) e = absurd (cc)
 height_fits role (number at n) e = height_there role n (holds (nat_lt 0 n && nat_le n (length role.trace)) at e)
 height_fits role (list at fs) e = absurd (cc)
 
-module _ (roles : List Role) (s : Scope) (role : Role) (height : ℕ) (terms : Substitution) where
+module _ (roles : List Role) (s : Scope) (role : Role) (height : ℕ) (terms : List Binding) where
   -- an instance of the role that is named, if one is
   by_role : (o : Option Role) (h : Form) (maplets : List Form) → ((r : Role) → o ≡ Some r → IsIn r roles) → height_misfits o h ≡ []
       → instance_with s o (number_of h) maplets ≡ instance role height terms → IsOf roles role height
@@ -53,7 +53,7 @@ module _ (roles : List Role) (s : Scope) (role : Role) (height : ℕ) (terms : S
   of_form f true fits e = of_entries (place_of f) (forms_after_head f) fits e
   of_form f false fits e = absurd (cc)
 
-pub strands_are_of : (p : Problem) (items : List Form) → strands_misfits p items ≡ [] → (s : ℕ) (role : Role) (height : ℕ) (terms : Substitution)
+pub strands_are_of : (p : Problem) (items : List Form) → strands_misfits p items ≡ [] → (s : ℕ) (role : Role) (height : ℕ) (terms : List Binding)
     → item_at (strands_of_label p items) s ≡ Some (instance role height terms) → IsOf p.protocol.roles role height
 strands_are_of p items fits s role height terms at =
     let roles = p.protocol.roles in

@@ -4,7 +4,8 @@ use Rattle.std.proofs.lemmas.Bool.{and_parts}
 use Rattle.cp_base.specs.declared.place.Place.{Place}
 use Rattle.cp_lists.specs.Lists.{item_at, IsIn, here, there}
 use Rattle.cp_lists.proofs.Appended.{none_in_both}
-use Rattle.cp_model.specs.Term.{AtomTerm, Term, atom_term, Substitution}
+use Rattle.cp_model.specs.Term.{AtomTerm, Term, atom_term}
+use Rattle.cp_model.specs.Bindings.{Binding}
 use Rattle.cp_model.specs.Strand.{Role}
 use Rattle.cp_model.specs.declared.strand.Event.{Event}
 use Rattle.cp_model.specs.declared.strand.Event.TheVariants.{Send as send, Receive as recv}
@@ -49,7 +50,7 @@ inside_fits at (Some f) inside b none e =
 
 -- ---- origins
 
-instance_found : (o : Option SkeletonStrand) → is_instance_there o ≡ true → (role : Role) × (height : ℕ) × (terms : Substitution) × (o ≡ Some (instance role height terms))
+instance_found : (o : Option SkeletonStrand) → is_instance_there o ≡ true → (role : Role) × (height : ℕ) × (terms : List Binding) × (o ≡ Some (instance role height terms))
 instance_found None e = absurd (cc)
 instance_found (Some (instance role height terms)) e = (role, height, terms, refl)
 instance_found (Some (listener t)) e = absurd (cc)

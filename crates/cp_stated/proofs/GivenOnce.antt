@@ -6,20 +6,17 @@ use Rattle.std.proofs.lemmas.Bool.Decides.{same_from_decides}
 use Rattle.cp_base.specs.declared.place.Place.{Place}
 use Rattle.cp_model.specs.Term.{AtomTerm, Term}
 use Rattle.cp_model.specs.declared.variable.Declaration.{Declaration}
-use Rattle.cp_model.specs.Skeleton.{SkeletonStrand, UniqueAt, Assumptions, FromProblem}
+use Rattle.cp_model.specs.Skeleton.{SkeletonStrand, UniqueAt, Assumptions, FromProblem, skeleton_of}
 use Rattle.cp_model.specs.declared.node.OrderPair.{OrderPair}
 use Rattle.cp_model.specs.Given.{atoms_onto, uniques_onto, given_non, given_penetrator_non, given_uniques}
 use Rattle.cp_model.proofs.Gathered.{atoms, uniques, onto-takes, onto-only}
 use Rattle.cp_sexpr.specs.Syntax.{Form}
 use Rattle.cp_language.specs.Faults.{place_of}
 use Rattle.cp_language.specs.Problems.{Problem}
-use Rattle.cp_model.specs.Data.{StrandData, skeleton_of}
-use Rattle.cp_strand.specs.View.{strand_view}
-use Rattle.cp_skel.specs.View.{skeleton_view}
 use Rattle.cp_report.specs.Misfits.{place_before, misfit_unless, lacking}
 use Rattle.cp_report.specs.Heads.{forms_after_head, entries_under, item_with, optional_misfits, place_or}
 use Rattle.cp_report.specs.Spelled.{Scope}
-use Rattle.cp_report.specs.Skeletons.{scope_of, strands_of_label, precedes_misfits, pairs_under, has_atoms, atoms_misfits, atoms_under, assumption_misfits, values_misfits, has_uniques, uniques_misfits, uniques_under, all_uniques_misfits, map_misfits, problem_variables, strands_mapped, values_of_map, assumptions_stated, from_problem_of, around_strands_misfits, skeleton_stated}
+use Rattle.cp_report.specs.Skeletons.{declarations_of_label, scope_of, strands_of_label, precedes_misfits, pairs_under, has_atoms, atoms_misfits, atoms_under, assumption_misfits, values_misfits, has_uniques, uniques_misfits, uniques_under, all_uniques_misfits, map_misfits, problem_variables, strands_mapped, values_of_map, assumptions_stated, from_problem_of, around_strands_misfits, skeleton_stated}
 use Rattle.cp_report.proofs.PrintedAssumptions.{all_atoms}
 use Rattle.cp_report.proofs.PrintedUniques.{all_uniques}
 use Rattle.cp_spelled.specs.FirstMisfit.{first_onto, merged, onto_none}
@@ -120,7 +117,7 @@ from-stated p items own ks ps listed ts vs f e g h i j l m =
 
 -- ---- the skeleton of its parts
 
-pub parts_stated : (p : Problem) (items : List Form) (variables : List Declaration) (strands : List StrandData) (order : List OrderPair) (assumptions : Assumptions) (from_problem : FromProblem)
-    → map strand_view strands ≡ strands_of_label p items → order ≡ pairs_under items → assumptions ≡ assumptions_stated items → from_problem ≡ from_problem_of p items
-    → skeleton_view (skeleton_of variables strands order assumptions from_problem) ≡ skeleton_stated p items
-parts_stated p items variables strands order assumptions from_problem s o a f = λ i. record { strands = s i; pairs = o i; assumptions = a i; from_problem = f i }
+pub parts_stated : (p : Problem) (items : List Form) (variables : List Declaration) (strands : List SkeletonStrand) (order : List OrderPair) (assumptions : Assumptions) (from_problem : FromProblem)
+    → variables ≡ declarations_of_label items → strands ≡ strands_of_label p items → order ≡ pairs_under items → assumptions ≡ assumptions_stated items → from_problem ≡ from_problem_of p items
+    → skeleton_of variables strands order assumptions from_problem ≡ skeleton_stated p items
+parts_stated p items variables strands order assumptions from_problem v s o a f = λ i. record { variables = v i; strands = s i; pairs = o i; assumptions = a i; from_problem = f i }

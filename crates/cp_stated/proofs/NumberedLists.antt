@@ -12,12 +12,11 @@ use Rattle.cp_model.specs.declared.variable.Variable.{Variable}
 use Rattle.cp_model.specs.declared.variable.Declaration.{Declaration}
 use Rattle.cp_model.specs.Skeleton.{SkeletonStrand}
 use Rattle.cp_model.specs.Same.{has_variable}
-use Rattle.cp_model.specs.Data.{sorts, StrandData}
+use Rattle.cp_model.specs.Data.{sorts}
 use Rattle.cp_model.specs.declared.sort.Sort.{Sort}
 use Rattle.cp_sexpr.specs.View.{view}
 use Rattle.cp_sexpr.specs.declared.form.Form as program
 use Rattle.cp_language.specs.Faults.{place_of}
-use Rattle.cp_strand.specs.View.{strand_view}
 use Rattle.cp_report.specs.Misfits.{place_before, misfit, misfit_unless}
 use Rattle.cp_report.specs.Skeletons.{declared_in_prefix, named_declarations, strand_number_misfits}
 use Rattle.cp_spelled.specs.FirstMisfit.{first_onto}
@@ -26,12 +25,12 @@ use Rattle.cp_stated.specs.ProblemMap.{strands_of_problem_misfits}
 
 -- ---- a strand for each of the problem's
 
-module _ (problem : List StrandData) (strands : List SkeletonStrand) (at : Place) (items : List program.Form) (k : ℕ) where
+module _ (problem : List SkeletonStrand) (strands : List SkeletonStrand) (at : Place) (items : List program.Form) (k : ℕ) where
   abbrev asked : ℕ → List Place
-  asked n = strands_of_problem_misfits (map strand_view (drop n problem)) strands at (map view (drop n items))
+  asked n = strands_of_problem_misfits (drop n problem) strands at (map view (drop n items))
 
-  both_read : (f : program.Form) → k < length items → f ≡ get_or items k f → (ps : List StrandData) → drop k problem ≡ ps → asked k ≡ strands_of_problem_misfits (map strand_view ps) strands at (view f ∷ map view (drop (k + 1) items))
-  both_read f h e ps d = ap (λ ks. strands_of_problem_misfits (map strand_view ks) strands at (map view (drop k items))) d ∙ ap (λ fs. strands_of_problem_misfits (map strand_view ps) strands at (map view fs)) (drop_read items k f h e)
+  both_read : (f : program.Form) → k < length items → f ≡ get_or items k f → (ps : List SkeletonStrand) → drop k problem ≡ ps → asked k ≡ strands_of_problem_misfits ps strands at (view f ∷ map view (drop (k + 1) items))
+  both_read f h e ps d = ap (λ ks. strands_of_problem_misfits ks strands at (map view (drop k items))) d ∙ ap (λ fs. strands_of_problem_misfits ps strands at (map view fs)) (drop_read items k f h e)
 
   pub number-taken : (f : program.Form) → k < length items → f ≡ get_or items k f → k < length problem → (o p all : Option Place) → p ≡ first_onto o (strand_number_misfits strands (view f))
       → first_onto o (asked k) ≡ all → first_onto p (asked (k + 1)) ≡ all
@@ -44,8 +43,8 @@ module _ (problem : List StrandData) (strands : List SkeletonStrand) (at : Place
       → first_onto o (asked k) ≡ all → p ≡ all
   number-too-many f h e g o p all q i = q ∙ sym (ap (first_onto o) (both_read f h e [] (drop_all k problem g))) ∙ i
 
-  none_read : length items ≤ k → (ps : List StrandData) → drop k problem ≡ ps → asked k ≡ strands_of_problem_misfits (map strand_view ps) strands at []
-  none_read h ps d = ap (λ ks. strands_of_problem_misfits (map strand_view ks) strands at (map view (drop k items))) d ∙ ap (λ fs. strands_of_problem_misfits (map strand_view ps) strands at (map view fs)) (drop_all k items h)
+  none_read : length items ≤ k → (ps : List SkeletonStrand) → drop k problem ≡ ps → asked k ≡ strands_of_problem_misfits ps strands at []
+  none_read h ps d = ap (λ ks. strands_of_problem_misfits ks strands at (map view (drop k items))) d ∙ ap (λ fs. strands_of_problem_misfits ps strands at (map view fs)) (drop_all k items h)
 
   ended : (b : Bool) → b ≡ nat_lt (length items) (length problem) → length items ≤ k → k ≤ length items → (o p all : Option Place) → p ≡ first_onto o (misfit_unless (not b) at) → first_onto o (asked k) ≡ all → p ≡ all
   ended true t h g o p all q i =

@@ -4,7 +4,8 @@ use Rattle.std.specs.Prelude.{codes}
 use Rattle.cp_base.specs.declared.place.Place.{Place}
 use Rattle.cp_lists.specs.Lists.{item_at, IsIn}
 use Rattle.cp_lists.proofs.Members.{from_filter}
-use Rattle.cp_model.specs.Term.{AtomTerm, Substitution, apply_to_atom}
+use Rattle.cp_model.specs.Term.{AtomTerm, apply_to_atom}
+use Rattle.cp_model.specs.Bindings.{Binding, as_substitution}
 use Rattle.cp_model.specs.Strand.{Role}
 use Rattle.cp_model.specs.Bundle.{node_at}
 use Rattle.cp_model.specs.Skeleton.{SkeletonStrand, instance, UniqueAt, Skeleton, GivesAssumptions, IsSkeleton}
@@ -15,7 +16,7 @@ use Rattle.cp_model.proofs.Gathered.{atoms, uniques}
 use Rattle.cp_sexpr.specs.Syntax.{Form}
 use Rattle.cp_language.specs.Problems.{Problem}
 use Rattle.cp_skel.specs.Sound.{IsSound}
-use Rattle.cp_strand.specs.Declares.{DeclaresItsVariables}
+use Rattle.cp_model.specs.Declares.{DeclaresItsVariables}
 use Rattle.cp_report.specs.Heads.{item_with, entries_under, optional_misfits}
 use Rattle.cp_report.specs.Skeletons.{scope_of, strands_of_label, precedes_misfits, pairs_under, has_atoms, atoms_misfits, atoms_under, values_misfits, has_uniques, uniques_misfits, uniques_under, all_uniques_misfits, map_misfits, strands_mapped, values_of_map, map_by, is_in_order, strands_misfits, around_strands_misfits, skeleton_stated}
 use Rattle.cp_language.proofs.Atoms.{given_there, non_given, penetrator_non_given}
@@ -67,15 +68,15 @@ module _ (p : Problem) (at : Place) (items : List Form) (strands_fit : strands_m
   unique_there = values.given_there (uniques_under items) (given_uniques 0 strands)
       (values.all_given at (item_with (codes "uniq-orig" ∷ []) items) (uniques_misfits (scope_of items) strands []) (has_uniques (uniques_under items) (given_uniques 0 strands)) fit.unique)
 
-  gives : (s : ℕ) (role : Role) (height : ℕ) (terms : Substitution) → item_at strands s ≡ Some (instance role height terms) → GivesAssumptions k s role height terms
+  gives : (s : ℕ) (role : Role) (height : ℕ) (terms : List Binding) → item_at strands s ≡ Some (instance role height terms) → GivesAssumptions k s role height terms
   gives s role height terms on = record {
-    non = λ v i a. non_there (apply_to_atom terms v)
-        (subst (λ (vs : List AtomTerm). IsIn (apply_to_atom terms v) vs) (sym (non_given strands)) (given_there (λ r. r.non_originating) strands s role height terms on v i a));
-    penetrator_non = λ v i a. penetrator_non_there (apply_to_atom terms v)
-        (subst (λ (vs : List AtomTerm). IsIn (apply_to_atom terms v) vs) (sym (penetrator_non_given strands)) (given_there (λ r. r.penetrator_non_originating) strands s role height terms on v i a));
-    unique = λ v n i a. unique_there (record { value = apply_to_atom terms v; origin = node_at s n })
+    non = λ v i a. non_there (apply_to_atom (as_substitution terms) v)
+        (subst (λ (vs : List AtomTerm). IsIn (apply_to_atom (as_substitution terms) v) vs) (sym (non_given strands)) (given_there (λ r. r.non_originating) strands s role height terms on v i a));
+    penetrator_non = λ v i a. penetrator_non_there (apply_to_atom (as_substitution terms) v)
+        (subst (λ (vs : List AtomTerm). IsIn (apply_to_atom (as_substitution terms) v) vs) (sym (penetrator_non_given strands)) (given_there (λ r. r.penetrator_non_originating) strands s role height terms on v i a));
+    unique = λ v n i a. unique_there (record { value = apply_to_atom (as_substitution terms) v; origin = node_at s n })
         (let q : 0 + s ≡ s = omega arith in
-        subst (λ (m : ℕ). IsIn (record { value = apply_to_atom terms v; origin = node_at m n }) (given_uniques 0 strands)) q (wellformed.given_there 0 strands s role height terms on v n i a));
+        subst (λ (m : ℕ). IsIn (record { value = apply_to_atom (as_substitution terms) v; origin = node_at m n }) (given_uniques 0 strands)) q (wellformed.given_there 0 strands s role height terms on v n i a));
   }
 
   is_skeleton : IsSkeleton p.protocol k

@@ -6,7 +6,6 @@ ghost use Rattle.cp_model.specs.Bundle.{node_at};
 ghost use Rattle.cp_model.specs.Homomorphism.{strand_in, substitution_by};
 ghost use Rattle.cp_model.specs.Stated.{unique_image, pair_image};
 ghost use Rattle.cp_model.specs.Given.{has_atom, has_unique};
-ghost use Rattle.cp_strand.specs.View.{strand_view};
 ghost use Rattle.cp_report.specs.Skeletons.{map_by, images_among, is_in_order};
 
 use crate::nodes::is_there;
@@ -140,7 +139,7 @@ fn is_in_order(
     pairs: &[OrderPair],
     pair: OrderPair,
 ) -> Result<bool, AllocError>
-    ensures { IfOk result (λ b. b ≡ is_in_order (map strand_view strands.now) pairs.now pair) }
+    ensures { IfOk result (λ b. b ≡ is_in_order strands.now pairs.now pair) }
 {
     if is_on_one_strand(pair) {
         return Ok(false);
@@ -161,7 +160,7 @@ pub(crate) fn pairs_in_order(
     strands: &[Strand],
     pairs: &[OrderPair],
 ) -> Result<Vec<OrderPair>, AllocError>
-    ensures { IfOk result (λ v. v.items ≡ filter (is_in_order (map strand_view strands.now) pairs.now) (map (pair_image (map_by to_strands.now values.now)) own.now)) }
+    ensures { IfOk result (λ v. v.items ≡ filter (is_in_order strands.now pairs.now) (map (pair_image (map_by to_strands.now values.now)) own.now)) }
 {
     let mut images = Vec::new(alloc);
     for pair in own {

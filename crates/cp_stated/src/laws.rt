@@ -7,7 +7,7 @@ ghost use Rattle.cp_model.specs.Skeleton.{IsSkeleton};
 ghost use Rattle.cp_sexpr.specs.Syntax.{Form};
 ghost use Rattle.cp_language.specs.Problems.{Problem};
 ghost use Rattle.cp_skel.specs.Sound.{IsSound};
-ghost use Rattle.cp_strand.specs.Declares.{DeclaresItsVariables};
+ghost use Rattle.cp_model.specs.Declares.{DeclaresItsVariables};
 ghost use Rattle.cp_report.specs.Skeletons.{strands_misfits, around_strands_misfits, skeleton_stated};
 
 /// If the items of a label form that state its skeleton fit, it is a skeleton over the protocol of the problem. It is

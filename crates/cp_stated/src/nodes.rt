@@ -3,7 +3,6 @@ ghost use Rattle.std.specs.Prelude.{◌≡◌, ◌∷◌, [], map, option_map};
 ghost use Rattle.cp_model.specs.Skeleton.{term_event_at};
 ghost use Rattle.cp_sexpr.specs.View.{view};
 ghost use Rattle.cp_language.specs.Problems.{is_known, option_node};
-ghost use Rattle.cp_strand.specs.View.{strand_view};
 ghost use Rattle.cp_report.specs.Misfits.{any_number_misfits, entries_misfits, list_misfits};
 ghost use Rattle.cp_report.specs.Skeletons.{node_misfits, node_or_first, there_misfits};
 ghost use Rattle.cp_spelled.specs.FirstMisfit.{first_onto};
@@ -40,14 +39,14 @@ fn numbers_misfits(form: &Form, first: &mut FirstMisfit)
 
 /// Whether there is an event at a node.
 pub fn is_there(strands: &[Strand], node: Node) -> bool
-    ensures { result ≡ is_known (term_event_at (map strand_view strands.now) node) }
+    ensures { result ≡ is_known (term_event_at strands.now node) }
 {
     node_direction(strands, node).is_some()
 }
 
 /// If a form names a node, the node must exist.
 fn there_misfits(strands: &[Strand], place: Place, node: Option<Node>, first: &mut FirstMisfit)
-    ensures { first.new ≡ first_onto first.old (there_misfits (map strand_view strands.now) place node) }
+    ensures { first.new ≡ first_onto first.old (there_misfits strands.now place node) }
 {
     if let Some(node) = node {
         first.note_unless(is_there(strands, node), place);
@@ -56,7 +55,7 @@ fn there_misfits(strands: &[Strand], place: Place, node: Option<Node>, first: &m
 
 /// The form must be a node that exists.
 pub fn node_misfits(strands: &[Strand], form: &Form, first: &mut FirstMisfit)
-    ensures { first.new ≡ first_onto first.old (node_misfits (map strand_view strands.now) (view form.now)) }
+    ensures { first.new ≡ first_onto first.old (node_misfits strands.now (view form.now)) }
 {
     numbers_misfits(form, first);
     there_misfits(strands, place_of(form), node_of(form), first);
@@ -69,7 +68,7 @@ pub(crate) fn one_node_misfits(
     items: &[Form],
     first: &mut FirstMisfit,
 )
-    ensures { first.new ≡ first_onto first.old (entries_misfits (node_misfits (map strand_view strands.now) ∷ []) place (map view items.now)) }
+    ensures { first.new ≡ first_onto first.old (entries_misfits (node_misfits strands.now ∷ []) place (map view items.now)) }
 {
     let Some((node, rest)) = items.split_first() else {
         first.note(place);

@@ -2,8 +2,7 @@
 ghost use Rattle.std.specs.Prelude.{◌≡◌, ◌++◌, ◌∷◌, [], map, codes, Some, None, IfOk, OnOk};
 ghost use Rattle.cp_model.specs.Same.{same_node};
 ghost use Rattle.cp_sexpr.specs.View.{view};
-ghost use Rattle.cp_language.specs.Problems.{pair_of, pairs_in, between_strands};
-ghost use Rattle.cp_strand.specs.View.{strand_view};
+ghost use Rattle.cp_language.specs.Problems.{pair_of, between_strands};
 ghost use Rattle.cp_load.specs.Acyclic.{IsAcyclicIf};
 ghost use Rattle.cp_report.specs.Misfits.{entries_misfits, list_misfits};
 ghost use Rattle.cp_report.specs.Heads.{item_with, optional_misfits};
@@ -54,7 +53,7 @@ struct Before<'a> {
 /// no cycle.
 fn is_further(alloc: Global, before: Before<'_>, pair: OrderPair) -> Result<bool, AllocError>
     requires { IsAcyclicIf before.acyclic (before.pairs.now ++ between_strands (Some pair)) }
-    ensures { IfOk result (λ b. b ≡ is_further_pair (map strand_view before.entry.strands.now) before.entry.pairs.now (Some pair)) }
+    ensures { IfOk result (λ b. b ≡ is_further_pair before.entry.strands.now before.entry.pairs.now (Some pair)) }
 {
     if !is_transmission(before.strands, pair.earlier) {
         return Ok(false);
@@ -90,7 +89,7 @@ fn may_follow(
     pair: Option<OrderPair>,
 ) -> Result<bool, AllocError>
     requires { IsAcyclicIf before.acyclic (before.pairs.now ++ between_strands pair) }
-    ensures { IfOk result (λ b. b ≡ is_further_pair (map strand_view before.entry.strands.now) before.entry.pairs.now pair) }
+    ensures { IfOk result (λ b. b ≡ is_further_pair before.entry.strands.now before.entry.pairs.now pair) }
 {
     match pair {
         Some(pair) => is_further(alloc, before, pair),
@@ -100,7 +99,7 @@ fn may_follow(
 
 /// The items of the list at this place must be two nodes.
 fn two_nodes_misfits(strands: &[Strand], place: Place, items: &[Form], first: &mut FirstMisfit)
-    ensures { first.new ≡ first_onto first.old (entries_misfits (node_misfits (map strand_view strands.now) ∷ node_misfits (map strand_view strands.now) ∷ []) place (map view items.now)) }
+    ensures { first.new ≡ first_onto first.old (entries_misfits (node_misfits strands.now ∷ node_misfits strands.now ∷ []) place (map view items.now)) }
 {
     let Some((node, rest)) = items.split_first() else {
         first.note(place);
@@ -112,7 +111,7 @@ fn two_nodes_misfits(strands: &[Strand], place: Place, items: &[Form], first: &m
 
 /// The form must be a list of two nodes.
 fn nodes_misfits(strands: &[Strand], form: &Form, first: &mut FirstMisfit)
-    ensures { first.new ≡ first_onto first.old (list_misfits (entries_misfits (node_misfits (map strand_view strands.now) ∷ node_misfits (map strand_view strands.now) ∷ [])) (view form.now)) }
+    ensures { first.new ≡ first_onto first.old (list_misfits (entries_misfits (node_misfits strands.now ∷ node_misfits strands.now ∷ [])) (view form.now)) }
 {
     let Form::List(place, items) = form else {
         first.note(place_of(form));
@@ -125,7 +124,7 @@ fn nodes_misfits(strands: &[Strand], form: &Form, first: &mut FirstMisfit)
 /// this pair must have no cycle.
 fn pair_misfits(alloc: Global, before: Before<'_>, form: &Form) -> Result<FirstMisfit, AllocError>
     requires { IsAcyclicIf before.acyclic (before.pairs.now ++ pair_of (view form.now)) }
-    ensures { IfOk result (λ inside. inside ≡ first_onto None (pair_misfits (map strand_view before.entry.strands.now) before.entry.pairs.now (view form.now))) }
+    ensures { IfOk result (λ inside. inside ≡ first_onto None (pair_misfits before.entry.strands.now before.entry.pairs.now (view form.now))) }
 {
     let mut inside = FirstMisfit::new();
     nodes_misfits(before.strands, form, &mut inside);
@@ -141,7 +140,7 @@ fn pairs_misfits(
     items: &[Form],
     first: &mut FirstMisfit,
 ) -> Result<(), AllocError>
-    ensures { OnOk result (first.new ≡ first_onto first.old (pairs_misfits (map strand_view strands.now) [] (map view items.now))) }
+    ensures { OnOk result (first.new ≡ first_onto first.old (pairs_misfits strands.now [] (map view items.now))) }
 {
     let mut pairs = Vec::new(alloc);
     add_pairs(items, &mut pairs)?;
@@ -168,7 +167,7 @@ fn precedes_misfits(
     items: &[Form],
     first: &mut FirstMisfit,
 ) -> Result<(), AllocError>
-    ensures { OnOk result (first.new ≡ first_onto first.old (precedes_misfits (map strand_view strands.now) place (map view items.now))) }
+    ensures { OnOk result (first.new ≡ first_onto first.old (precedes_misfits strands.now place (map view items.now))) }
 {
     lacking(1, place, items, first);
     pairs_misfits(alloc, strands, items, first)
@@ -181,7 +180,7 @@ pub(crate) fn order_misfits(
     items: &[Form],
     first: &mut FirstMisfit,
 ) -> Result<(), AllocError>
-    ensures { OnOk result (first.new ≡ first_onto first.old (optional_misfits (precedes_misfits (map strand_view strands.now))
+    ensures { OnOk result (first.new ≡ first_onto first.old (optional_misfits (precedes_misfits strands.now)
         (item_with (codes "precedes" ∷ []) (map view items.now)))) }
 {
     match item_with(items, b"precedes") {

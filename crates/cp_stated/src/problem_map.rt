@@ -1,7 +1,6 @@
 // The map from the problem that a label form states.
 ghost use Rattle.std.specs.Prelude.{◌≡◌, ◌∷◌, [], nat_lt, codes, length, map, IfOk, OnOk};
 ghost use Rattle.cp_sexpr.specs.View.{view};
-ghost use Rattle.cp_strand.specs.View.{strand_view};
 ghost use Rattle.cp_report.specs.Misfits.{list_misfits};
 ghost use Rattle.cp_report.specs.Heads.{item_with, optional_misfits};
 ghost use Rattle.cp_report.specs.Skeletons.{strand_number_misfits, strands_mapped};
@@ -28,7 +27,7 @@ fn has_strand(strands: &[Strand], number: usize) -> bool
 
 /// The form must be the number of one of these strands.
 pub fn strand_number_misfits(strands: &[Strand], form: &Form, first: &mut FirstMisfit)
-    ensures { first.new ≡ first_onto first.old (strand_number_misfits (map strand_view strands.now) (view form.now)) }
+    ensures { first.new ≡ first_onto first.old (strand_number_misfits strands.now (view form.now)) }
 {
     match form {
         Form::Number(place, number) => first.note_unless(has_strand(strands, *number), *place),
@@ -44,7 +43,7 @@ fn strand_numbers_misfits(
     items: &[Form],
     first: &mut FirstMisfit,
 )
-    ensures { first.new ≡ first_onto first.old (strands_of_problem_misfits (map strand_view problem.now) (map strand_view strands.now) place (map view items.now)) }
+    ensures { first.new ≡ first_onto first.old (strands_of_problem_misfits problem.now strands.now place (map view items.now)) }
 {
     for (number, item) in items.iter().enumerate() {
         if !has_strand(problem, number) {
@@ -63,7 +62,7 @@ fn strands_mapped_misfits(
     form: &Form,
     first: &mut FirstMisfit,
 )
-    ensures { first.new ≡ first_onto first.old (list_misfits (strands_of_problem_misfits (map strand_view problem.now) (map strand_view strands.now)) (view form.now)) }
+    ensures { first.new ≡ first_onto first.old (list_misfits (strands_of_problem_misfits problem.now strands.now) (view form.now)) }
 {
     let Form::List(place, items) = form else {
         first.note(place_of(form));
@@ -90,8 +89,8 @@ fn map_entries_misfits(
     items: &[Form],
     first: &mut FirstMisfit,
 ) -> Result<(), AllocError>
-    ensures { OnOk result (first.new ≡ first_onto first.old (map_misfits_to (map strand_view ends.entry.problem.now) ends.entry.names.now
-        (scope_view ends.entry.scope) (map strand_view ends.entry.strands.now) place (map view items.now))) }
+    ensures { OnOk result (first.new ≡ first_onto first.old (map_misfits_to ends.entry.problem.now ends.entry.names.now
+        (scope_view ends.entry.scope) ends.entry.strands.now place (map view items.now))) }
 {
     let Some((numbers, maplets)) = items.split_first() else {
         first.note(place);
@@ -108,8 +107,8 @@ pub(crate) fn map_misfits(
     items: &[Form],
     first: &mut FirstMisfit,
 ) -> Result<(), AllocError>
-    ensures { OnOk result (first.new ≡ first_onto first.old (optional_misfits (map_misfits_to (map strand_view ends.entry.problem.now) ends.entry.names.now
-        (scope_view ends.entry.scope) (map strand_view ends.entry.strands.now)) (item_with (codes "map" ∷ []) (map view items.now)))) }
+    ensures { OnOk result (first.new ≡ first_onto first.old (optional_misfits (map_misfits_to ends.entry.problem.now ends.entry.names.now
+        (scope_view ends.entry.scope) ends.entry.strands.now) (item_with (codes "map" ∷ []) (map view items.now)))) }
 {
     match item_with(items, b"map") {
         Some(item) => map_entries_misfits(alloc, ends, place_of(item), items_behind(item), first),

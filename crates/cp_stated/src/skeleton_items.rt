@@ -2,7 +2,6 @@
 ghost use Rattle.std.specs.Prelude.{◌≡◌, map, IfOk, OnOk};
 ghost use Rattle.cp_model.specs.Given.{with_given};
 ghost use Rattle.cp_sexpr.specs.View.{view};
-ghost use Rattle.cp_strand.specs.View.{strand_view};
 ghost use Rattle.cp_load.specs.UncheckedProblems.{unchecked_view};
 ghost use Rattle.cp_report.specs.Skeletons.{scope_of, problem_variables, strands_of_label, around_strands_misfits};
 ghost use Rattle.cp_spelled.specs.FirstMisfit.{first_onto};
@@ -22,7 +21,7 @@ use std::alloc::{AllocError, Global};
 
 /// What the roles of these strands give, each once.
 fn given_by(alloc: Global, strands: &[Strand]) -> Result<Assumptions, AllocError>
-    ensures { IfOk result (λ a. a ≡ with_given (map strand_view strands.now) no_assumptions) }
+    ensures { IfOk result (λ a. a ≡ with_given strands.now no_assumptions) }
 {
     let mut given = Assumptions::new(Vec::new(alloc), Vec::new(alloc), Vec::new(alloc));
     add_given(alloc, strands, &mut given)?;
@@ -44,7 +43,7 @@ pub fn around_strands_misfits(
 ) -> Result<(), AllocError>
     requires names { names.now ≡ problem_variables (unchecked_view problem.now) }
     requires scope { scope_view scope ≡ scope_of (map view items.now) }
-    requires strands { map strand_view strands.now ≡ strands_of_label (unchecked_view problem.now) (map view items.now) }
+    requires strands { strands.now ≡ strands_of_label (unchecked_view problem.now) (map view items.now) }
     ensures { OnOk result (first.new ≡ first_onto first.old (around_strands_misfits (unchecked_view problem.now) place (map view items.now))) }
 {
     let ends = Ends {

@@ -2,8 +2,6 @@
 ghost use Rattle.std.specs.Prelude.{◌≡◌, [], map, IfOk};
 ghost use Rattle.cp_base.specs.declared.place.Place.{Place};
 ghost use Rattle.cp_sexpr.specs.View.{view};
-ghost use Rattle.cp_strand.specs.View.{strand_view};
-ghost use Rattle.cp_skel.specs.View.{skeleton_view};
 ghost use Rattle.cp_load.specs.UncheckedProblems.{unchecked_view};
 ghost use Rattle.cp_report.specs.Skeletons.{declarations_of_label, scope_of, assumptions_stated, problem_variables, strands_of_label, from_problem_by, strands_misfits, around_strands_misfits, skeleton_stated};
 ghost use Rattle.cp_spelled.specs.Views.{scope_view};
@@ -47,7 +45,7 @@ fn from_problem_by(
     to_strands: Vec<usize>,
     values: Vec<Term>,
 ) -> Result<FromProblem, AllocError>
-    ensures { IfOk result (λ f. f ≡ from_problem_to own.now (map strand_view strands.now) pairs.now assumptions.now to_strands.items values.items) }
+    ensures { IfOk result (λ f. f ≡ from_problem_to own.now strands.now pairs.now assumptions.now to_strands.items values.items) }
 {
     let images = images_among(alloc, &to_strands, &values, own.assumptions(), assumptions)?;
     let ordered = pairs_in_order(alloc, &to_strands, &values, own.pairs(), strands, pairs)?;
@@ -66,10 +64,10 @@ pub fn skeleton_stated(
 ) -> Result<Skeleton, AllocError>
     requires names { names.now ≡ problem_variables (unchecked_view problem.now) }
     requires scope { scope_view scope ≡ scope_of (map view items.now) }
-    requires strands { map strand_view strands.items ≡ strands_of_label (unchecked_view problem.now) (map view items.now) }
+    requires strands { strands.items ≡ strands_of_label (unchecked_view problem.now) (map view items.now) }
     requires strands_fit { strands_misfits (unchecked_view problem.now) (map view items.now) ≡ [] }
     requires others_fit { (place : Place) × (around_strands_misfits (unchecked_view problem.now) place (map view items.now) ≡ []) }
-    ensures skeleton { IfOk result (λ k. skeleton_view k ≡ skeleton_stated (unchecked_view problem.now) (map view items.now)) }
+    ensures skeleton { IfOk result (λ k. k ≡ skeleton_stated (unchecked_view problem.now) (map view items.now)) }
     ensures variables { IfOk result (λ k. k.variables ≡ declarations_of_label (map view items.now)) }
 {
     let entries = entries_under(items, b"map");

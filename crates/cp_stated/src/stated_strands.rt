@@ -5,7 +5,6 @@ ghost use Rattle.cp_model.specs.Skeleton.{listener};
 ghost use Rattle.cp_sexpr.specs.View.{view};
 ghost use Rattle.cp_language.specs.Problems.{number_of};
 ghost use Rattle.cp_roles.specs.Named.{shared_roles_view};
-ghost use Rattle.cp_strand.specs.View.{strand_view};
 ghost use Rattle.cp_report.specs.Heads.{items_with, strand_heads};
 ghost use Rattle.cp_report.specs.Skeletons.{instance_with, instance_of_entries, strand_of};
 ghost use Rattle.cp_spelled.specs.Views.{scope_view};
@@ -32,7 +31,7 @@ pub fn number_of(form: &Form) -> usize
 
 /// Placeholder for a strand that does not fit.
 fn no_strand(alloc: Global) -> Result<Strand, AllocError>
-    ensures { IfOk result (λ s. strand_view s ≡ listener (tag_term [])) }
+    ensures { IfOk result (λ s. s ≡ listener (tag_term [])) }
 {
     Strand::listener(alloc, tag(alloc, "")?)
 }
@@ -45,7 +44,7 @@ fn instance_with(
     height: usize,
     maplets: &[Form],
 ) -> Result<Strand, AllocError>
-    ensures { IfOk result (λ s. strand_view s ≡ instance_with (scope_view scope.entry) (option_map (λ r. r.now.value) role.entry) height (map view maplets.now)) }
+    ensures { IfOk result (λ s. s ≡ instance_with (scope_view scope.entry) (option_map (λ r. r.now.value) role.entry) height (map view maplets.now)) }
 {
     let Some(role) = role else {
         return no_strand(alloc);
@@ -62,7 +61,7 @@ fn instance_of(
     scope: Scope<'_>,
     items: &[Form],
 ) -> Result<Strand, AllocError>
-    ensures { IfOk result (λ s. strand_view s ≡ instance_of_entries (shared_roles_view roles.now) (scope_view scope.entry) (map view items.now)) }
+    ensures { IfOk result (λ s. s ≡ instance_of_entries (shared_roles_view roles.now) (scope_view scope.entry) (map view items.now)) }
 {
     let [name, height, maplets @ ..] = items else {
         return no_strand(alloc);
@@ -78,7 +77,7 @@ fn strand_of(
     scope: Scope<'_>,
     form: &Form,
 ) -> Result<Strand, AllocError>
-    ensures { IfOk result (λ s. strand_view s ≡ strand_of (shared_roles_view roles.now) (scope_view scope.entry) (view form.now)) }
+    ensures { IfOk result (λ s. s ≡ strand_of (shared_roles_view roles.now) (scope_view scope.entry) (view form.now)) }
 {
     let items = items_behind(form);
     if has_head(form, b"defstrand") {
@@ -96,7 +95,7 @@ pub fn strands_of(
     scope: Scope<'_>,
     items: &[Form],
 ) -> Result<Vec<Strand>, AllocError>
-    ensures { IfOk result (λ v. map strand_view v.items ≡ map (strand_of (shared_roles_view roles.now) (scope_view scope.entry)) (items_with strand_heads (map view items.now))) }
+    ensures { IfOk result (λ v. v.items ≡ map (strand_of (shared_roles_view roles.now) (scope_view scope.entry)) (items_with strand_heads (map view items.now))) }
 {
     let mut strands = Vec::new(alloc);
     for item in items {

@@ -10,7 +10,7 @@ ghost use Rattle.cp_sexpr.specs.View.{view};
 ghost use Rattle.cp_language.specs.Terms.{as_atom};
 ghost use Rattle.cp_language.specs.Roles.{list_items};
 ghost use Rattle.cp_language.specs.Problems.{second_form};
-ghost use Rattle.cp_strand.specs.View.{instance_view, strand_view};
+ghost use Rattle.cp_strand.specs.View.{instance_view};
 ghost use Rattle.cp_report.specs.Misfits.{lacking, entries_misfits, list_misfits};
 ghost use Rattle.cp_report.specs.Heads.{optional_misfits, entries_or_none};
 ghost use Rattle.cp_report.specs.Spelled.{atom_misfits};
@@ -78,7 +78,7 @@ fn is_sent_on(instance: &Instance, value: &Atom, index: usize) -> bool
 
 /// Whether a strand is an instance with a transmission at this index that carries a value.
 fn may_be_origin_on(strand: &Strand, value: &Atom, index: usize) -> bool
-    ensures { result ≡ may_be_origin_on (strand_view strand.now) value.now index }
+    ensures { result ≡ may_be_origin_on strand.now value.now index }
 {
     match strand.shape() {
         StrandShape::Instance(instance) => is_sent_on(instance, value, index),
@@ -88,7 +88,7 @@ fn may_be_origin_on(strand: &Strand, value: &Atom, index: usize) -> bool
 
 /// Whether a node is a transmission of an instance that carries a value.
 fn may_be_origin(strands: &[Strand], value: &Atom, node: Node) -> bool
-    ensures { result ≡ may_be_origin (map strand_view strands.now) value.now node }
+    ensures { result ≡ may_be_origin strands.now value.now node }
 {
     match strands.get(node.strand) {
         Some(strand) => may_be_origin_on(strand, value, node.index),
@@ -133,7 +133,7 @@ fn value_and_node_misfits(
     items: &[Form],
     first: &mut FirstMisfit,
 )
-    ensures { first.new ≡ first_onto first.old (entries_misfits (atom_misfits (scope_view scope.entry) ∷ node_misfits (map strand_view strands.now) ∷ []) place (map view items.now)) }
+    ensures { first.new ≡ first_onto first.old (entries_misfits (atom_misfits (scope_view scope.entry) ∷ node_misfits strands.now ∷ []) place (map view items.now)) }
 {
     let Some((value, rest)) = items.split_first() else {
         first.note(place);
@@ -145,7 +145,7 @@ fn value_and_node_misfits(
 
 /// The form must be a list of a value and a node.
 fn entry_misfits(scope: Scope<'_>, strands: &[Strand], form: &Form, first: &mut FirstMisfit)
-    ensures { first.new ≡ first_onto first.old (list_misfits (entries_misfits (atom_misfits (scope_view scope.entry) ∷ node_misfits (map strand_view strands.now) ∷ [])) (view form.now)) }
+    ensures { first.new ≡ first_onto first.old (list_misfits (entries_misfits (atom_misfits (scope_view scope.entry) ∷ node_misfits strands.now ∷ [])) (view form.now)) }
 {
     let Form::List(place, items) = form else {
         first.note(place_of(form));
@@ -164,7 +164,7 @@ fn unique_misfits(
     first: &mut FirstMisfit,
 )
     requires { unique.now ≡ unique_of (scope_view scope) (view form.now) }
-    ensures { first.new ≡ first_onto first.old (unique_misfits (scope_view scope.entry) (map strand_view strands.now) before.now (view form.now)) }
+    ensures { first.new ≡ first_onto first.old (unique_misfits (scope_view scope.entry) strands.now before.now (view form.now)) }
 {
     let mut inside = FirstMisfit::new();
     entry_misfits(scope, strands, form, &mut inside);
@@ -182,7 +182,7 @@ fn uniques_misfits(
     items: &[Form],
     first: &mut FirstMisfit,
 ) -> Result<Vec<UniqueAt>, AllocError>
-    ensures misfits { OnOk result (first.new ≡ first_onto first.old (uniques_misfits (scope_view scope.entry) (map strand_view strands.now) [] (map view items.now))) }
+    ensures misfits { OnOk result (first.new ≡ first_onto first.old (uniques_misfits (scope_view scope.entry) strands.now [] (map view items.now))) }
     ensures uniques { IfOk result (λ v. v.items ≡ map (unique_of (scope_view scope.entry)) (map view items.now)) }
 {
     let mut uniques = Vec::new(alloc);
@@ -203,7 +203,7 @@ fn optional_uniques_misfits(
     item: Option<&Form>,
     first: &mut FirstMisfit,
 ) -> Result<Vec<UniqueAt>, AllocError>
-    ensures misfits { OnOk result (first.new ≡ first_onto first.old (optional_misfits (λ p fs. lacking 1 p fs ++ uniques_misfits (scope_view scope.entry) (map strand_view strands.now) [] fs)
+    ensures misfits { OnOk result (first.new ≡ first_onto first.old (optional_misfits (λ p fs. lacking 1 p fs ++ uniques_misfits (scope_view scope.entry) strands.now [] fs)
         (option_map (λ f. view f.now) item.entry))) }
     ensures uniques { IfOk result (λ v. v.items ≡ map (unique_of (scope_view scope.entry)) (entries_or_none (option_map (λ f. view f.now) item.entry))) }
 {
@@ -227,7 +227,7 @@ pub(crate) fn all_uniques_misfits(
     first: &mut FirstMisfit,
 ) -> Result<(), AllocError>
     requires { scope_view scope ≡ scope_of (map view items.now) }
-    ensures { OnOk result (first.new ≡ first_onto first.old (uniques_item_misfits place (map strand_view strands.now) given.now (map view items.now))) }
+    ensures { OnOk result (first.new ≡ first_onto first.old (uniques_item_misfits place strands.now given.now (map view items.now))) }
 {
     let item = item_with(items, b"uniq-orig");
     let mut inside = FirstMisfit::new();

@@ -4,3 +4,4 @@ pub mod Occurrences
 pub mod FirstOrigins
 pub mod ValuedItems
 pub mod SameLists
+pub mod InstanceTraces

@@ -3,12 +3,14 @@ use Rattle.std.specs.Prelude.{◌≡◌, ◌⊎◌, ℕ, List, refl}
 use Rattle.std.specs.Coded.{Coded, code_by, coded_ℕ, coded_list, coded×, coded⊎}
 use Rattle.std.proofs.Common.{inl, inr}
 use Rattle.cp_model.specs.Term.{AtomTerm, Term}
+use Rattle.cp_model.specs.Bindings.{Binding}
 use Rattle.cp_model.specs.Strand.{Role, Protocol}
 use Rattle.cp_model.specs.declared.variable.Declaration.{Declaration}
 use Rattle.cp_model.specs.declared.strand.Event.{Event}
 use Rattle.cp_model.specs.declared.strand.Event.TheVariants.{Send as send, Receive as recv}
-use Rattle.cp_model.specs.Data.{InstanceData, StrandData, instance_data, listener_data}
-use Rattle.cp_term.specs.Code.{coded_atom_term, coded_term, coded_sort}
+use Rattle.cp_model.specs.Skeleton.{SkeletonStrand, instance, listener}
+use Rattle.cp_strand.specs.View.{InstanceData}
+use Rattle.cp_term.specs.Code.{coded_atom_term, coded_term, coded_sort, coded_binding}
 
 abbrev pub coded_declaration : Coded Declaration
 coded_declaration = code_by (List ℕ × _) (coded× (coded_list coded_ℕ) coded_sort) (λ d. (d.identifier, d.sort)) (λ p. record { identifier = p.0; sort = p.1 }) (λ d. refl)
@@ -48,17 +50,17 @@ coded_instance =
     (λ p. record { role = p.0; height = p.1.0; values = p.1.1 })
     (λ i. refl)
 
-abbrev strand_parts : StrandData → (Role × (ℕ × List Term)) ⊎ Term
-strand_parts (instance_data role height values) = inl (role, (height, values))
-strand_parts (listener_data t) = inr t
+abbrev strand_parts : SkeletonStrand → (Role × (ℕ × List Binding)) ⊎ Term
+strand_parts (instance role height terms) = inl (role, (height, terms))
+strand_parts (listener t) = inr t
 
-abbrev strand_from : (Role × (ℕ × List Term)) ⊎ Term → StrandData
-strand_from (inl p) = instance_data p.0 p.1.0 p.1.1
-strand_from (inr t) = listener_data t
+abbrev strand_from : (Role × (ℕ × List Binding)) ⊎ Term → SkeletonStrand
+strand_from (inl p) = instance p.0 p.1.0 p.1.1
+strand_from (inr t) = listener t
 
-pub strand_back : (s : StrandData) → strand_from (strand_parts s) ≡ s
-strand_back (instance_data role height values) = refl
-strand_back (listener_data t) = refl
+pub strand_back : (s : SkeletonStrand) → strand_from (strand_parts s) ≡ s
+strand_back (instance role height terms) = refl
+strand_back (listener t) = refl
 
-abbrev pub coded_strand : Coded StrandData
-coded_strand = code_by ((Role × (ℕ × List Term)) ⊎ Term) (coded⊎ (coded× coded_role (coded× coded_ℕ (coded_list coded_term))) coded_term) strand_parts strand_from strand_back
+abbrev pub coded_strand : Coded SkeletonStrand
+coded_strand = code_by ((Role × (ℕ × List Binding)) ⊎ Term) (coded⊎ (coded× coded_role (coded× coded_ℕ (coded_list coded_binding))) coded_term) strand_parts strand_from strand_back

@@ -2,7 +2,6 @@ pub mod Code
 pub mod View
 pub mod Atoms
 pub mod Bodies
-pub mod Declares
 pub mod RoleParts
 pub mod Shapes
 pub mod Origins

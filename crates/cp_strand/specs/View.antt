@@ -1,14 +1,16 @@
--- What strands of the program stand for.
-use Rattle.cp_model.specs.Skeleton as skeleton
-use Rattle.cp_model.specs.Homomorphism.{substitution_by}
-use Rattle.cp_model.specs.Data.{InstanceData, StrandData, instance_data, listener_data}
+-- What instances of the program stand for.
+use Rattle.std.specs.Prelude.{ℕ, List}
+use Rattle.cp_model.specs.Term.{Term}
+use Rattle.cp_model.specs.Bindings.{bindings_of}
+use Rattle.cp_model.specs.Strand.{Role}
+use Rattle.cp_model.specs.Skeleton.{SkeletonStrand, instance}
 
-abbrev pub instance_view : InstanceData → skeleton.SkeletonStrand
-instance_view i = skeleton.instance i.role i.height (substitution_by i.values)
+-- An instance of a role, of some height, with terms for the role's variables by their numbers.
+pub record InstanceData : Type 0 where
+  pub role : Role
+  pub height : ℕ
+  pub values : List Term
 
-abbrev pub instance_as_data : InstanceData → StrandData
-instance_as_data i = instance_data i.role i.height i.values
-
-abbrev pub strand_view : StrandData → skeleton.SkeletonStrand
-strand_view (instance_data role height values) = skeleton.instance role height (substitution_by values)
-strand_view (listener_data t) = skeleton.listener t
+-- The strand that is this instance.
+abbrev pub instance_view : InstanceData → SkeletonStrand
+instance_view i = instance i.role i.height (bindings_of i.values)

@@ -5,7 +5,7 @@ ghost use Rattle.cp_model.specs.Term.{apply_to, apply_to_atom};
 ghost use Rattle.cp_model.specs.Strand.{event_map};
 ghost use Rattle.cp_model.specs.Skeleton.{skeleton_trace, listener};
 ghost use Rattle.cp_model.specs.Homomorphism.{substitution_by};
-ghost use Rattle.cp_strand.specs.View.{instance_view, strand_view};
+ghost use Rattle.cp_strand.specs.View.{instance_view};
 
 use crate::atom::Atom;
 use crate::prefix_variables::prefix_of;
@@ -127,7 +127,7 @@ fn listener_event(message: &Term, index: usize) -> Result<Option<Event>, AllocEr
 impl Strand {
     /// The events of the strand, if it keeps them.
     pub fn held(&self) -> Option<&[Event]>
-        ensures { IfSome result (λ es. es.now ≡ skeleton_trace (strand_view self.now)) }
+        ensures { IfSome result (λ es. es.now ≡ skeleton_trace self.now) }
     {
         match self.body() {
             Body::Instance(_, Some(events)) => Some(events),
@@ -137,7 +137,7 @@ impl Strand {
 
     /// The event at an index of the strand, from 0.
     pub fn event(&self, alloc: Global, index: usize) -> Result<Option<Event>, AllocError>
-        ensures { IfOk result (λ e. e ≡ item_at (skeleton_trace (strand_view self.now)) index) }
+        ensures { IfOk result (λ e. e ≡ item_at (skeleton_trace self.now) index) }
     {
         match self.body() {
             Body::Instance(_, Some(events)) => copy_at(events, index),

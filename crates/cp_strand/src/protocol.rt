@@ -1,6 +1,6 @@
 // Declarations, events, roles and protocols.
 ghost use Rattle.std.specs.Prelude.{◌≡◌, ◌≤◌, map};
-ghost use Rattle.cp_strand.specs.Declares.{DeclaresItsVariables, HasDeclaringRoles};
+ghost use Rattle.cp_model.specs.Declares.{DeclaresItsVariables, HasDeclaringRoles};
 
 use crate::atom::Atom;
 use cp_base::Text;
@@ -85,7 +85,7 @@ impl Model for Role {
 
     ghost view = { role_of_parts };
 
-    ghost use Rattle.cp_strand.specs.Declares.{DeclaresItsVariables};
+    ghost use Rattle.cp_model.specs.Declares.{DeclaresItsVariables};
 
     ghost invariant = { λ r. DeclaresItsVariables (role_of_parts r) };
 }
@@ -206,7 +206,7 @@ impl Model for Protocol {
 
     ghost view = { λ p. record { name = p.name; roles = map (λ r. r.value) p.roles.items } };
 
-    ghost use Rattle.cp_strand.specs.Declares.{HasDeclaringRoles};
+    ghost use Rattle.cp_model.specs.Declares.{HasDeclaringRoles};
 
     ghost invariant = { λ p. HasDeclaringRoles (record { name = p.name; roles = map (λ r. r.value) p.roles.items }) };
 }

@@ -1,9 +1,9 @@
 // Strands of skeletons, as handles that copies share.
 ghost use Rattle.std.specs.Prelude.{◌≡◌, IfOk};
 ghost use Rattle.cp_strand.specs.Bodies.{strand_of_body, HasItsEvents};
-ghost use Rattle.cp_model.specs.Data.{listener_data};
+ghost use Rattle.cp_model.specs.Skeleton.{listener};
 ghost use Rattle.cp_strand.specs.Shapes.{strand_of_shape};
-ghost use Rattle.cp_strand.specs.View.{instance_as_data};
+ghost use Rattle.cp_strand.specs.View.{instance_view};
 
 use crate::events::held_events;
 use crate::protocol::{Event, Role};
@@ -22,7 +22,7 @@ pub struct Instance {
 }
 
 impl Model for Instance {
-    ghost use Rattle.cp_model.specs.Data.{InstanceData};
+    ghost use Rattle.cp_strand.specs.View.{InstanceData};
     ghost use Rattle.cp_strand.specs.Code.{coded_instance};
 
     ghost Value = { InstanceData };
@@ -81,10 +81,10 @@ pub struct Strand {
 }
 
 impl Model for Strand {
-    ghost use Rattle.cp_model.specs.Data.{StrandData};
+    ghost use Rattle.cp_model.specs.Skeleton.{SkeletonStrand};
     ghost use Rattle.cp_strand.specs.Code.{coded_strand};
 
-    ghost Value = { StrandData };
+    ghost Value = { SkeletonStrand };
 
     ghost coded = { coded_strand };
 
@@ -107,7 +107,7 @@ pub enum StrandShape<'a> {
 impl Strand {
     /// The strand that is this instance.
     pub fn instance(alloc: Global, instance: Instance) -> Result<Strand, AllocError>
-        ensures { IfOk result (λ s. s ≡ instance_as_data instance) }
+        ensures { IfOk result (λ s. s ≡ instance_view instance) }
     {
         let body = Rc::new(alloc, Body::Instance(instance, None))?;
         Ok(Strand { body })
@@ -116,7 +116,7 @@ impl Strand {
     /// The strand that is this instance. If its role is small, the strand keeps its events, so that they need not be
     /// made each time. Meant for strands that a search adds, and for what they become.
     pub fn with_events(alloc: Global, instance: Instance) -> Result<Strand, AllocError>
-        ensures { IfOk result (λ s. s ≡ instance_as_data instance) }
+        ensures { IfOk result (λ s. s ≡ instance_view instance) }
     {
         let events = held_events(alloc, &instance)?;
         let body = Rc::new(alloc, Body::Instance(instance, events))?;
@@ -125,7 +125,7 @@ impl Strand {
 
     /// The listener to a message.
     pub fn listener(alloc: Global, message: Term) -> Result<Strand, AllocError>
-        ensures { IfOk result (λ s. s ≡ listener_data message) }
+        ensures { IfOk result (λ s. s ≡ listener message) }
     {
         let body = Rc::new(alloc, Body::Listener(message))?;
         Ok(Strand { body })

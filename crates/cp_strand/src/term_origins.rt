@@ -1,9 +1,9 @@
 // Where terms originate among events, on instances and on strands.
-ghost use Rattle.std.specs.Prelude.{◌≡◌, ◌↔◌, IsTrue, IfSome, IfNone, ℕ};
+ghost use Rattle.std.specs.Prelude.{◌↔◌, IsTrue, IfSome, IfNone, ℕ};
 ghost use Rattle.cp_model.specs.Strand.{OriginatesInTerms};
 ghost use Rattle.cp_model.specs.Skeleton.{skeleton_trace};
 ghost use Rattle.cp_model.specs.Homomorphism.{substitution_by};
-ghost use Rattle.cp_strand.specs.View.{instance_view, strand_view};
+ghost use Rattle.cp_strand.specs.View.{instance_view};
 ghost use Rattle.cp_strand.specs.Origins.{IsCarriedByOne, OriginatesUnder};
 
 use crate::events::event_at;
@@ -67,7 +67,7 @@ impl Instance {
 impl Strand {
     /// Whether the term originates at an index of the strand, from 0. Nothing originates on a listener.
     pub fn originates(&self, index: usize, t: &Term) -> bool
-        ensures { IsTrue result ↔ OriginatesInTerms (skeleton_trace (strand_view self.now)) t.now index }
+        ensures { IsTrue result ↔ OriginatesInTerms (skeleton_trace self.now) t.now index }
     {
         match self.shape() {
             StrandShape::Instance(instance) => instance.originates(index, t),

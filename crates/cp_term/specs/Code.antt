@@ -6,6 +6,7 @@ use Rattle.cp_model.specs.Message.{SymmetricKey, skey, ltk, KeyPair, akey, pubk,
 use Rattle.cp_model.specs.MessageCode.{coded_atom as coded_ground_atom, coded_message}
 use Rattle.cp_model.specs.SortNumbers.{sort_number, sort_from, sort_back}
 use Rattle.cp_model.specs.Term.{SymmetricTerm, skey_variable, ltk_term, PairTerm, akey_variable, pubk_term, KeyTerm, symmetric_term, asymmetric_term, AtomTerm, text_variable, datum_variable, name_variable, key_term, Term, tag_term, atom_term, pair_term, enc_term, Assignment, value_of_symmetric, value_of_key, value_of_atom, value_of, atoms_by}
+use Rattle.cp_model.specs.Bindings.{Binding}
 use Rattle.cp_model.specs.declared.sort.Sort.{Sort}
 use Rattle.cp_model.specs.declared.variable.Variable.{Variable}
 use Rattle.cp_model.specs.Tree.{Pattern}
@@ -77,3 +78,9 @@ coded_variable = code_by (Sort × ℕ) (coded× coded_sort coded_ℕ) (λ x. (x.
 abbrev pub coded_pattern : Coded Pattern
 coded_pattern =
     code_by (Term × List Variable) (coded× coded_term (coded_list coded_variable)) (λ p. (p.term, p.locals)) (λ p. record { term = p.0; locals = p.1 }) (λ p. refl)
+
+-- A binding is told apart from others by the sort and the number of its variable, and by its term.
+abbrev pub coded_binding : Coded Binding
+coded_binding =
+    code_by ((Sort × ℕ) × Term) (coded× (coded× coded_sort coded_ℕ) coded_term) (λ b. ((b.variable.sort, b.variable.number), b.term))
+    (λ p. record { variable = record { sort = p.0.0; number = p.0.1 }; term = p.1 }) (λ b. refl)

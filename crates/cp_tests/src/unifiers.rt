@@ -135,7 +135,7 @@ fn unifiers(rt: HostRuntime) -> Result<(), Fail> {
 fn binds(answer: &Option<Subst>, wanted: &Term) -> bool {
     match answer {
         Some(s) => match s.bindings() {
-            [binding] => binding.variable().number() == 2 && binding.term().same(wanted),
+            [binding] => binding.variable().number == 2 && binding.term().same(wanted),
             _ => false,
         },
         None => false,

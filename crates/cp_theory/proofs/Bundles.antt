@@ -3,6 +3,7 @@ use Rattle.std.proofs.Common.{◌++◌, ◌≡◌, ℕ, ◌<◌, List, [], ◌�
 use Rattle.cp_lists.specs.Lists.{item_at, IsIn, there, one_step, more_steps}
 use Rattle.cp_model.specs.Message.{Message}
 use Rattle.cp_model.specs.Term.{value_of}
+use Rattle.cp_model.specs.Bindings.{as_substitution}
 use Rattle.cp_model.specs.Strand.{event_map, Protocol, prefix_of, Strand, trace_of}
 use Rattle.cp_model.specs.declared.strand.Event.{Event}
 use Rattle.cp_model.specs.declared.strand.Event.TheVariants.{Send as send, Receive as recv}
@@ -112,7 +113,7 @@ module _ (k : Skeleton) (ns : List Node) (all : (n : Node) → IsNodeOf k.strand
     where
       home_taken : (ss : SkeletonStrand) → item_at k.strands n.strand ≡ Some ss → item_at (trace_of (strand_for ss)) n.index ≡ Some e → IsIn (home ss n) ns
       home_taken (instance role height terms) on at =
-          let es = subst (λ es. item_at es n.index ≡ Some e) (trace_after own_values terms (prefix_of role height)) at in
+          let es = subst (λ es. item_at es n.index ≡ Some e) (trace_after own_values (as_substitution terms) (prefix_of role height)) at in
           let r = item_of_map (event_map (value_of own_values)) (skeleton_trace (instance role height terms)) n.index _ es in
           all n (r.0, subst (λ o. item_at (skeleton_trace_or_none o) n.index ≡ Some r.0) (sym on) r.1)
       home_taken (listener t) on at = all (node_at n.strand 0) (recv t, subst (λ o. item_at (skeleton_trace_or_none o) 0 ≡ Some (recv t)) (sym on) refl)

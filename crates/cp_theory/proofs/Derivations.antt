@@ -2,7 +2,8 @@
 use Rattle.std.proofs.Common.{◌≡◌, ℕ, Bool, true, false, List, Some, refl, sym, ap, ◌∙◌, subst, inl, inr}
 use Rattle.cp_lists.specs.Lists.{item_at, IsIn}
 use Rattle.cp_model.specs.Message.{Key, inverse, Message, tag, atom, pair, enc}
-use Rattle.cp_model.specs.Term.{KeyTerm, symmetric_term, asymmetric_term, inverse_term, Term, value_of, value_of_atom, value_of_key, PairTerm, akey_variable, pubk_term, Substitution}
+use Rattle.cp_model.specs.Term.{KeyTerm, symmetric_term, asymmetric_term, inverse_term, Term, value_of, value_of_atom, value_of_key, PairTerm, akey_variable, pubk_term}
+use Rattle.cp_model.specs.Bindings.{Binding, as_substitution}
 use Rattle.cp_model.specs.Strand.{event_map, Role, prefix_of, create_tag, create_atom, pairing, splitting, encryption, decryption, trace_of}
 use Rattle.cp_model.specs.declared.strand.Event.{Event}
 use Rattle.cp_model.specs.declared.strand.Event.TheVariants.{Send as send, Receive as recv}
@@ -35,10 +36,10 @@ value_of_inverse (symmetric_term s) = refl
 value_of_inverse (asymmetric_term flag p) = value_of_opposite flag p
 
 -- The events of a role strand's image have the values of its events.
-pub image_event : (role : Role) (height : ℕ) (terms : Substitution) (i : ℕ) (e : Event Term) → item_at (skeleton_trace (instance role height terms)) i ≡ Some e →
+pub image_event : (role : Role) (height : ℕ) (terms : List Binding) (i : ℕ) (e : Event Term) → item_at (skeleton_trace (instance role height terms)) i ≡ Some e →
     item_at (trace_of (strand_for (instance role height terms))) i ≡ Some (event_map (value_of own_values) e)
 image_event role height terms i e h =
-    subst (λ es. item_at es i ≡ Some (event_map (value_of own_values) e)) (sym (trace_after own_values terms (prefix_of role height)))
+    subst (λ es. item_at es i ≡ Some (event_map (value_of own_values) e)) (sym (trace_after own_values (as_substitution terms) (prefix_of role height)))
     (map_of_item (event_map (value_of own_values)) (skeleton_trace (instance role height terms)) i _ h)
 
 pub supply : {k : Skeleton} {es : List Entry} {m : Message} {d label : Node} → SentFor k es m d label → (x : Message) → recv m ≡ recv x → SentFor k es x d label

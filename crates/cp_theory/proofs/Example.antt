@@ -1,8 +1,8 @@
 -- The example meets the premises of the law.
-use Rattle.std.proofs.Common.{◌≡◌, ℕ, zero, suc, ◌+◌, ◌<◌, Some, refl, sym, ap, ◌∙◌, subst, le_refl, lt_trans, lt_irrefl, arith}
+use Rattle.std.proofs.Common.{◌≡◌, ℕ, zero, suc, ◌+◌, ◌<◌, Some, refl, sym, ap, ◌∙◌, subst, le_refl, lt_trans, lt_irrefl, arith, List, []}
 use Rattle.cp_lists.specs.Lists.{item_at, IsIn, here, one_step, more_steps}
-use Rattle.cp_model.specs.Term.{AtomTerm, text_variable, Term, atom_term, IsCarriedByTerm, itself_term, in_left_term, in_plaintext_term, Substitution}
-use Rattle.cp_model.specs.Identity.{unchanged}
+use Rattle.cp_model.specs.Term.{AtomTerm, text_variable, Term, atom_term, IsCarriedByTerm, itself_term, in_left_term, in_plaintext_term}
+use Rattle.cp_model.specs.Bindings.{Binding}
 use Rattle.cp_model.specs.Strand.{Role, IsHeight}
 use Rattle.cp_model.specs.declared.strand.Event.TheVariants.{Send as send, Receive as recv}
 use Rattle.cp_model.specs.Bundle.{node_at}
@@ -29,15 +29,15 @@ path_rises (more_steps s h) = lt_trans (step_rises s) (path_rises h)
 
 -- The one instance is strand 0.
 abbrev own_instance : SkeletonStrand
-own_instance = instance example_role 1 unchanged
+own_instance = instance example_role 1 []
 
-instance_at : (s : ℕ) (role : Role) (height : ℕ) (terms : Substitution) → item_at heard_skeleton.strands s ≡ Some (instance role height terms) → s ≡ 0
+instance_at : (s : ℕ) (role : Role) (height : ℕ) (terms : List Binding) → item_at heard_skeleton.strands s ≡ Some (instance role height terms) → s ≡ 0
 instance_at zero role height terms e = refl
 instance_at (suc zero) role height terms e = absurd (cc)
 instance_at (suc (suc s)) role height terms e = absurd (cc)
 
-each_instance : (P : ℕ → Role → ℕ → Substitution → Type 0) → P 0 example_role 1 unchanged →
-    (s : ℕ) (role : Role) (height : ℕ) (terms : Substitution) → item_at heard_skeleton.strands s ≡ Some (instance role height terms) → P s role height terms
+each_instance : (P : ℕ → Role → ℕ → List Binding → Type 0) → P 0 example_role 1 [] →
+    (s : ℕ) (role : Role) (height : ℕ) (terms : List Binding) → item_at heard_skeleton.strands s ≡ Some (instance role height terms) → P s role height terms
 each_instance P p zero role height terms e = same_instance (P 0) e p
 each_instance P p (suc zero) role height terms e = absurd (cc)
 each_instance P p (suc (suc s)) role height terms e = absurd (cc)
@@ -70,7 +70,7 @@ origin_at v n o =
 
 origin : OriginatesAtTerm heard_skeleton (text_variable 0) (node_at 0 0)
 origin = (
-  record { role = example_role; height = 1; terms = unchanged; on_instance = refl },
+  record { role = example_role; height = 1; terms = []; on_instance = refl },
   record { sent = heard_term; transmission = refl; carried = in_plaintext_term (in_left_term itself_term); first = λ j e lt at c. omega arith },
 )
 
@@ -82,7 +82,7 @@ keeps_assumptions = record {
 }
 
 heard : DerivableAt heard_skeleton (node_at 1 0) heard_term
-heard = sent_before {m = node_at 0 0} (record { role = example_role; height = 1; terms = unchanged; on_instance = refl }) refl (one_step (along_pair {p = heard_pair} here))
+heard = sent_before {m = node_at 0 0} (record { role = example_role; height = 1; terms = []; on_instance = refl }) refl (one_step (along_pair {p = heard_pair} here))
 
 derivable_on : (s i : ℕ) (t : Term) → term_event_at heard_skeleton.strands (node_at s i) ≡ Some (recv t) → DerivableAt heard_skeleton (node_at s i) t
 derivable_on zero zero t e = absurd (cc)

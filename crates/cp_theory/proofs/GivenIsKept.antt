@@ -4,7 +4,8 @@ use Rattle.std.proofs.Common.{subst₂}
 use Rattle.cp_lists.specs.Lists.{item_at, IsIn}
 use Rattle.cp_lists.proofs.Members.{in_append}
 use Rattle.cp_model.specs.Message.{Atom, atom}
-use Rattle.cp_model.specs.Term.{AtomTerm, Assignment, value_of_atom, after, AgreeOn, Substitution, apply_to_atom}
+use Rattle.cp_model.specs.Term.{AtomTerm, Assignment, value_of_atom, after, AgreeOn, apply_to_atom}
+use Rattle.cp_model.specs.Bindings.{Binding, as_substitution}
 use Rattle.cp_model.specs.Strand.{Role, Protocol, variables_of_prefix, prefix_of, Applies, AppliesAt, regular}
 use Rattle.cp_model.specs.declared.strand.Event.TheVariants.{Send as send}
 use Rattle.cp_model.specs.Bundle.{node_at, KeepsNon, KeepsPenetratorNon, KeepsUnique, KeepsRole, Bundle, IsBundle}
@@ -22,15 +23,15 @@ pub old_or_given : {A : Type 0} {given : A → Type 0} {old new : List A} → Ad
 old_or_given {old = old} a x i = ⊎_elim inl (λ j. inr (a.only_given x j)) (in_append old a.more (subst (IsIn x) a.behind i))
 
 module _ (protocol : Protocol) (b : Bundle) (is : IsBundle protocol b) (role : Role) (strand to_height : ℕ) (to_values : Assignment) (on : item_at b.strands strand ≡ Some (regular role to_height to_values))
-    (height : ℕ) (at_least : height ≤ to_height) (terms : Substitution) (g : Assignment) (equal : AgreeOn (variables_of_prefix role height) (after g terms) to_values) where
+    (height : ℕ) (at_least : height ≤ to_height) (terms : List Binding) (g : Assignment) (equal : AgreeOn (variables_of_prefix role height) (after g (as_substitution terms)) to_values) where
   kept : KeepsRole b.strands strand role to_height to_values
   kept = is.of_protocol.kept strand role to_height to_values on
 
   higher : (v : AtomTerm) → Applies role height v → Applies role to_height v
   higher v applies x i = variables_of_higher role height to_height at_least x (applies x i)
 
-  value : (v : AtomTerm) → Applies role height v → value_of_atom to_values v ≡ value_of_atom g (apply_to_atom terms v)
-  value v applies = sym (agree_atom_value (after g terms) to_values v (λ x i. equal x (applies x i))) ∙ atom_after g terms v
+  value : (v : AtomTerm) → Applies role height v → value_of_atom to_values v ≡ value_of_atom g (apply_to_atom (as_substitution terms) v)
+  value v applies = sym (agree_atom_value (after g (as_substitution terms)) to_values v (λ x i. equal x (applies x i))) ∙ atom_after g (as_substitution terms) v
 
   pub given_non_kept : (v : AtomTerm) → IsGivenNon role height terms v → KeepsNon b.strands (atom (value_of_atom g v))
   given_non_kept v given = subst (λ (a : Atom). KeepsNon b.strands (atom a)) (value given.atom given.applies ∙ ap (value_of_atom g) (sym given.same)) (kept.non given.atom given.listed (higher given.atom given.applies))

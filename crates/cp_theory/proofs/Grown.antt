@@ -1,8 +1,9 @@
 -- Skeletons with a strand more that stand: an instance, and a listener.
-use Rattle.std.proofs.Common.{◌≡◌, ℕ, ◌≤◌, [], ◌∷◌, ◌++◌, length, Option, Some, refl, ap, ap₂, ◌∙◌, subst, ◌⊎◌, inl, inr, ⊎_elim}
+use Rattle.std.proofs.Common.{◌≡◌, ℕ, ◌≤◌, [], ◌∷◌, ◌++◌, length, Option, Some, refl, ap, ap₂, ◌∙◌, subst, ◌⊎◌, inl, inr, ⊎_elim, List}
 use Rattle.cp_lists.specs.Lists.{item_at, IsIn}
 use Rattle.cp_model.specs.Message.{atom}
-use Rattle.cp_model.specs.Term.{Term, Assignment, value_of, value_of_atom, after, AgreeOn, Substitution}
+use Rattle.cp_model.specs.Term.{Term, Assignment, value_of, value_of_atom, after, AgreeOn}
+use Rattle.cp_model.specs.Bindings.{Binding, as_substitution}
 use Rattle.cp_model.specs.Strand.{Role, Protocol, variables_of_prefix, regular}
 use Rattle.cp_model.specs.declared.strand.Event.TheVariants.{Receive as recv}
 use Rattle.cp_model.specs.Bundle.{node_at, event_at, KeepsUnique, Bundle, IsBundle}
@@ -23,7 +24,7 @@ use Rattle.cp_theory.proofs.Pushed.{standing, new_node, new_there, pushed}
 module _ (protocol : Protocol) (k e : Skeleton) (b : Bundle) (h : Standing) (is : IsBundle protocol b) (stands : StandsIn k b h) (apart : StandsApart k h) (role : Role) (height count : ℕ)
     (adds : AddsStrand role height (fresh_terms count (prefix_variables role height)) k e) (closed : IsClosedPrefix role height) (below : AreBelow count (used_variables k))
     (strand to_height : ℕ) (to_values : Assignment) (on : item_at b.strands strand ≡ Some (regular role to_height to_values)) (at_least : height ≤ to_height)
-    (only : (a : ℕ) (role' : Role) (height' : ℕ) (terms' : Substitution) → item_at k.strands a ≡ Some (instance role' height' terms') → (h.nodes a).strand ≡ strand → ⊥) where
+    (only : (a : ℕ) (role' : Role) (height' : ℕ) (terms' : List Binding) → item_at k.strands a ≡ Some (instance role' height' terms') → (h.nodes a).strand ≡ strand → ⊥) where
   abbrev added_values : Assignment
   added_values = beside count (prefix_variables role height) h.values to_values
 
@@ -42,8 +43,8 @@ module _ (protocol : Protocol) (k e : Skeleton) (b : Bundle) (h : Standing) (is 
   added_there : item_at e.strands place ≡ Some (instance role height adds.terms)
   added_there = new_there k e b h stands apart (instance role height adds.terms) adds.strands (node_at strand 0) added_values added_agree
 
-  equal : AgreeOn (variables_of_prefix role height) (after added_values adds.terms) to_values
-  equal x i = new_values adds.terms count (prefix_variables role height) h.values to_values adds.gives x ((in-prefix role x height).1 (closed x i, i))
+  equal : AgreeOn (variables_of_prefix role height) (after added_values (as_substitution adds.terms)) to_values
+  equal x i = new_values (as_substitution adds.terms) count (prefix_variables role height) h.values to_values adds.gives x ((in-prefix role x height).1 (closed x i, i))
 
   here_stands : StandsOnRegular b added_standing place role height adds.terms
   here_stands = record {

@@ -1,10 +1,11 @@
 -- Skeletons that have grown out of one that stands, and stand where it does.
-use Rattle.std.proofs.Common.{◌≡◌, ℕ, [], ◌++◌, Some, refl, sym, ap, ◌∙◌, subst, ◌⊎◌, ⊎_elim}
+use Rattle.std.proofs.Common.{◌≡◌, ℕ, [], ◌++◌, Some, refl, sym, ap, ◌∙◌, subst, ◌⊎◌, ⊎_elim, List}
 use Rattle.std.proofs.Common.{subst₂}
 use Rattle.cp_lists.specs.Lists.{item_at, IsIn, one_step}
 use Rattle.cp_lists.proofs.Members.{in_append_left, in_append_right, in_pushed}
 use Rattle.cp_model.specs.Message.{Atom, Message, atom}
-use Rattle.cp_model.specs.Term.{AtomTerm, variable_term, variables_of, Assignment, value_of, value_of_atom, after, AgreeOn, Substitution, apply_to}
+use Rattle.cp_model.specs.Term.{AtomTerm, variable_term, variables_of, Assignment, value_of, value_of_atom, after, AgreeOn, apply_to}
+use Rattle.cp_model.specs.Bindings.{Binding, as_substitution}
 use Rattle.cp_model.specs.Strand.{Role, Protocol, prefix_of, variables_of_prefix}
 use Rattle.cp_model.specs.declared.strand.Event.TheVariants.{Send as send, Receive as recv}
 use Rattle.cp_model.specs.Bundle.{event_at, KeepsNon, KeepsPenetratorNon, KeepsUnique, Bundle, Precedes, IsBundle}
@@ -32,12 +33,12 @@ strand_stands k b h stands a (listener t) at = stands.listeners a t at
 
 -- It stands by other values, where they agree on the variables of the strands.
 module _ (k : Skeleton) (b : Bundle) (h g : Standing) (agree : AgreeOn (variables_of_strands k.strands) h.values g.values) where
-  pub equal_by : (a : ℕ) (role : Role) (height : ℕ) (terms : Substitution) (f : Assignment) → item_at k.strands a ≡ Some (instance role height terms) → AgreeOn (variables_of_prefix role height) (after h.values terms) f →
-      AgreeOn (variables_of_prefix role height) (after g.values terms) f
+  pub equal_by : (a : ℕ) (role : Role) (height : ℕ) (terms : List Binding) (f : Assignment) → item_at k.strands a ≡ Some (instance role height terms) → AgreeOn (variables_of_prefix role height) (after h.values (as_substitution terms)) f →
+      AgreeOn (variables_of_prefix role height) (after g.values (as_substitution terms)) f
   equal_by a role height terms f at equal x inx =
-      value_after g.values terms (variable_term x)
-      ∙ sym (agree_value h.values g.values (apply_to terms (variable_term x)) (λ y iny. agree y (in_strands k.strands a (instance role height terms) y at (in_trace_under terms (prefix_of role height) x y inx iny))))
-      ∙ sym (value_after h.values terms (variable_term x))
+      value_after g.values (as_substitution terms) (variable_term x)
+      ∙ sym (agree_value h.values g.values (apply_to (as_substitution terms) (variable_term x)) (λ y iny. agree y (in_strands k.strands a (instance role height terms) y at (in_trace_under (as_substitution terms) (prefix_of role height) x y inx iny))))
+      ∙ sym (value_after h.values (as_substitution terms) (variable_term x))
       ∙ equal x inx
 
   pub strand_by : (a : ℕ) (st : SkeletonStrand) → item_at k.strands a ≡ Some st → h.nodes a ≡ g.nodes a → StrandStands b h a st → StrandStands b g a st
@@ -113,9 +114,9 @@ pub record HasGrown (k e : Skeleton) (b : Bundle) (h g : Standing) : Type 0 wher
 pub record HasGrownAt (k e : Skeleton) (b : Bundle) (h : Standing) (a : ℕ) (role : Role) (height strand : ℕ) (values : Assignment) : Type 0 where
   pub standing : Standing
   pub grown : HasGrown k e b h standing
-  pub terms : Substitution
+  pub terms : List Binding
   pub there : item_at e.strands a ≡ Some (instance role height terms)
-  pub equal : AgreeOn (variables_of_prefix role height) (after standing.values terms) values
+  pub equal : AgreeOn (variables_of_prefix role height) (after standing.values (as_substitution terms)) values
   pub to : (standing.nodes a).strand ≡ strand
 
 module _ (protocol : Protocol) (k e : Skeleton) (b : Bundle) (h g : Standing) (m n : Node) (sk : IsSkeleton protocol k) (stands : StandsIn k b h) (grown : HasGrown k e b h g)

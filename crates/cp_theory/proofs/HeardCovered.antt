@@ -7,6 +7,7 @@ use Rattle.cp_lists.specs.Lists.{item_at, IsIn, here, there}
 use Rattle.cp_lists.proofs.Members.{not_in_none, only_item}
 use Rattle.cp_model.specs.Message.{SymmetricKey, symmetric, text, key, atom}
 use Rattle.cp_model.specs.Term.{AtomTerm, KeyTerm, itself_term, skey_variable, SymmetricTerm, symmetric_term, text_variable, key_term, Term, atom_term, enc_term, variable_term, Assignment, value_of, value_of_symmetric, after}
+use Rattle.cp_model.specs.Bindings.{as_substitution}
 use Rattle.cp_model.specs.declared.sort.Sort.{Sort}
 use Rattle.cp_model.specs.declared.sort.Sort.TheVariants.{Text as text_sort, Datum as datum_sort, Name as name_sort, Skey as skey_sort, Akey as akey_sort}
 use Rattle.cp_model.specs.declared.variable.Variable.{Variable}
@@ -61,7 +62,7 @@ nothing_given old none = record {
 
 -- A strand of a role that assumes nothing, with the new variables, is added.
 strand_added : (k : Skeleton) (role : Role) (j : ℕ) → role.non_originating ≡ [] → role.penetrator_non_originating ≡ [] → role.uniquely_originating ≡ [] →
-    terms_of new_terms (prefix_variables role (suc j)) ≡ fresh_terms 2 (prefix_variables role (suc j)) →
+    terms_of (as_substitution new_terms) (prefix_variables role (suc j)) ≡ fresh_terms 2 (prefix_variables role (suc j)) →
     AddsStrand role (suc j) (fresh_terms 2 (prefix_variables role (suc j))) k (record k { strands = k.strands ++ instance role (suc j) new_terms ∷ [] })
 strand_added k role j no_non no_penetrator_non no_unique gives = record {
   terms = new_terms;
@@ -81,7 +82,7 @@ adds = strand_added heard locker 0 refl refl refl refl
 
 -- A strand of a role that assumes nothing, at the end of the role, with the new variables.
 pub added_new : (trial : ReleaseTest) (ks : List Skeleton) (n : Node) (role : Role) → role.non_originating ≡ [] → role.penetrator_non_originating ≡ [] → role.uniquely_originating ≡ [] →
-    are_below 2 (used_variables trial.first) ≡ true → IsClosedPrefix role (suc trial.index) → terms_of new_terms (prefix_variables role (suc trial.index)) ≡ fresh_terms 2 (prefix_variables role (suc trial.index)) →
+    are_below 2 (used_variables trial.first) ≡ true → IsClosedPrefix role (suc trial.index) → terms_of (as_substitution new_terms) (prefix_variables role (suc trial.index)) ≡ fresh_terms 2 (prefix_variables role (suc trial.index)) →
     CoversRelease trial ks n (record trial.first { strands = trial.first.strands ++ instance role (suc trial.index) new_terms ∷ [] }) → IsAddedStrand trial ks n role
 added_new trial ks n role no_non no_penetrator_non no_unique below is_closed gives releases =
     let k = trial.first in

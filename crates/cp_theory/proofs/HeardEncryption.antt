@@ -1,14 +1,15 @@
 -- The example's skeleton and its test.
-use Rattle.std.proofs.Common.{◌≡◌, ◌≢◌, ℕ, zero, suc, ◌<◌, [], ◌∷◌, Some, refl, sym, ap, subst, inl, arith}
+use Rattle.std.proofs.Common.{◌≡◌, ◌≢◌, ℕ, zero, suc, ◌<◌, [], ◌∷◌, Some, refl, sym, ap, subst, inl, arith, List}
 use Rattle.cp_lists.specs.Lists.{item_at, IsIn, here, there, one_step, more_steps}
 use Rattle.cp_lists.proofs.Members.{not_in_none}
-use Rattle.cp_model.specs.Term.{AtomTerm, KeyTerm, key_term, Term, tag_term, atom_term, pair_term, enc_term, Substitution, variables_of}
+use Rattle.cp_model.specs.Term.{AtomTerm, KeyTerm, key_term, Term, tag_term, atom_term, pair_term, enc_term, variables_of}
+use Rattle.cp_model.specs.Bindings.{Binding}
 use Rattle.cp_model.specs.declared.variable.Variable.{Variable}
 use Rattle.cp_model.specs.Strand.{Role}
 use Rattle.cp_model.specs.declared.strand.Event.TheVariants.{Receive as recv}
 use Rattle.cp_model.specs.declared.node.Node.{Node}
 use Rattle.cp_model.specs.Skeleton.{instance, term_event_at, OrderStep, along_strand_of, along_pair, Before, Skeleton, IsSkeleton}
-use Rattle.cp_model.specs.Derivable.{IsSecret, IsOnInstance, DerivableAt, a_tag, an_atom, paired, left_of, right_of, encrypted, decrypted}
+use Rattle.cp_model.specs.Derivable.{IsSecret, DerivableAt, a_tag, an_atom, paired, left_of, right_of, encrypted, decrypted}
 use Rattle.cp_model.specs.Derivable as derivable
 use Rattle.cp_theory.specs.Critical.{IsTest, whole_part, used_variables}
 use Rattle.cp_theory.specs.Guards.{Guards}
@@ -16,7 +17,7 @@ use Rattle.cp_theory.specs.NoneLeftOut.{IsMapInRange}
 use Rattle.cp_theory.specs.EncryptionExamples.{shared, locked, protocol, heard, reception}
 
 -- There is no role strand.
-pub no_instance : (s : ℕ) (role : Role) (height : ℕ) (terms : Substitution) → item_at heard.strands s ≡ Some (instance role height terms) → ⊥
+pub no_instance : (s : ℕ) (role : Role) (height : ℕ) (terms : List Binding) → item_at heard.strands s ≡ Some (instance role height terms) → ⊥
 no_instance zero role height terms at = cc
 no_instance (suc s) role height terms at = cc
 

@@ -1,8 +1,9 @@
 -- What stands at the image of a node of a skeleton.
-use Rattle.std.proofs.Common.{◌≡◌, ℕ, zero, suc, ◌<◌, ◌≤◌, Option, Some, sym, ap, ◌∙◌, subst, arith}
+use Rattle.std.proofs.Common.{◌≡◌, ℕ, zero, suc, ◌<◌, ◌≤◌, Option, Some, sym, ap, ◌∙◌, subst, arith, List}
 use Rattle.cp_lists.specs.Lists.{item_at}
 use Rattle.cp_model.specs.Message.{Message}
-use Rattle.cp_model.specs.Term.{Term, Assignment, value_of, Substitution, apply_to, after}
+use Rattle.cp_model.specs.Term.{Term, Assignment, value_of, apply_to, after}
+use Rattle.cp_model.specs.Bindings.{Binding, as_substitution}
 use Rattle.cp_model.specs.Strand.{payload, event_map, Role, prefix_of}
 use Rattle.cp_model.specs.declared.strand.Event.{Event}
 use Rattle.cp_model.specs.declared.strand.Event.TheVariants.{Send as send, Receive as recv}
@@ -17,18 +18,18 @@ use Rattle.cp_model.proofs.LawPrefixes.{in_trace}
 use Rattle.cp_model.proofs.LawAgreement.{agree_event_values}
 
 -- At the image of an event of an instance is its value.
-pub image_event : (b : Bundle) (h : Standing) (s : ℕ) (role : Role) (height : ℕ) (terms : Substitution) (i : ℕ) (e : Event Term) → StandsOnRegular b h s role height terms →
+pub image_event : (b : Bundle) (h : Standing) (s : ℕ) (role : Role) (height : ℕ) (terms : List Binding) (i : ℕ) (e : Event Term) → StandsOnRegular b h s role height terms →
     item_at (skeleton_trace (instance role height terms)) i ≡ Some e → event_at b.strands (node_at (h.nodes s).strand i) ≡ Some (event_map (value_of h.values) e)
 image_event b h s role height terms i e st at =
-    let m = item_of_map (event_map (apply_to terms)) (prefix_of role height) i e at in
+    let m = item_of_map (event_map (apply_to (as_substitution terms))) (prefix_of role height) i e at in
     let t = item_of_take height role.trace i m.0 m.1 in
     let l : i < height = t.0 in
     let at_least : height ≤ st.to_height = st.at_least in
     let on : event_at b.strands (node_at (h.nodes s).strand i) ≡ Some (event_map (value_of st.to_values) m.0) =
     event_of_regular b.strands (h.nodes s).strand i role st.to_height st.to_values m.0 st.on_regular (omega arith) t.1 in
-    let same : event_map (value_of (after h.values terms)) m.0 ≡ event_map (value_of st.to_values) m.0 =
-    agree_event_values (after h.values terms) st.to_values m.0 (λ x p. st.equal_values x (in_trace (prefix_of role height) i m.0 x m.1 p)) in
-    on ∙ ap Some (sym same ∙ event_after h.values terms m.0 ∙ ap (event_map (value_of h.values)) m.2)
+    let same : event_map (value_of (after h.values (as_substitution terms))) m.0 ≡ event_map (value_of st.to_values) m.0 =
+    agree_event_values (after h.values (as_substitution terms)) st.to_values m.0 (λ x p. st.equal_values x (in_trace (prefix_of role height) i m.0 x m.1 p)) in
+    on ∙ ap Some (sym same ∙ event_after h.values (as_substitution terms) m.0 ∙ ap (event_map (value_of h.values)) m.2)
 
 pub image_at : (k : Skeleton) (h : Standing) (n : Node) (st : SkeletonStrand) → item_at k.strands n.strand ≡ Some st → image_of k h n ≡ image_on (Some st) (h.nodes n.strand) n.index
 image_at k h n st at = ap (λ (o : Option SkeletonStrand). image_on o (h.nodes n.strand) n.index) at

@@ -2,7 +2,8 @@
 use Rattle.std.proofs.Common.{◌≡◌, ℕ, zero, suc, List, [], ◌∷◌, Option, Some, None, refl, sym, ap, ◌∙◌, subst, ◌⊎◌, inl, inr, arith}
 use Rattle.cp_lists.specs.Lists.{item_at, IsIn}
 use Rattle.cp_model.specs.Message.{Atom, Message, tag, atom, pair, enc, IsCarriedBy, itself, in_left, in_right, in_plaintext}
-use Rattle.cp_model.specs.Term.{AtomTerm, atom_term, Substitution, apply_to_atom, Assignment, value_of, value_of_atom, after}
+use Rattle.cp_model.specs.Term.{AtomTerm, atom_term, apply_to_atom, Assignment, value_of, value_of_atom, after}
+use Rattle.cp_model.specs.Bindings.{Binding, as_substitution}
 use Rattle.cp_model.specs.Strand.{OriginatesIn, OriginatesInTerms, Role, Protocol, prefix_of, Penetrator, create_tag, create_atom, pairing, splitting, encryption, decryption, hearing, penetrator_trace, Strand, regular, trace_of}
 use Rattle.cp_model.specs.declared.strand.Event.TheVariants.{Send as send, Receive as recv}
 use Rattle.cp_model.specs.Bundle.{node_at, trace_or_none, OriginatesAt, KeepsNon, KeepsPenetratorNon, KeepsUnique, KeepsRole, AreOfProtocol}
@@ -72,17 +73,17 @@ origin_on (Some x) v i h = (x, refl, h)
 module _ (k : Skeleton) (ns : List Node) (st : State k ns) where
   -- A regular strand is one for a role strand.
   pub regular_of : (s : ℕ) (role : Role) (height : ℕ) (g : Assignment) → item_at st.strands s ≡ Some (regular role height g) →
-      (terms : Substitution) × (item_at k.strands s ≡ Some (instance role height terms)) × (after own_values terms ≡ g)
+      (terms : List Binding) × (item_at k.strands s ≡ Some (instance role height terms)) × (after own_values (as_substitution terms) ≡ g)
   regular_of s role height g h = of (st.kinds s (regular role height g) h)
     where
-      is_instance : (ss : SkeletonStrand) → item_at k.strands s ≡ Some ss → strand_for ss ≡ regular role height g → (terms : Substitution) × (item_at k.strands s ≡ Some (instance role height terms)) × (after own_values terms ≡ g)
+      is_instance : (ss : SkeletonStrand) → item_at k.strands s ≡ Some ss → strand_for ss ≡ regular role height g → (terms : List Binding) × (item_at k.strands s ≡ Some (instance role height terms)) × (after own_values (as_substitution terms) ≡ g)
       is_instance (instance role' height' terms) on q =
           let a : role' ≡ role = cc in
           let b : height' ≡ height = cc in
           (terms, on ∙ (λ i. Some (instance (a i) (b i) terms)), cc)
       is_instance (listener t) on q = absurd (cc)
 
-      of : IsStrandOf k s (regular role height g) → (terms : Substitution) × (item_at k.strands s ≡ Some (instance role height terms)) × (after own_values terms ≡ g)
+      of : IsStrandOf k s (regular role height g) → (terms : List Binding) × (item_at k.strands s ≡ Some (instance role height terms)) × (after own_values (as_substitution terms) ≡ g)
       of (for_strand {ss = ss} on q) = is_instance ss on q
       of (for_derivation none q allowed) = absurd (cc)
 
@@ -96,7 +97,7 @@ module _ (k : Skeleton) (ns : List Node) (st : State k ns) where
     where
       in_strand : (ss : SkeletonStrand) → item_at k.strands n.strand ≡ Some ss → OriginatesIn (trace_of (strand_for ss)) (atom (value_of_atom own_values v)) n.index → Origin v n
       in_strand (instance role height terms) on o' =
-          let es = subst (λ es. OriginatesIn es (atom (value_of_atom own_values v)) n.index) (trace_after own_values terms (prefix_of role height)) o' in
+          let es = subst (λ es. OriginatesIn es (atom (value_of_atom own_values v)) n.index) (trace_after own_values (as_substitution terms) (prefix_of role height)) o' in
           let ot = origin_of_value own_number own_numbers_distinct (skeleton_trace (instance role height terms)) v n.index es in
           inl (
             record { role = role; height = height; terms = terms; on_instance = on },
@@ -121,7 +122,7 @@ module _ (k : Skeleton) (ns : List Node) (st : State k ns) where
       let on = o.0 in
       let ot = subst (λ s. OriginatesInTerms (skeleton_trace_or_none s) (atom_term v) n.index) on.on_instance o.1 in
       let es = origin_of_term own_number own_numbers_distinct (skeleton_trace (instance on.role on.height on.terms)) v n.index ot in
-      let values = subst (λ es. OriginatesIn es (atom (value_of_atom own_values v)) n.index) (sym (trace_after own_values on.terms (prefix_of on.role on.height))) es in
+      let values = subst (λ es. OriginatesIn es (atom (value_of_atom own_values v)) n.index) (sym (trace_after own_values (as_substitution on.terms) (prefix_of on.role on.height))) es in
       subst (λ s. OriginatesIn (trace_or_none s) (atom (value_of_atom own_values v)) n.index) (sym (st.own n.strand (instance on.role on.height on.terms) on.on_instance)) values
 
   module _ (keeps : KeepsAssumptions k) where
@@ -145,7 +146,7 @@ module _ (k : Skeleton) (ns : List Node) (st : State k ns) where
         record {
           role = o.0.role;
           height = o.0.height;
-          values = after own_values o.0.terms;
+          values = after own_values (as_substitution o.0.terms);
           on_regular = st.own u.origin.strand (instance o.0.role o.0.height o.0.terms) o.0.on_instance;
           originates = origin_there u.value u.origin o;
           only = λ n p. of n (origin_at u.value n p);
@@ -162,11 +163,11 @@ module _ (k : Skeleton) (ns : List Node) (st : State k ns) where
       kept = λ s role height g h. let r = regular_of s role height g h in subst (KeepsRole st.strands s role height) r.2 (keeps_role s role height r.0 r.1);
     }
       where
-        keeps_role : (s : ℕ) (role : Role) (height : ℕ) (terms : Substitution) → item_at k.strands s ≡ Some (instance role height terms) → KeepsRole st.strands s role height (after own_values terms)
+        keeps_role : (s : ℕ) (role : Role) (height : ℕ) (terms : List Binding) → item_at k.strands s ≡ Some (instance role height terms) → KeepsRole st.strands s role height (after own_values (as_substitution terms))
         keeps_role s role height terms on =
             let given = is.given s role height terms on in
             record {
-              non = λ v h a. subst (λ m. KeepsNon st.strands (atom m)) (sym (atom_after own_values terms v)) (keeps_non (apply_to_atom terms v) (given.non v h a));
-              penetrator_non = λ v h a. subst (λ m. KeepsPenetratorNon st.strands (atom m)) (sym (atom_after own_values terms v)) (keeps_penetrator_non (apply_to_atom terms v) (given.penetrator_non v h a));
-              unique = λ v i h a. subst (λ m. KeepsUnique st.strands (atom m) (node_at s i)) (sym (atom_after own_values terms v)) (keeps_unique (record { value = apply_to_atom terms v; origin = node_at s i }) (given.unique v i h a));
+              non = λ v h a. subst (λ m. KeepsNon st.strands (atom m)) (sym (atom_after own_values (as_substitution terms) v)) (keeps_non (apply_to_atom (as_substitution terms) v) (given.non v h a));
+              penetrator_non = λ v h a. subst (λ m. KeepsPenetratorNon st.strands (atom m)) (sym (atom_after own_values (as_substitution terms) v)) (keeps_penetrator_non (apply_to_atom (as_substitution terms) v) (given.penetrator_non v h a));
+              unique = λ v i h a. subst (λ m. KeepsUnique st.strands (atom m) (node_at s i)) (sym (atom_after own_values (as_substitution terms) v)) (keeps_unique (record { value = apply_to_atom (as_substitution terms) v; origin = node_at s i }) (given.unique v i h a));
             }

@@ -4,7 +4,8 @@ use Rattle.cp_lists.specs.Lists.{item_at, IsIn, here, there, one_step}
 use Rattle.cp_lists.proofs.Members.{not_in_none, only_item, head_or_behind}
 use Rattle.std.proofs.Common.{⊎_elim}
 use Rattle.cp_model.specs.Message.{symmetric, key, atom, itself, in_plaintext}
-use Rattle.cp_model.specs.Term.{KeyTerm, inverse_term, skey_variable, symmetric_term, text_variable, key_term, Term, atom_term, enc_term, Assignment, value_of, value_of_atom, Substitution, composed}
+use Rattle.cp_model.specs.Term.{KeyTerm, inverse_term, skey_variable, symmetric_term, text_variable, key_term, Term, atom_term, enc_term, Assignment, value_of, value_of_atom, Substitution}
+use Rattle.cp_model.specs.Bindings.{Binding}
 use Rattle.cp_model.specs.declared.sort.Sort.TheVariants.{Skey as skey_sort}
 use Rattle.cp_model.specs.Identity.{unchanged}
 use Rattle.cp_model.specs.Strand.{Role}
@@ -17,7 +18,7 @@ use Rattle.cp_model.specs.Tree.{Pattern}
 use Rattle.cp_model.specs.declared.step.Step.{Step}
 use Rattle.cp_model.specs.declared.step.Step.TheVariants.{Left, Right, Plaintext}
 use Rattle.cp_model.specs.Positions.{term_at}
-use Rattle.cp_theory.specs.Normal.{skeleton_under}
+use Rattle.cp_theory.specs.Normal.{terms_under, skeleton_under}
 use Rattle.cp_theory.proofs.Images.{image_event}
 use Rattle.cp_theory.specs.Matches.{IsFreeIn}
 use Rattle.cp_theory.specs.Inside.{IsInside}
@@ -46,7 +47,7 @@ key_fits s k g same = record { values = g; same_inside = λ x i. refl; same_of_f
 -- ---- a second locker
 
 abbrev with_locker : Skeleton
-with_locker = record let_out { strands = instance locker 1 unchanged ∷ listener secret ∷ instance locker 1 new_terms ∷ [] }
+with_locker = record let_out { strands = instance locker 1 [] ∷ listener secret ∷ instance locker 1 new_terms ∷ [] }
 
 abbrev second_locked : Skeleton
 second_locked = skeleton_under text_as_old (put_before (node_at 2 0) reception with_locker)
@@ -56,7 +57,7 @@ module _ (b : Bundle) (h : Standing) (stands : StandsIn second_locked b h) (apar
   originates : OriginatesAt b.strands (atom (value_of_atom h.values (text_variable 0))) (node_at (h.nodes 2).strand 0)
   originates = record {
     sent = value_of h.values (enc_term secret (symmetric_term (skey_variable 3)));
-    transmission = image_event b h 2 locker 1 (composed new_terms text_as_old) 0 (send (enc_term secret (symmetric_term (skey_variable 3)))) (stands.instances 2 locker 1 (composed new_terms text_as_old) refl) refl;
+    transmission = image_event b h 2 locker 1 (terms_under text_as_old locker 1 new_terms) 0 (send (enc_term secret (symmetric_term (skey_variable 3)))) (stands.instances 2 locker 1 (terms_under text_as_old locker 1 new_terms) refl) refl;
     carried = in_plaintext itself;
     first = λ j e l at c. absurd (omega (arith, l));
   }
@@ -64,7 +65,7 @@ module _ (b : Bundle) (h : Standing) (stands : StandsIn second_locked b h) (apar
   twice : ⊥
   twice =
       let one : node_at (h.nodes 2).strand 0 ≡ node_at (h.nodes 0).strand 0 = (stands.unique unique_text here).only (node_at (h.nodes 2).strand 0) originates in
-      let same : 2 ≡ 0 = apart 2 0 locker 1 (composed new_terms text_as_old) locker 1 (composed unchanged text_as_old) refl refl (ap (λ (n : Node). n.strand) one) in
+      let same : 2 ≡ 0 = apart 2 0 locker 1 (terms_under text_as_old locker 1 new_terms) locker 1 (terms_under text_as_old locker 1 []) refl refl (ap (λ (n : Node). n.strand) one) in
       omega (arith, same)
 
 none_locks_twice : KeepStandings protocol second_locked []
@@ -110,7 +111,7 @@ abbrev received : (path : List Step) → IsCarriedEarlier (trial path) text_as_o
 received path = record {
   index = 0;
   earlier = omega arith;
-  on_instance = record { role = opener; height = 2; terms = composed new_terms text_as_old; on_instance = refl };
+  on_instance = record { role = opener; height = 2; terms = terms_under text_as_old opener 2 new_terms; on_instance = refl };
   event = recv (enc_term secret (symmetric_term (skey_variable 3)));
   there = refl;
   path = Plaintext ∷ [];
@@ -184,10 +185,10 @@ contracted_at t u path e at = at_path path (subst (λ (z : Term). term_at z path
     at_path (Left ∷ way) ev = absurd (cc)
     at_path (Right ∷ way) ev = absurd (cc)
 
-already : (s : ℕ) (role : Role) (height : ℕ) (terms : Substitution) (j : ℕ) (t : Term) → item_at let_out.strands s ≡ Some (instance role height terms) → item_at role.trace j ≡ Some (send t) → node_at s j ≡ node_at 0 0
+already : (s : ℕ) (role : Role) (height : ℕ) (terms : List Binding) (j : ℕ) (t : Term) → item_at let_out.strands s ≡ Some (instance role height terms) → item_at role.trace j ≡ Some (send t) → node_at s j ≡ node_at 0 0
 already s role height terms j t at ev =
     let first = is_first s role height terms at in
-    let both : Some (instance locker 1 unchanged) ≡ Some (instance role height terms) = first.1 in
+    let both : Some (instance locker 1 []) ≡ Some (instance role height terms) = first.1 in
     let same : role ≡ locker = cc in
     let place : j ≡ 0 = first_place j (subst (λ (r : Role). item_at r.trace j ≡ Some (send t)) same ev) in
     λ i. node_at (first.0 i) (place i)

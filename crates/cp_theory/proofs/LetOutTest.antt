@@ -2,7 +2,8 @@
 use Rattle.std.proofs.Common.{◌≡◌, ◌≢◌, ℕ, zero, suc, ◌+◌, ◌<◌, List, [], ◌∷◌, Some, refl, sym, ap, subst, ◌⊎◌, inl, inr, ⊎_elim, arith}
 use Rattle.cp_lists.specs.Lists.{item_at, IsIn, here, there, one_step, more_steps}
 use Rattle.cp_lists.proofs.Members.{not_in_none, only_item}
-use Rattle.cp_model.specs.Term.{AtomTerm, text_variable, KeyTerm, key_term, inverse_term, Term, tag_term, atom_term, pair_term, enc_term, itself_term, in_plaintext_term, Substitution, variables_of}
+use Rattle.cp_model.specs.Term.{AtomTerm, text_variable, KeyTerm, key_term, inverse_term, Term, tag_term, atom_term, pair_term, enc_term, itself_term, in_plaintext_term, variables_of}
+use Rattle.cp_model.specs.Bindings.{Binding}
 use Rattle.cp_model.specs.declared.variable.Variable.{Variable}
 use Rattle.cp_model.specs.Identity.{unchanged}
 use Rattle.cp_model.specs.Strand.{Role, IsHeight}
@@ -27,7 +28,7 @@ use Rattle.cp_theory.proofs.HeardEncryption.{whole_test}
 use Rattle.cp_theory.specs.LetOut.{secret, protocol, unique_text, first_sent, let_out, reception, sent_encryption}
 
 -- The one role strand is the first.
-pub is_first : (s : ℕ) (role : Role) (height : ℕ) (terms : Substitution) → item_at let_out.strands s ≡ Some (instance role height terms) → (s ≡ 0) × (Some (instance locker 1 unchanged) ≡ Some (instance role height terms))
+pub is_first : (s : ℕ) (role : Role) (height : ℕ) (terms : List Binding) → item_at let_out.strands s ≡ Some (instance role height terms) → (s ≡ 0) × (Some (instance locker 1 []) ≡ Some (instance role height terms))
 is_first zero role height terms at = (refl, at)
 is_first (suc zero) role height terms at = absurd (cc)
 is_first (suc (suc s)) role height terms at = absurd (cc)
@@ -41,14 +42,14 @@ rises : {x y : Node} → Before let_out x y → x.strand + x.index < y.strand + 
 rises (one_step s) = step_rises s
 rises {x} {y = z} (more_steps {y = y} s p) = let l : x.strand + x.index < y.strand + y.index = step_rises s in let m : y.strand + y.index < z.strand + z.index = rises p in omega arith
 
-nothing_given : (s : ℕ) → GivesAssumptions let_out s locker 1 unchanged
+nothing_given : (s : ℕ) → GivesAssumptions let_out s locker 1 []
 nothing_given s = record { non = λ v i. absurd (not_in_none i); penetrator_non = λ v i. absurd (not_in_none i); unique = λ v n i. absurd (not_in_none i) }
 
 pair_there : IsOrderPair let_out first_sent
 pair_there = record { sent = locked; received = secret; transmission = refl; reception = refl; between_strands = λ e. omega (arith, e) }
 
 origin_there : IsOrigin let_out unique_text
-origin_there = record { role = locker; height = 1; terms = unchanged; on_instance = refl; sent = locked; transmission = refl; carried = in_plaintext_term itself_term }
+origin_there = record { role = locker; height = 1; terms = []; on_instance = refl; sent = locked; transmission = refl; carried = in_plaintext_term itself_term }
 
 pub let_out_skeleton : IsSkeleton protocol let_out
 let_out_skeleton = record {

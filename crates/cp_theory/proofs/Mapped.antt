@@ -2,6 +2,7 @@
 use Rattle.std.proofs.Common.{◌≡◌, ℕ, zero, suc, ◌+◌, List, [], ◌∷◌, ◌++◌, Option, Some, map, refl, sym, ap, ap₂, ◌∙◌, subst, arith, le_refl}
 use Rattle.cp_lists.specs.Lists.{item_at, IsIn, here, there, one_step, more_steps}
 use Rattle.cp_model.specs.Term.{symmetric_term, asymmetric_term, AtomTerm, text_variable, datum_variable, name_variable, key_term, variable_term, Term, atom_term, variables_of, Substitution, apply_to_atom, apply_to, composed, AgreeOnTerms}
+use Rattle.cp_model.specs.Bindings.{Binding, as_substitution}
 use Rattle.cp_model.specs.declared.sort.Sort.{Sort}
 use Rattle.cp_model.specs.declared.sort.Sort.TheVariants.{Text as text_sort, Datum as datum_sort, Name as name_sort, Skey as skey_sort, Akey as akey_sort}
 use Rattle.cp_model.specs.declared.variable.Variable.{Variable}
@@ -21,8 +22,9 @@ use Rattle.cp_model.proofs.LawAgreement.{agree_atom, agree_term}
 use Rattle.cp_model.proofs.LawOrder.{before_wider}
 use Rattle.cp_model.proofs.DeclaredVariables.{declared_at}
 use Rattle.cp_model.proofs.LawEmbeddings.{then_homomorphism}
-use Rattle.cp_theory.specs.Normal.{with_pairs, strand_under, unique_under, skeleton_under}
+use Rattle.cp_theory.specs.Normal.{terms_under, with_pairs, strand_under, unique_under, skeleton_under}
 use Rattle.cp_model.proofs.OccurringVariables.{in_trace_under, in_strands, in_atoms, in_uniques}
+use Rattle.cp_theory.proofs.Under.{terms_kept}
 use Rattle.cp_theory.proofs.Skeletons.{event_under}
 
 -- A homomorphism whose substitution is changed where no variable of the skeleton is.
@@ -33,7 +35,7 @@ module _ (a b : Skeleton) (strands : ℕ → ℕ) (s t : Substitution) (agree : 
   agree_assumptions : (x : Variable) → IsIn x (variables_of_assumptions a.assumptions) → apply_to s (variable_term x) ≡ apply_to t (variable_term x)
   agree_assumptions x p = agree x (in_append_right (variables_of_strands a.strands) p)
 
-  instance_changed : (c : ℕ) (role : Role) (height : ℕ) (terms : Substitution) → item_at a.strands c ≡ Some (instance role height terms) → GoesToInstance b (record { strands = strands; terms = s }) c role height terms →
+  instance_changed : (c : ℕ) (role : Role) (height : ℕ) (terms : List Binding) → item_at a.strands c ≡ Some (instance role height terms) → GoesToInstance b (record { strands = strands; terms = s }) c role height terms →
       GoesToInstance b (record { strands = strands; terms = t }) c role height terms
   instance_changed c role height terms at g = record {
     to_height = g.to_height;
@@ -41,9 +43,9 @@ module _ (a b : Skeleton) (strands : ℕ → ℕ) (s t : Substitution) (agree : 
     on_instance = g.on_instance;
     at_least = g.at_least;
     equal_terms = λ x inx.
-        term_composed terms t (variable_term x)
-        ∙ sym (agree_term s t (apply_to terms (variable_term x)) (λ y iny. agree_strands y (in_strands a.strands c (instance role height terms) y at (in_trace_under terms (prefix_of role height) x y inx iny))))
-        ∙ sym (term_composed terms s (variable_term x))
+        term_composed (as_substitution terms) t (variable_term x)
+        ∙ sym (agree_term s t (apply_to (as_substitution terms) (variable_term x)) (λ y iny. agree_strands y (in_strands a.strands c (instance role height terms) y at (in_trace_under (as_substitution terms) (prefix_of role height) x y inx iny))))
+        ∙ sym (term_composed (as_substitution terms) s (variable_term x))
         ∙ g.equal_terms x inx;
   }
 
@@ -79,10 +81,10 @@ pub to_under : (s : Substitution) (k : Skeleton) → IsHomomorphism k (skeleton_
 to_under s k = record {
   instances = λ a role height terms at. record {
     to_height = height;
-    to_terms = composed terms s;
+    to_terms = terms_under s role height terms;
     on_instance = map_of_item (strand_under s) k.strands a (instance role height terms) at;
     at_least = le_refl height;
-    equal_terms = λ x inx. refl;
+    equal_terms = λ x inx. sym (terms_kept s role height terms x inx);
   };
   listeners = λ a t at. map_of_item (strand_under s) k.strands a (listener t) at;
   ordered = λ x y before. before_under s k before;

@@ -1,7 +1,8 @@
 -- A skeleton still stands with pairs from recorded origins, and its order then has no cycle.
 use Rattle.std.proofs.Common.{◌≡◌, ◌≢◌, ℕ, suc, ◌<◌, ◌≤◌, List, Option, Some, None, refl, sym, ◌∙◌, subst, ◌⊎◌, inl, inr, arith}
 use Rattle.cp_lists.specs.Lists.{item_at, IsIn, one_step, more_steps}
-use Rattle.cp_model.specs.Term.{Term, Substitution}
+use Rattle.cp_model.specs.Term.{Term}
+use Rattle.cp_model.specs.Bindings.{Binding}
 use Rattle.cp_model.specs.Strand.{Role, Protocol}
 use Rattle.cp_model.specs.declared.strand.Event.{Event}
 use Rattle.cp_model.specs.Bundle.{node_at, Bundle, Precedes, along_strand, IsBundle}
@@ -17,7 +18,7 @@ use Rattle.cp_theory.proofs.Origins.{origin_precedes}
 
 -- Nothing in a bundle precedes itself.
 module _ (k : Skeleton) (b : Bundle) (h : Standing)
-    (on : (s : ℕ) (role : Role) (height : ℕ) (terms : Substitution) → item_at k.strands s ≡ Some (instance role height terms) → StandsOnRegular b h s role height terms)
+    (on : (s : ℕ) (role : Role) (height : ℕ) (terms : List Binding) → item_at k.strands s ≡ Some (instance role height terms) → StandsOnRegular b h s role height terms)
     (pairs : (p : OrderPair) → IsIn p k.pairs → Precedes b (image_of k h p.earlier) (image_of k h p.later)) where
   -- The images of two nodes of which one is before the other: one precedes the other, or they are the two nodes of a
   -- listener.

@@ -2,7 +2,8 @@
 use Rattle.std.proofs.Common.{◌≡◌, ℕ, zero, suc, List, [], ◌∷◌, Some, map, refl, sym, ap, ◌∙◌, subst, ◌⊎◌, inl, inr, arith}
 use Rattle.cp_lists.specs.Lists.{item_at, IsIn, here, there, one_step, more_steps}
 use Rattle.cp_model.specs.Message.{Message, pair}
-use Rattle.cp_model.specs.Term.{Term, Substitution, value_of}
+use Rattle.cp_model.specs.Term.{Term, value_of}
+use Rattle.cp_model.specs.Bindings.{Binding}
 use Rattle.cp_model.specs.Strand.{event_map, Role, Protocol, trace_of}
 use Rattle.cp_model.specs.declared.strand.Event.{Event}
 use Rattle.cp_model.specs.declared.strand.Event.TheVariants.{Send as send, Receive as recv}
@@ -102,7 +103,7 @@ module _ (protocol : Protocol) (k : Skeleton) (is : IsSkeleton protocol k) (deri
       weave k taken n ready is.order_pairs st (value_of own_values t) (derive k taken n ready (derivable n t at) st) k.pairs (λ p h. h)
 
   -- On a role strand one event is added.
-  module _ (role : Role) (height : ℕ) (terms : Substitution) (on : item_at k.strands n.strand ≡ Some (instance role height terms)) (e : Event Term) (at : term_event_at k.strands n ≡ Some e) where
+  module _ (role : Role) (height : ℕ) (terms : List Binding) (on : item_at k.strands n.strand ≡ Some (instance role height terms)) (e : Event Term) (at : term_event_at k.strands n ≡ Some e) where
     abbrev the_event : Event Message
     the_event = event_map (value_of own_values) e
 
@@ -137,7 +138,7 @@ module _ (protocol : Protocol) (k : Skeleton) (is : IsSkeleton protocol k) (deri
         (λ i x ev q. record { entry = entry; listed = here; same = sym q })
         woven
 
-  place_on_instance : (role : Role) (height : ℕ) (terms : Substitution) → item_at k.strands n.strand ≡ Some (instance role height terms) → (e : Event Term) → term_event_at k.strands n ≡ Some e → State k taken → State k (n ∷ taken)
+  place_on_instance : (role : Role) (height : ℕ) (terms : List Binding) → item_at k.strands n.strand ≡ Some (instance role height terms) → (e : Event Term) → term_event_at k.strands n ≡ Some e → State k taken → State k (n ∷ taken)
   place_on_instance role height terms on (send t) at st =
       place_event role height terms on (send t) at st n (λ m q. absurd (cc)) (λ p h q. absurd (no_pair_to k n t at p (is.order_pairs p h) q))
   place_on_instance role height terms on (recv t) at st =

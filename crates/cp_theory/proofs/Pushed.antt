@@ -4,7 +4,8 @@ use Rattle.std.proofs.Common.{◌≡◌, ℕ, ◌<◌, List, [], ◌∷◌, ◌+
 use Rattle.cp_lists.specs.Lists.{item_at, IsIn}
 use Rattle.cp_lists.proofs.Items.{item_below, item_still, item_last, item_of_push}
 use Rattle.cp_model.specs.Message.{atom}
-use Rattle.cp_model.specs.Term.{AtomTerm, Assignment, value_of_atom, AgreeOn, Substitution}
+use Rattle.cp_model.specs.Term.{AtomTerm, Assignment, value_of_atom, AgreeOn}
+use Rattle.cp_model.specs.Bindings.{Binding}
 use Rattle.cp_model.specs.Strand.{Role}
 use Rattle.cp_model.specs.Bundle.{KeepsNon, KeepsPenetratorNon, KeepsUnique, Bundle}
 use Rattle.cp_model.specs.declared.node.Node.{Node}
@@ -62,10 +63,10 @@ module _ (k e : Skeleton) (b : Bundle) (h : Standing) (stands : StandsIn k b h) 
 
   -- A new role strand goes to a strand to which no other role strand goes.
   abbrev IsNewImage : Type 0
-  IsNewImage = (role : Role) (height : ℕ) (terms : Substitution) → new ≡ instance role height terms → (a : ℕ) (role' : Role) (height' : ℕ) (terms' : Substitution) →
+  IsNewImage = (role : Role) (height : ℕ) (terms : List Binding) → new ≡ instance role height terms → (a : ℕ) (role' : Role) (height' : ℕ) (terms' : List Binding) →
       item_at k.strands a ≡ Some (instance role' height' terms') → (h.nodes a).strand ≡ node.strand → ⊥
 
-  apart_there : IsNewImage → (s t : ℕ) (role : Role) (height : ℕ) (terms : Substitution) (role' : Role) (height' : ℕ) (terms' : Substitution) →
+  apart_there : IsNewImage → (s t : ℕ) (role : Role) (height : ℕ) (terms : List Binding) (role' : Role) (height' : ℕ) (terms' : List Binding) →
       (item_at k.strands s ≡ Some (instance role height terms)) ⊎ ((s ≡ length k.strands) × (new ≡ instance role height terms)) →
       (item_at k.strands t ≡ Some (instance role' height' terms')) ⊎ ((t ≡ length k.strands) × (new ≡ instance role' height' terms')) →
       (standing.nodes s).strand ≡ (standing.nodes t).strand → s ≡ t

@@ -1,9 +1,10 @@
 -- A strand of a skeleton that stands, made higher.
 use native.Mathlib.Decide.{ℕ_discrete}
-use Rattle.std.proofs.Common.{◌≡◌, ◌≢◌, ℕ, ◌≤◌, Option, Some, Bool, true, false, refl, sym, ap, ◌∙◌, subst, ◌⊎◌, inl, inr, ⊎_elim}
+use Rattle.std.proofs.Common.{◌≡◌, ◌≢◌, ℕ, ◌≤◌, Option, Some, Bool, true, false, refl, sym, ap, ◌∙◌, subst, ◌⊎◌, inl, inr, ⊎_elim, List}
 use Rattle.cp_lists.specs.Lists.{item_at, IsIn}
 use Rattle.cp_model.specs.Message.{atom}
-use Rattle.cp_model.specs.Term.{variable_term, Assignment, value_of_atom, after, AgreeOn, Substitution, AgreeOnTerms, value_of}
+use Rattle.cp_model.specs.Term.{variable_term, Assignment, value_of, value_of_atom, after, AgreeOn, AgreeOnTerms}
+use Rattle.cp_model.specs.Bindings.{Binding, as_substitution}
 use Rattle.cp_model.specs.declared.variable.Variable.{Variable}
 use Rattle.cp_model.specs.Strand.{Role, Protocol, variables_of_prefix}
 use Rattle.cp_model.specs.Bundle.{KeepsUnique, Bundle, IsBundle}
@@ -25,8 +26,8 @@ use Rattle.cp_theory.proofs.GrownStandings.{StrandStands, strand_stands, equal_b
 use Rattle.cp_theory.proofs.GivenIsKept.{old_or_given, given_non_kept, given_penetrator_non_kept, given_unique_kept}
 
 module _ (protocol : Protocol) (k e : Skeleton) (b : Bundle) (h : Standing) (is : IsBundle protocol b) (stands : StandsIn k b h) (apart : StandsApart k h)
-    (a : ℕ) (role : Role) (before height : ℕ) (old new : Substitution) (was : item_at k.strands a ≡ Some (instance role before old)) (on : item_at e.strands a ≡ Some (instance role height new))
-    (keeps : AgreeOnTerms (variables_of_prefix role before) old new) (count : ℕ) (gives : terms_of new (added_variables role before height) ≡ fresh_terms count (added_variables role before height))
+    (a : ℕ) (role : Role) (before height : ℕ) (old new : List Binding) (was : item_at k.strands a ≡ Some (instance role before old)) (on : item_at e.strands a ≡ Some (instance role height new))
+    (keeps : AgreeOnTerms (variables_of_prefix role before) (as_substitution old) (as_substitution new)) (count : ℕ) (gives : terms_of (as_substitution new) (added_variables role before height) ≡ fresh_terms count (added_variables role before height))
     (closed : IsClosedPrefix role height) (below : AreBelow count (used_variables k)) (others : (t : ℕ) → t ≢ a → item_at e.strands t ≡ item_at k.strands t)
     (st : StandsOnRegular b h a role before old) (at_least : height ≤ st.to_height) where
   abbrev raised_values : Assignment
@@ -38,21 +39,21 @@ module _ (protocol : Protocol) (k e : Skeleton) (b : Bundle) (h : Standing) (is 
   agree : AgreeOn (used_variables k) h.values raised_values
   agree = old_values count (added_variables role before height) h.values st.to_values (used_variables k) below
 
-  old_equal : (x : Variable) → IsIn x (variables_of_prefix role before) → value_of (after raised_values new) (variable_term x) ≡ value_of st.to_values (variable_term x)
+  old_equal : (x : Variable) → IsIn x (variables_of_prefix role before) → value_of (after raised_values (as_substitution new)) (variable_term x) ≡ value_of st.to_values (variable_term x)
   old_equal x i =
-      value_after raised_values new (variable_term x)
+      value_after raised_values (as_substitution new) (variable_term x)
       ∙ ap (value_of raised_values) (sym (keeps x i))
-      ∙ sym (value_after raised_values old (variable_term x))
+      ∙ sym (value_after raised_values (as_substitution old) (variable_term x))
       ∙ equal_by k b h raised (inside_strands k h.values raised_values agree) a role before old st.to_values was st.equal_values x i
 
-  new_equal : (x : Variable) → IsIn x (variables_of_prefix role height) → (IsIn x (variables_of_prefix role before) → ⊥) → value_of (after raised_values new) (variable_term x) ≡ value_of st.to_values (variable_term x)
-  new_equal x i n = new_values new count (added_variables role before height) h.values st.to_values gives x ((in-added role x before height).1 (closed x i, i, n))
+  new_equal : (x : Variable) → IsIn x (variables_of_prefix role height) → (IsIn x (variables_of_prefix role before) → ⊥) → value_of (after raised_values (as_substitution new)) (variable_term x) ≡ value_of st.to_values (variable_term x)
+  new_equal x i n = new_values (as_substitution new) count (added_variables role before height) h.values st.to_values gives x ((in-added role x before height).1 (closed x i, i, n))
 
-  equal_by_test : (x : Variable) → IsIn x (variables_of_prefix role height) → (t : Bool) → has_variable (variables_of_prefix role before) x ≡ t → value_of (after raised_values new) (variable_term x) ≡ value_of st.to_values (variable_term x)
+  equal_by_test : (x : Variable) → IsIn x (variables_of_prefix role height) → (t : Bool) → has_variable (variables_of_prefix role before) x ≡ t → value_of (after raised_values (as_substitution new)) (variable_term x) ≡ value_of st.to_values (variable_term x)
   equal_by_test x i true e = old_equal x (variable_in (variables_of_prefix role before) x e)
   equal_by_test x i false e = new_equal x i (λ j. not_both e (in_has_variable (variables_of_prefix role before) x j))
 
-  equal : AgreeOn (variables_of_prefix role height) (after raised_values new) st.to_values
+  equal : AgreeOn (variables_of_prefix role height) (after raised_values (as_substitution new)) st.to_values
   equal x i = equal_by_test x i (has_variable (variables_of_prefix role before) x) refl
 
   here_stands : StandsOnRegular b raised a role height new
@@ -75,7 +76,7 @@ module _ (protocol : Protocol) (k e : Skeleton) (b : Bundle) (h : Standing) (is 
   same_image y (no ne) = ap (λ (o : Option SkeletonStrand). image_on o (h.nodes y.strand) y.index) (others y.strand ne)
 
   -- An instance was one before.
-  was_instance : (t : ℕ) (r : Role) (m : ℕ) (ts : Substitution) → item_at e.strands t ≡ Some (instance r m ts) → Dec (t ≡ a) → (r' : Role) × (m' : ℕ) × (ts' : Substitution) × (item_at k.strands t ≡ Some (instance r' m' ts'))
+  was_instance : (t : ℕ) (r : Role) (m : ℕ) (ts : List Binding) → item_at e.strands t ≡ Some (instance r m ts) → Dec (t ≡ a) → (r' : Role) × (m' : ℕ) × (ts' : List Binding) × (item_at k.strands t ≡ Some (instance r' m' ts'))
   was_instance t r m ts at (yes same) = (role, before, old, ap (item_at k.strands) same ∙ was)
   was_instance t r m ts at (no ne) = (r, m, ts, sym (others t ne) ∙ at)
 

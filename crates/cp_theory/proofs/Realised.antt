@@ -2,7 +2,8 @@
 use Rattle.std.proofs.Common.{◌≡◌, ◌≢◌, ℕ, zero, suc, List, Some, refl, sym, ap, ◌∙◌, subst, ◌⊎◌, inl, inr, le_refl, arith}
 use Rattle.cp_lists.specs.Lists.{item_at, IsIn, one_step, more_steps}
 use Rattle.cp_model.specs.Message.{atom}
-use Rattle.cp_model.specs.Term.{Term, Substitution, value_of, value_of_atom, after}
+use Rattle.cp_model.specs.Term.{Term, value_of, value_of_atom, after}
+use Rattle.cp_model.specs.Bindings.{Binding, as_substitution}
 use Rattle.cp_model.specs.Strand.{Role, Protocol, event_map}
 use Rattle.cp_model.specs.declared.strand.Event.{Event}
 use Rattle.cp_model.specs.declared.strand.Event.TheVariants.{Send as send, Receive as recv}
@@ -145,11 +146,11 @@ module _ (protocol : Protocol) (k : Skeleton) (is : IsSkeleton protocol k) (ns :
       of s t on on' (inl q) = absurd (ne (sym (home_strand s x) ∙ ap (λ (n : Node). n.strand) q ∙ home_strand t y))
       of s t on on' (inr q) = from_home s x y on nx ne (to_home t y (home s x) on' ny q)
 
-  stands_on : (s : ℕ) (role : Role) (height : ℕ) (terms : Substitution) → item_at k.strands s ≡ Some (instance role height terms) → StandsOnRegular (the_bundle k ns all st) own_standing s role height terms
+  stands_on : (s : ℕ) (role : Role) (height : ℕ) (terms : List Binding) → item_at k.strands s ≡ Some (instance role height terms) → StandsOnRegular (the_bundle k ns all st) own_standing s role height terms
   stands_on s role height terms on = record {
     at_start = refl;
     to_height = height;
-    to_values = after own_values terms;
+    to_values = after own_values (as_substitution terms);
     on_regular = st.own s (instance role height terms) on;
     at_least = le_refl height;
     equal_values = λ x h. refl;

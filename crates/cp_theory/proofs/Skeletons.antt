@@ -1,8 +1,9 @@
 -- A skeleton over a protocol is one under a substitution, and with pairs from recorded origins that close no cycle.
-use Rattle.std.proofs.Common.{◌≡◌, ◌≢◌, ℕ, List, Some, map, sym, subst, ◌⊎◌, inl, inr}
+use Rattle.std.proofs.Common.{◌≡◌, ◌∙◌, ◌≢◌, ℕ, List, Some, map, sym, subst, ◌⊎◌, inl, inr}
 use Rattle.cp_lists.specs.Lists.{item_at, IsIn}
-use Rattle.cp_model.specs.Term.{AtomTerm, Term, atom_term, IsCarriedByTerm, itself_term, in_left_term, in_right_term, in_plaintext_term, Substitution, apply_to, apply_to_atom, composed}
-use Rattle.cp_model.specs.Strand.{event_map, Role, Protocol}
+use Rattle.cp_model.specs.Term.{AtomTerm, Term, Substitution, apply_to, apply_to_atom, composed}
+use Rattle.cp_model.specs.Bindings.{Binding, as_substitution}
+use Rattle.cp_model.specs.Strand.{event_map, Role, Protocol, Applies}
 use Rattle.cp_model.specs.declared.strand.Event.{Event}
 use Rattle.cp_model.specs.declared.strand.Event.TheVariants.{Send as send, Receive as recv}
 use Rattle.cp_model.specs.Bundle.{node_at}
@@ -12,8 +13,10 @@ use Rattle.cp_model.specs.declared.node.OrderPair.{OrderPair}
 use Rattle.cp_lists.proofs.Members.{into_map, from_map}
 use Rattle.cp_lists.proofs.Items.{map_of_item}
 use Rattle.cp_model.proofs.LawTerms.{carried_under, atom_composed}
-use Rattle.cp_theory.specs.Normal.{IsOriginPair, with_pairs, AddOnlyOriginPairs, strand_under, unique_under, skeleton_under}
-use Rattle.cp_theory.proofs.Under.{trace_under, before_of_under, instance_of_under}
+use Rattle.cp_model.proofs.LawAgreement.{agree_atom}
+use Rattle.cp_model.proofs.UnderVariables.{applies_at}
+use Rattle.cp_theory.specs.Normal.{terms_under, IsOriginPair, with_pairs, AddOnlyOriginPairs, strand_under, unique_under, skeleton_under}
+use Rattle.cp_theory.proofs.Under.{terms_kept, trace_under, before_of_under, instance_of_under}
 
 pub event_under : (s : Substitution) (k : Skeleton) (n : Node) (e : Event Term) → term_event_at k.strands n ≡ Some e → term_event_at (skeleton_under s k).strands n ≡ Some (event_map (apply_to s) e)
 event_under s k n e ev =
@@ -32,18 +35,23 @@ pub origin_under : (s : Substitution) (k : Skeleton) (u : UniqueAt) → IsOrigin
 origin_under s k u o = record {
   role = o.role;
   height = o.height;
-  terms = composed o.terms s;
+  terms = terms_under s o.role o.height o.terms;
   on_instance = map_of_item (strand_under s) k.strands u.origin.strand (instance o.role o.height o.terms) o.on_instance;
   sent = apply_to s o.sent;
   transmission = event_under s k u.origin (send o.sent) o.transmission;
   carried = carried_under s o.carried;
 }
 
-given_under : (s : Substitution) (k : Skeleton) (a : ℕ) (role : Role) (height : ℕ) (terms : Substitution) → GivesAssumptions k a role height terms → GivesAssumptions (skeleton_under s k) a role height (composed terms s)
+-- What applies to an instance has variables of its prefix alone.
+value_under : (s : Substitution) (role : Role) (height : ℕ) (terms : List Binding) (v : AtomTerm) → Applies role height v → apply_to_atom s (apply_to_atom (as_substitution terms) v) ≡ apply_to_atom (as_substitution (terms_under s role height terms)) v
+value_under s role height terms v applies =
+    sym (atom_composed (as_substitution terms) s v) ∙ sym (agree_atom (as_substitution (terms_under s role height terms)) (composed (as_substitution terms) s) v (λ x i. terms_kept s role height terms x (applies x i)))
+
+given_under : (s : Substitution) (k : Skeleton) (a : ℕ) (role : Role) (height : ℕ) (terms : List Binding) → GivesAssumptions k a role height terms → GivesAssumptions (skeleton_under s k) a role height (terms_under s role height terms)
 given_under s k a role height terms gives = record {
-  non = λ v inv applies. subst (λ (w : AtomTerm). IsIn w (map (apply_to_atom s) k.assumptions.non_originating)) (sym (atom_composed terms s v)) (into_map (apply_to_atom s) (gives.non v inv applies));
-  penetrator_non = λ v inv applies. subst (λ (w : AtomTerm). IsIn w (map (apply_to_atom s) k.assumptions.penetrator_non_originating)) (sym (atom_composed terms s v)) (into_map (apply_to_atom s) (gives.penetrator_non v inv applies));
-  unique = λ v i inv applies. subst (λ (w : AtomTerm). IsIn (record { value = w; origin = node_at a i }) (map (unique_under s) k.assumptions.uniquely_originating)) (sym (atom_composed terms s v)) (into_map (unique_under s) (gives.unique v i inv applies));
+  non = λ v inv applies. subst (λ (w : AtomTerm). IsIn w (map (apply_to_atom s) k.assumptions.non_originating)) (value_under s role height terms v applies) (into_map (apply_to_atom s) (gives.non v inv applies));
+  penetrator_non = λ v inv applies. subst (λ (w : AtomTerm). IsIn w (map (apply_to_atom s) k.assumptions.penetrator_non_originating)) (value_under s role height terms v applies) (into_map (apply_to_atom s) (gives.penetrator_non v inv applies));
+  unique = λ v i inv applies. subst (λ (w : AtomTerm). IsIn (record { value = w; origin = node_at a i }) (map (unique_under s) k.assumptions.uniquely_originating)) (value_under s role height terms v (applies_at role height v i applies)) (into_map (unique_under s) (gives.unique v i inv applies));
 }
 
 pub skeleton_under_is_skeleton : (protocol : Protocol) (s : Substitution) (k : Skeleton) → IsSkeleton protocol k → IsSkeleton protocol (skeleton_under s k)

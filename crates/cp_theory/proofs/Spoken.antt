@@ -2,10 +2,10 @@
 use Rattle.std.proofs.Common.{◌≡◌, ◌≢◌, ℕ, zero, suc, ◌+◌, ◌<◌, List, [], ◌∷◌, Some, refl, sym, ap, ◌∙◌, subst, le_refl, lt_trans, lt_irrefl, arith}
 use Rattle.cp_lists.specs.Lists.{item_at, IsIn, here, there, one_step, more_steps}
 use Rattle.cp_model.specs.Message.{text, Message, atom, itself}
-use Rattle.cp_model.specs.Term.{AtomTerm, text_variable, variable_term, Term, atom_term, IsCarriedByTerm, itself_term, Assignment, value_of_atom, Substitution, apply_to_atom, after, AgreeOn, value_of}
+use Rattle.cp_model.specs.Term.{AtomTerm, text_variable, variable_term, Term, atom_term, IsCarriedByTerm, itself_term, Assignment, value_of_atom, apply_to_atom, after, AgreeOn, value_of}
+use Rattle.cp_model.specs.Bindings.{Binding, as_substitution}
 use Rattle.cp_model.specs.declared.variable.Variable.{Variable}
-use Rattle.cp_model.specs.Identity.{unchanged}
-use Rattle.cp_model.specs.Strand.{payload, Role, IsHeight, regular}
+use Rattle.cp_model.specs.Strand.{payload, Role, IsHeight, regular, variables_of_prefix}
 use Rattle.cp_model.specs.declared.strand.Event.{Event}
 use Rattle.cp_model.specs.declared.strand.Event.TheVariants.{Send as send, Receive as recv}
 use Rattle.cp_model.specs.Bundle.{node_at, event_at, OriginatesAt, KeepsUnique, KeepsRole, AreOfProtocol, IsBundle}
@@ -14,7 +14,6 @@ use Rattle.cp_model.specs.Skeleton.{instance, term_event_at, UniqueAt, OrderStep
 use Rattle.cp_model.specs.Standing.{image_of, StandsOnRegular, StandsIn, StandsApart}
 use Rattle.cp_model.specs.Realisation.{OriginatesAtTerm}
 use Rattle.cp_model.specs.Problem.{variables_of_skeleton}
-use Rattle.cp_model.proofs.LawTerms.{value_after, term_unchanged}
 use Rattle.cp_lists.proofs.Members.{only_item, not_in_none}
 use Rattle.cp_model.proofs.StrandParts.{two_instances, two_regulars, no_listener}
 use Rattle.cp_theory.proofs.Numbered.{IsOfRole, of_roles, is_numbered}
@@ -22,8 +21,8 @@ use Rattle.cp_theory.specs.Normal.{IsOriginPair, skeleton_under, variables_of_te
 use Rattle.cp_theory.specs.RepeatedText.{speaker, repeater, protocol, unique_text, two_say_it, repeated, zeros, heard_and_said, standing, merging, from_speaker}
 
 -- The two instances, and the two strands.
-each_instance : (P : ℕ → Role → ℕ → Substitution → Type 0) → P 0 speaker 1 unchanged → P 1 repeater 2 unchanged →
-    (s : ℕ) (role : Role) (height : ℕ) (terms : Substitution) → item_at two_say_it.strands s ≡ Some (instance role height terms) → P s role height terms
+each_instance : (P : ℕ → Role → ℕ → List Binding → Type 0) → P 0 speaker 1 [] → P 1 repeater 2 [] →
+    (s : ℕ) (role : Role) (height : ℕ) (terms : List Binding) → item_at two_say_it.strands s ≡ Some (instance role height terms) → P s role height terms
 each_instance P p q s role height terms e = two_instances P p q s role height terms e
 
 each_regular : (P : ℕ → Role → ℕ → Assignment → Type 0) → P 0 speaker 1 zeros → P 1 repeater 2 zeros →
@@ -42,17 +41,17 @@ same_strand (more_steps s p) =
     let b = same_strand p in
     (a.0 ∙ b.0, lt_trans a.1 b.1)
 
-given_speaker : GivesAssumptions two_say_it 0 speaker 1 unchanged
+given_speaker : GivesAssumptions two_say_it 0 speaker 1 []
 given_speaker = record {
   non = λ v h a. absurd (not_in_none h);
   penetrator_non = λ v h a. absurd (not_in_none h);
   unique = λ v i h a.
       let e : i ≡ 0 = omega (arith, a.1) in
-      subst (λ x. IsIn (record { value = apply_to_atom unchanged x; origin = node_at 0 i }) (unique_text ∷ [])) (sym (only_item h))
+      subst (λ x. IsIn (record { value = apply_to_atom (as_substitution []) x; origin = node_at 0 i }) (unique_text ∷ [])) (sym (only_item h))
       (subst (λ x. IsIn (record { value = text_variable 0; origin = node_at 0 x }) (unique_text ∷ [])) (sym e) here);
 }
 
-given_repeater : GivesAssumptions two_say_it 1 repeater 2 unchanged
+given_repeater : GivesAssumptions two_say_it 1 repeater 2 []
 given_repeater = record { non = λ v h a. absurd (not_in_none h); penetrator_non = λ v h a. absurd (not_in_none h); unique = λ v i h a. absurd (not_in_none h) }
 
 pub is_skeleton : IsSkeleton protocol two_say_it
@@ -64,7 +63,7 @@ is_skeleton = record {
   origins = λ u h. subst (IsOrigin two_say_it) (sym (only_item h)) (record {
     role = speaker;
     height = 1;
-    terms = unchanged;
+    terms = [];
     on_instance = refl;
     sent = atom_term (text_variable 0);
     transmission = refl;
@@ -138,15 +137,21 @@ pub is_bundle : IsBundle protocol heard_and_said
 is_bundle = is_numbered protocol heard_and_said (λ n. n.strand + n.index) of_protocol (λ s i. omega arith) linked_on listed_on there_is place_is
 
 -- The standing.
-equal_values : (xs : List Variable) → AgreeOn xs (after zeros unchanged) zeros
-equal_values xs x inx = value_after zeros unchanged (variable_term x) ∙ ap (value_of zeros) (term_unchanged (variable_term x))
+speaker_values : AgreeOn (variables_of_prefix speaker 1) (after zeros (as_substitution [])) zeros
+speaker_values x here = refl
+speaker_values x (there i) = absurd (not_in_none i)
+
+repeater_values : AgreeOn (variables_of_prefix repeater 2) (after zeros (as_substitution [])) zeros
+repeater_values x here = refl
+repeater_values x (there here) = refl
+repeater_values x (there (there i)) = absurd (not_in_none i)
 
 pub stands : StandsIn two_say_it heard_and_said standing
 stands = record {
   instances = each_instance (λ s role height terms. StandsOnRegular heard_and_said standing s role height terms)
-      (record { at_start = refl; to_height = 1; to_values = zeros; on_regular = refl; at_least = le_refl 1; equal_values = equal_values _ })
-      (record { at_start = refl; to_height = 2; to_values = zeros; on_regular = refl; at_least = le_refl 2; equal_values = equal_values _ });
-  listeners = λ s t e. absurd (no_listener speaker repeater 1 2 unchanged unchanged s t e);
+      (record { at_start = refl; to_height = 1; to_values = zeros; on_regular = refl; at_least = le_refl 1; equal_values = speaker_values })
+      (record { at_start = refl; to_height = 2; to_values = zeros; on_regular = refl; at_least = le_refl 2; equal_values = repeater_values });
+  listeners = λ s t e. absurd (no_listener speaker repeater 1 2 [] [] s t e);
   ordered = λ x y before ne. absurd (ne (same_strand before).0);
   non = λ v h. absurd (not_in_none h);
   penetrator_non = λ v h. absurd (not_in_none h);
@@ -174,7 +179,7 @@ not_heard (suc j) e l at c = absurd (omega arith)
 
 pub originates : OriginatesAtTerm two_say_it unique_text.value repeated
 originates = (
-  record { role = repeater; height = 2; terms = unchanged; on_instance = refl },
+  record { role = repeater; height = 2; terms = []; on_instance = refl },
   record { sent = atom_term (text_variable 0); transmission = refl; carried = itself_term; first = not_heard },
 )
 

@@ -3,6 +3,7 @@ use Rattle.std.proofs.Common.{◌∷◌, [], ◌++◌, le_refl, ◌≡◌, ℕ, 
 use Rattle.cp_lists.specs.Lists.{item_at, IsIn}
 use Rattle.cp_model.specs.Message.{Message}
 use Rattle.cp_model.specs.Term.{AtomTerm, Assignment, value_of, value_of_atom, after, atoms_by}
+use Rattle.cp_model.specs.Bindings.{as_substitution}
 use Rattle.cp_model.specs.Strand.{Penetrator, create_atom, pairing, penetrator_trace, Strand, regular, penetrator, trace_of}
 use Rattle.cp_model.specs.declared.strand.Event.{Event}
 use Rattle.cp_model.specs.Bundle.{node_at}
@@ -24,7 +25,7 @@ own_standing = record { nodes = λ s. node_at s 0; values = own_values }
 
 -- The strand of the bundle for a strand of the skeleton. A listener's pairs its message with itself.
 abbrev pub strand_for : SkeletonStrand → Strand
-strand_for (instance role height terms) = regular role height (after own_values terms)
+strand_for (instance role height terms) = regular role height (after own_values (as_substitution terms))
 strand_for (listener t) = penetrator (pairing (value_of own_values t) (value_of own_values t))
 
 -- The node of the skeleton for which the event at a node of such a strand happens.

@@ -5,7 +5,8 @@ use Rattle.cp_lists.specs.Lists.{item_at}
 use Rattle.cp_lists.proofs.Items.{take_of_item, item_below, item_before}
 use Rattle.cp_lists.proofs.Mapped.{map_same}
 use Rattle.cp_model.specs.Message.{Key, Message}
-use Rattle.cp_model.specs.Term.{Term, Assignment, value_of, after, apply_to, Substitution, AgreeOnTerms}
+use Rattle.cp_model.specs.Term.{Term, Assignment, value_of, after, apply_to, AgreeOnTerms}
+use Rattle.cp_model.specs.Bindings.{Binding, as_substitution}
 use Rattle.cp_model.specs.Identity.{unchanged}
 use Rattle.cp_model.specs.Strand.{event_map, Role, Protocol, prefix_of, variables_of_prefix}
 use Rattle.cp_model.specs.declared.strand.Event.{Event}
@@ -87,7 +88,7 @@ grown_itself k b h stands apart = record {
 record GoesThere (k : Skeleton) (h : Standing) (strand a : ℕ) : Type 0 where
   role : Role
   height : ℕ
-  terms : Substitution
+  terms : List Binding
   at : item_at k.strands a ≡ Some (instance role height terms)
   to : (h.nodes a).strand ≡ strand
 
@@ -97,7 +98,7 @@ not_a_listener k h strand a t at g = let both : Some (listener t) ≡ Some (inst
 not_none : (k : Skeleton) (h : Standing) (strand a : ℕ) → item_at k.strands a ≡ None → GoesThere k h strand a → ⊥
 not_none k h strand a at g = let both : None ≡ Some (instance g.role g.height g.terms) = sym at ∙ g.at in cc
 
-dec_instance : (k : Skeleton) (h : Standing) (strand a : ℕ) (role : Role) (height : ℕ) (terms : Substitution) → item_at k.strands a ≡ Some (instance role height terms) → Dec ((h.nodes a).strand ≡ strand) → Dec (GoesThere k h strand a)
+dec_instance : (k : Skeleton) (h : Standing) (strand a : ℕ) (role : Role) (height : ℕ) (terms : List Binding) → item_at k.strands a ≡ Some (instance role height terms) → Dec ((h.nodes a).strand ≡ strand) → Dec (GoesThere k h strand a)
 dec_instance k h strand a role height terms at (yes e) = yes (record { role = role; height = height; terms = terms; at = at; to = e })
 dec_instance k h strand a role height terms at (no n) = no (λ g. n g.to)
 
@@ -173,22 +174,22 @@ module _ (protocol : Protocol) (k : Skeleton) (n : Node) (c : Term) (ps : List P
       let g = grows.standing in
       let image : image_of e g node ≡ released.node = image_at e g node (instance role height grows.terms) grows.there ∙ ap (λ (i : ℕ). node_at i index) grows.to in
       let precedes : Precedes b (image_of e g node) (image_of e g n) = subst₂ (Precedes b) (sym image) (sym (grows.grown.images n (here.received, here.reception))) released.earlier in
-      let there : term_event_at e.strands node ≡ Some (send (apply_to grows.terms t)) = event_of_higher e.strands a index role height grows.terms (send t) grows.there high sent in
+      let there : term_event_at e.strands node ≡ Some (send (apply_to (as_substitution grows.terms) t)) = event_of_higher e.strands a index role height grows.terms (send t) grows.there high sent in
       let in_prefix = in_trace (prefix_of role height) index (send t) in
-      let value_there : value_of g.values (apply_to grows.terms u) ≡ critical =
-      sym (value_after g.values grows.terms u)
-      ∙ agree_value (after g.values grows.terms) values u (λ x i. grows.equal x (in_prefix x (take_of_item height role.trace index (send t) high sent) (position_variables t path u at x i)))
+      let value_there : value_of g.values (apply_to (as_substitution grows.terms) u) ≡ critical =
+      sym (value_after g.values (as_substitution grows.terms) u)
+      ∙ agree_value (after g.values (as_substitution grows.terms)) values u (λ x i. grows.equal x (in_prefix x (take_of_item height role.trace index (send t) high sent) (position_variables t path u at x i)))
       ∙ same in
       let value_critical : critical ≡ value_of g.values c = agree_value h.values g.values c (λ x i. grows.grown.values x (here.guards.used_by_critical x i)) in
-      let tried = releases (grown_acyclic protocol k e b h g node n here.skeleton here.stands grows.grown precedes here.bundle) (apply_to grows.terms t) (apply_to grows.terms u) there
-      (term_at_under grows.terms t path u at) g.values (value_there ∙ value_critical) in
+      let tried = releases (grown_acyclic protocol k e b h g node n here.skeleton here.stands grows.grown precedes here.bundle) (apply_to (as_substitution grows.terms) t) (apply_to (as_substitution grows.terms) u) there
+      (term_at_under (as_substitution grows.terms) t path u at) g.values (value_there ∙ value_critical) in
       let reached = reached_grown protocol k e b h g node n here.skeleton here.stands grows.grown precedes in
       tried_goes_on (trial_at protocol k ps c a index path) ks b h here.bundle test here.tells (used a index path) strand (releasing a path unprotected) tried.tried (record { nodes = g.nodes; values = tried.fits.values })
       (reached_under k b h unchanged (put_before node n e) g tried.substitution reached tried.fits) grows.to
 
   -- ---- displaced
 
-  module _ (a : ℕ) (role : Role) (before : ℕ) (old : Substitution) (was : item_at k.strands a ≡ Some (instance role before old)) (to : (h.nodes a).strand ≡ strand) (st : StandsOnRegular b h a role before old)
+  module _ (a : ℕ) (role : Role) (before : ℕ) (old : List Binding) (was : item_at k.strands a ≡ Some (instance role before old)) (to : (h.nodes a).strand ≡ strand) (st : StandsOnRegular b h a role before old)
       (below : index < st.to_height) (t u : Term) (path : List Step) (sent : item_at role.trace index ≡ Some (send t)) (at : term_at t path ≡ Some u) (same : value_of st.to_values u ≡ critical)
       (unprotected : IsOpenAt test released.sent path) where
     displaced_high : (d : IsDisplaced (trial_at protocol k ps c a index path) ks n role before) → index < before → d.grown ≡ k → GoesOn ks k b h
@@ -208,12 +209,12 @@ module _ (protocol : Protocol) (k : Skeleton) (n : Node) (c : Term) (ps : List P
         let count = d.grows.count in
         let both : Some (instance ext.role ext.before ext.old_terms) ≡ Some (instance role before old) = sym ext.was_instance ∙ was in
         let on : item_at d.grown.strands a ≡ Some (instance role (suc index) ext.terms) =
-        same_instance (λ (r : Role) (m : ℕ) (ts : Substitution). item_at d.grown.strands a ≡ Some (instance r (suc index) ext.terms)) both ext.on_instance in
-        let keeps : AgreeOnTerms (variables_of_prefix role before) old ext.terms = same_instance (λ (r : Role) (m : ℕ) (ts : Substitution). AgreeOnTerms (variables_of_prefix r m) ts ext.terms) both ext.keeps in
-        let gives : terms_of ext.terms (added_variables role before (suc index)) ≡ fresh_terms count (added_variables role before (suc index)) =
-        same_instance (λ (r : Role) (m : ℕ) (ts : Substitution). terms_of ext.terms (added_variables r m (suc index)) ≡ fresh_terms count (added_variables role before (suc index))) both ext.gives in
+        same_instance (λ (r : Role) (m : ℕ) (ts : List Binding). item_at d.grown.strands a ≡ Some (instance r (suc index) ext.terms)) both ext.on_instance in
+        let keeps : AgreeOnTerms (variables_of_prefix role before) (as_substitution old) (as_substitution ext.terms) = same_instance (λ (r : Role) (m : ℕ) (ts : List Binding). AgreeOnTerms (variables_of_prefix r m) (as_substitution ts) (as_substitution ext.terms)) both ext.keeps in
+        let gives : terms_of (as_substitution ext.terms) (added_variables role before (suc index)) ≡ fresh_terms count (added_variables role before (suc index)) =
+        same_instance (λ (r : Role) (m : ℕ) (ts : List Binding). terms_of (as_substitution ext.terms) (added_variables r m (suc index)) ≡ fresh_terms count (added_variables role before (suc index))) both ext.gives in
         let adds : AddsGiven role (suc index) ext.terms a k.assumptions d.grown.assumptions =
-        same_instance (λ (r : Role) (m : ℕ) (ts : Substitution). AddsGiven r (suc index) ext.terms a k.assumptions d.grown.assumptions) both ext.assumptions in
+        same_instance (λ (r : Role) (m : ℕ) (ts : List Binding). AddsGiven r (suc index) ext.terms a k.assumptions d.grown.assumptions) both ext.assumptions in
         let at_least : suc index ≤ st.to_height = omega (arith, below) in
         let raised = raised_at protocol k d.grown b h here.bundle here.stands here.apart a role before (suc index) old ext.terms was on keeps count gives d.grows.closed d.grows.below ext.others st at_least ext.pairs ext.from_problem adds in
         let grows : HasGrownAt k d.grown b h a role (suc index) strand st.to_values = subst (λ (i : ℕ). HasGrownAt k d.grown b h a role (suc index) i st.to_values) to raised in
@@ -266,7 +267,7 @@ module _ (protocol : Protocol) (k : Skeleton) (n : Node) (c : Term) (ps : List P
       let d = here.covering.added released.role index sends.term position.term position.path of_role sends.at position.at in
       let below : index < released.height = sends.below in
       let at_least : suc index ≤ released.height = omega (arith, below) in
-      let only = λ (a : ℕ) (role : Role) (height : ℕ) (terms : Substitution) (at : item_at k.strands a ≡ Some (instance role height terms)) (to : (h.nodes a).strand ≡ strand).
+      let only = λ (a : ℕ) (role : Role) (height : ℕ) (terms : List Binding) (at : item_at k.strands a ≡ Some (instance role height terms)) (to : (h.nodes a).strand ≡ strand).
       none a (item_below k.strands a (instance role height terms) at) (record { role = role; height = height; terms = terms; at = at; to = to }) in
       let grows = added_at protocol k d.grown b h here.bundle here.stands here.apart released.role (suc index) d.count d.adds d.closed d.below strand released.height released.values released.on_regular at_least only in
       put_goes_on (length k.strands) d.grown released.role (suc index) released.values grows (omega arith) sends.term position.term position.path sends.at position.at position.same unprotected

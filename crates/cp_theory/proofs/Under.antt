@@ -2,9 +2,10 @@
 use Rattle.std.proofs.Common.{◌≡◌, ◌≢◌, ℕ, zero, suc, List, [], ◌∷◌, ◌++◌, Some, map, refl, sym, ap, ap₂, ◌∙◌, subst, subst₂}
 use Rattle.cp_lists.specs.Lists.{item_at, IsIn, one_step, more_steps}
 use Rattle.cp_model.specs.Message.{Atom, Message, atom}
-use Rattle.cp_model.specs.Term.{AtomTerm, variable_term, Term, variables_of_atom, variables_of, Assignment, value_of, value_of_atom, Substitution, apply_to_atom, apply_to, after, composed, AgreeOn}
+use Rattle.cp_model.specs.Term.{AtomTerm, variable_term, Term, variables_of_atom, variables_of, Assignment, value_of, value_of_atom, Substitution, apply_to_atom, apply_to, after, composed, AgreeOn, AgreeOnTerms}
+use Rattle.cp_model.specs.Bindings.{Binding, as_substitution}
 use Rattle.cp_model.specs.declared.variable.Variable.{Variable}
-use Rattle.cp_model.specs.Strand.{event_map, Role, prefix_of, variables_of_prefix}
+use Rattle.cp_model.specs.Strand.{payload, event_map, Role, variables_of_trace, prefix_of, variables_of_prefix}
 use Rattle.cp_model.specs.declared.strand.Event.{Event}
 use Rattle.cp_model.specs.declared.strand.Event.TheVariants.{Send as send, Receive as recv}
 use Rattle.cp_model.specs.Bundle.{node_at, event_at, KeepsNon, KeepsPenetratorNon, KeepsUnique, Bundle, Precedes}
@@ -15,22 +16,35 @@ use Rattle.cp_model.specs.Homomorphism.{FactorsThrough}
 use Rattle.cp_model.specs.Problem.{variables_of_strands, variables_of_atoms, variables_of_uniques, variables_of_assumptions}
 use Rattle.cp_lists.proofs.Members.{in_append_left, in_append_right, from_map}
 use Rattle.cp_lists.proofs.Items.{item_of_map}
-use Rattle.cp_model.proofs.LawTerms.{atom_after, value_after, term_composed}
-use Rattle.cp_theory.specs.Normal.{strand_under, unique_under, skeleton_under, variables_of_terms, IsSolution}
-use Rattle.cp_model.proofs.LawAgreement.{agree_atom_value, agree_value}
+use Rattle.cp_model.proofs.LawTerms.{value_after, atom_after, term_composed}
+use Rattle.cp_theory.specs.Normal.{strand_under, unique_under, skeleton_under, variables_of_terms, IsSolution, terms_under}
+use Rattle.cp_model.proofs.LawAgreement.{agree_atom_value, agree_value, agree_event}
+use Rattle.cp_model.proofs.DeclaredTerms.{by_bindings}
 use Rattle.cp_model.proofs.OccurringVariables.{in_trace_under, in_strands, in_atoms, in_uniques}
 
--- Traces and images under a substitution.
+-- ---- traces and images under a substitution
+
+-- The variables of the prefix have the composed terms.
+pub terms_kept : (s : Substitution) (role : Role) (height : ℕ) (terms : List Binding) → AgreeOnTerms (variables_of_prefix role height) (as_substitution (terms_under s role height terms)) (composed (as_substitution terms) s)
+terms_kept s role height terms x i = by_bindings (composed (as_substitution terms) s) (variables_of_prefix role height) x i
+
+pub same_events : (s t : Substitution) (es : List (Event Term)) → AgreeOnTerms (variables_of_trace es) s t → map (event_map (apply_to s)) es ≡ map (event_map (apply_to t)) es
+same_events s t [] a = refl
+same_events s t (e ∷ es) a =
+    ap₂ ◌∷◌ (agree_event s t e (λ x p. a x (in_append_left (variables_of_trace es) p))) (same_events s t es (λ x p. a x (in_append_right (variables_of (payload e)) p)))
+
 event_under : (s t : Substitution) (e : Event Term) → event_map (apply_to (composed t s)) e ≡ event_map (apply_to s) (event_map (apply_to t) e)
 event_under s t (send u) = ap send (term_composed t s u)
 event_under s t (recv u) = ap recv (term_composed t s u)
 
-events_under : (s t : Substitution) (es : List (Event Term)) → map (event_map (apply_to (composed t s))) es ≡ map (event_map (apply_to s)) (map (event_map (apply_to t)) es)
+pub events_under : (s t : Substitution) (es : List (Event Term)) → map (event_map (apply_to (composed t s))) es ≡ map (event_map (apply_to s)) (map (event_map (apply_to t)) es)
 events_under s t [] = refl
 events_under s t (e ∷ es) = ap₂ ◌∷◌ (event_under s t e) (events_under s t es)
 
-strand_trace_under : (s : Substitution) (st : SkeletonStrand) → skeleton_trace (strand_under s st) ≡ map (event_map (apply_to s)) (skeleton_trace st)
-strand_trace_under s (instance role height terms) = events_under s terms (prefix_of role height)
+pub strand_trace_under : (s : Substitution) (st : SkeletonStrand) → skeleton_trace (strand_under s st) ≡ map (event_map (apply_to s)) (skeleton_trace st)
+strand_trace_under s (instance role height terms) =
+    same_events (as_substitution (terms_under s role height terms)) (composed (as_substitution terms) s) (prefix_of role height) (terms_kept s role height terms)
+    ∙ events_under s (as_substitution terms) (prefix_of role height)
 strand_trace_under s (listener t) = refl
 
 pub trace_under : (s : Substitution) (ss : List SkeletonStrand) (i : ℕ) → skeleton_trace_or_none (item_at (map (strand_under s) ss) i) ≡ map (event_map (apply_to s)) (skeleton_trace_or_none (item_at ss i))
@@ -64,8 +78,8 @@ before_of_under s k (one_step p) = one_step (step_of_under s k p)
 before_of_under s k (more_steps p q) = more_steps (step_of_under s k p) (before_of_under s k q)
 
 -- A role strand stands where one of its role and height does whose values are the same.
-pub stands_on_equal : (b : Bundle) (h : Standing) (a : ℕ) (role : Role) (height : ℕ) (s t : Substitution) → StandsOnRegular b h a role height s →
-    AgreeOn (variables_of_prefix role height) (after h.values t) (after h.values s) → StandsOnRegular b h a role height t
+pub stands_on_equal : (b : Bundle) (h : Standing) (a : ℕ) (role : Role) (height : ℕ) (s t : List Binding) → StandsOnRegular b h a role height s →
+    AgreeOn (variables_of_prefix role height) (after h.values (as_substitution t)) (after h.values (as_substitution s)) → StandsOnRegular b h a role height t
 stands_on_equal b h a role height s t st agree = record {
   at_start = st.at_start;
   to_height = st.to_height;
@@ -97,12 +111,12 @@ module _ (s : Substitution) (k : Skeleton) (b : Bundle) (h : Standing) (solution
   StrandStands a (instance role height terms) = StandsOnRegular b h a role height terms
   StrandStands a (listener t) = event_at b.strands (h.nodes a) ≡ Some (recv (value_of g t))
 
-  instance_under : (a : ℕ) (role : Role) (height : ℕ) (terms : Substitution) → item_at k.strands a ≡ Some (instance role height terms) → StandsOnRegular b h a role height terms → StandsOnRegular b h a role height (composed terms s)
-  instance_under a role height terms at st = stands_on_equal b h a role height terms (composed terms s) st (λ x inx.
-      value_after g (composed terms s) (variable_term x)
-      ∙ ap (value_of g) (term_composed terms s (variable_term x))
-      ∙ same_term (apply_to terms (variable_term x)) (λ y iny. agree_strands y (in_strands k.strands a (instance role height terms) y at (in_trace_under terms (prefix_of role height) x y inx iny)))
-      ∙ sym (value_after g terms (variable_term x)))
+  instance_under : (a : ℕ) (role : Role) (height : ℕ) (terms : List Binding) → item_at k.strands a ≡ Some (instance role height terms) → StandsOnRegular b h a role height terms → StandsOnRegular b h a role height (terms_under s role height terms)
+  instance_under a role height terms at st = stands_on_equal b h a role height terms (terms_under s role height terms) st (λ x inx.
+      value_after g (as_substitution (terms_under s role height terms)) (variable_term x)
+      ∙ ap (value_of g) (terms_kept s role height terms x inx ∙ term_composed (as_substitution terms) s (variable_term x))
+      ∙ same_term (apply_to (as_substitution terms) (variable_term x)) (λ y iny. agree_strands y (in_strands k.strands a (instance role height terms) y at (in_trace_under (as_substitution terms) (prefix_of role height) x y inx iny)))
+      ∙ sym (value_after g (as_substitution terms) (variable_term x)))
 
   strand_stands : StandsIn k b h → (a : ℕ) (st : SkeletonStrand) → item_at k.strands a ≡ Some st → StrandStands a (strand_under s st)
   strand_stands stands a (instance role height terms) at = instance_under a role height terms at (stands.instances a role height terms at)
@@ -154,12 +168,12 @@ module _ (s : Substitution) (k : Skeleton) (b : Bundle) (h : Standing) (solution
     unique = unique_stands_under stands;
   }
 
-instance_of_strand : (s : Substitution) (st : SkeletonStrand) (role : Role) (height : ℕ) (terms : Substitution) → strand_under s st ≡ instance role height terms → (t : Substitution) × (st ≡ instance role height t) × (composed t s ≡ terms)
-instance_of_strand s (instance role' height' terms') role height terms e = let p : role' ≡ role = cc in let q : height' ≡ height = cc in let r : composed terms' s ≡ terms = cc in (terms', cc, r)
+instance_of_strand : (s : Substitution) (st : SkeletonStrand) (role : Role) (height : ℕ) (terms : List Binding) → strand_under s st ≡ instance role height terms → (t : List Binding) × (st ≡ instance role height t) × (terms_under s role height t ≡ terms)
+instance_of_strand s (instance role' height' terms') role height terms e = let p : role' ≡ role = cc in let q : height' ≡ height = cc in let r : terms_under s role' height' terms' ≡ terms = cc in (terms', cc, ap₂ (λ (d : Role) (m : ℕ). terms_under s d m terms') (sym p) (sym q) ∙ r)
 instance_of_strand s (listener t) role height terms e = absurd (cc)
 
-pub instance_of_under : (s : Substitution) (k : Skeleton) (a : ℕ) (role : Role) (height : ℕ) (terms : Substitution) → item_at (skeleton_under s k).strands a ≡ Some (instance role height terms) →
-    (t : Substitution) × (item_at k.strands a ≡ Some (instance role height t)) × (composed t s ≡ terms)
+pub instance_of_under : (s : Substitution) (k : Skeleton) (a : ℕ) (role : Role) (height : ℕ) (terms : List Binding) → item_at (skeleton_under s k).strands a ≡ Some (instance role height terms) →
+    (t : List Binding) × (item_at k.strands a ≡ Some (instance role height t)) × (terms_under s role height t ≡ terms)
 instance_of_under s k a role height terms at =
     let m = item_of_map (strand_under s) k.strands a (instance role height terms) at in
     let i = instance_of_strand s m.0 role height terms m.2 in

@@ -2,6 +2,7 @@
 use Rattle.std.specs.Prelude.{◌≡◌, ◌≢◌, ◌⊎◌, ℕ, suc, ◌<◌, ◌≤◌, List, [], ◌∷◌, ◌++◌, Some, length}
 use Rattle.cp_lists.specs.Lists.{item_at, IsIn}
 use Rattle.cp_model.specs.Term.{KeyTerm, key_term, inverse_term, Term, atom_term, enc_term, Assignment, value_of, Substitution}
+use Rattle.cp_model.specs.Bindings.{Binding}
 use Rattle.cp_model.specs.Identity.{unchanged}
 use Rattle.cp_model.specs.Strand.{Role, Protocol}
 use Rattle.cp_model.specs.declared.strand.Event.TheVariants.{Send as send}
@@ -90,7 +91,7 @@ trial_at protocol k ps c s j path = record { protocol = protocol; first = k; pat
 pub record IsCovering (protocol : Protocol) (k : Skeleton) (n : Node) (c : Term) (ps : List Pattern) (ks : List Skeleton) : Type 0 where
   pub contracted : (m : Node) (t u : Term) (path : List Step) → IsOnInstance k m → term_event_at k.strands m ≡ Some (send t) → Before k m n → term_at t path ≡ Some u →
       IsInside ps unchanged t path ⊎ ((u ≡ c) ⊎ ((g : Assignment) → value_of g u ≡ value_of g c → IsContracted protocol ks k g))
-  pub displaced : (s : ℕ) (role : Role) (height : ℕ) (terms : Substitution) (j : ℕ) (t u : Term) (path : List Step) → item_at k.strands s ≡ Some (instance role height terms) → s ≢ n.strand →
+  pub displaced : (s : ℕ) (role : Role) (height : ℕ) (terms : List Binding) (j : ℕ) (t u : Term) (path : List Step) → item_at k.strands s ≡ Some (instance role height terms) → s ≢ n.strand →
       item_at role.trace j ≡ Some (send t) → term_at t path ≡ Some u → Before k (node_at s j) n ⊎ IsDisplaced (trial_at protocol k ps c s j path) ks n role height
   pub added : (role : Role) (j : ℕ) (t u : Term) (path : List Step) → IsIn role protocol.roles → item_at role.trace j ≡ Some (send t) → term_at t path ≡ Some u →
       IsAddedStrand (trial_at protocol k ps c (length k.strands) j path) ks n role

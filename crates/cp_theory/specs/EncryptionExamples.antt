@@ -1,6 +1,7 @@
 -- An example: an encryption is heard, under a key that does not originate; one role sends such encryptions.
-use Rattle.std.specs.Prelude.{[], ◌∷◌, ◌==◌, if◌then◌else◌}
+use Rattle.std.specs.Prelude.{[], ◌∷◌, ◌==◌, if◌then◌else◌, List}
 use Rattle.cp_model.specs.Term.{skey_variable, symmetric_term, text_variable, key_term, KeyTerm, Term, atom_term, enc_term, Substitution}
+use Rattle.cp_model.specs.Bindings.{Binding, bindings_of}
 use Rattle.cp_model.specs.declared.sort.Sort.TheVariants.{Text as text_sort, Skey as skey_sort}
 use Rattle.cp_model.specs.Identity.{unchanged}
 use Rattle.cp_model.specs.Strand.{Role, Protocol}
@@ -38,6 +39,7 @@ assumptions = record { non_originating = key_term shared ∷ []; penetrator_non_
 -- A listener hears the encryption, and its key does not originate.
 abbrev pub heard : Skeleton
 heard = record {
+  variables = locker.variables;
   strands = listener locked ∷ [];
   pairs = [];
   assumptions = assumptions;
@@ -48,8 +50,8 @@ abbrev pub reception : Node
 reception = node_at 0 0
 
 -- New variables for those of the role.
-abbrev pub new_terms : Substitution
-new_terms = record unchanged { texts = λ n. 2; skeys = λ n. skey_variable 3 }
+abbrev pub new_terms : List Binding
+new_terms = bindings_of (atom_term (text_variable 2) ∷ atom_term (key_term (symmetric_term (skey_variable 3))) ∷ [])
 
 -- With a strand of the role.
 abbrev pub with_locker : Skeleton

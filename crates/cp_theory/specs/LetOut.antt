@@ -36,7 +36,8 @@ first_sent = record { earlier = node_at 0 0; later = node_at 1 0 }
 -- A strand sends the text under the key, which does not originate; and then it is heard.
 abbrev pub let_out : Skeleton
 let_out = record {
-  strands = instance locker 1 unchanged ∷ listener secret ∷ [];
+  variables = locker.variables;
+  strands = instance locker 1 [] ∷ listener secret ∷ [];
   pairs = first_sent ∷ [];
   assumptions = assumptions;
   from_problem = record { strands = 0 ∷ 1 ∷ []; values = secret ∷ atom_term (key_term shared) ∷ []; assumptions = assumptions; pairs = first_sent ∷ [] };
@@ -50,7 +51,7 @@ abbrev pub sent_encryption : Pattern
 sent_encryption = record { term = locked; locals = [] }
 
 abbrev pub with_opener : Skeleton
-with_opener = record let_out { strands = instance locker 1 unchanged ∷ listener secret ∷ instance opener 2 new_terms ∷ [] }
+with_opener = record let_out { strands = instance locker 1 [] ∷ listener secret ∷ instance opener 2 new_terms ∷ [] }
 
 -- The text that it opens is the one that was sent, and so is the key.
 abbrev pub text_as_old : Substitution

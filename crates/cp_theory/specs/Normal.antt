@@ -1,9 +1,10 @@
 -- What normalising does to a skeleton, and what it looks for: values that nodes carry, pairs from recorded origins,
 -- values that were received, and skeletons under substitutions.
 use Rattle.std.specs.Prelude.{◌≡◌, ◌⊎◌, ℕ, ◌<◌, List, Some, map}
+use Rattle.cp_model.specs.Bindings.{Binding, as_substitution, bindings_by}
 use Rattle.cp_lists.specs.Lists.{IsIn}
 use Rattle.cp_model.specs.Term.{AtomTerm, Term, atom_term, IsCarriedByTerm, Assignment, value_of_atom, after, AgreeOn, Substitution, apply_to, apply_to_atom, composed}
-use Rattle.cp_model.specs.Strand.{payload, Protocol}
+use Rattle.cp_model.specs.Strand.{payload, Role, Protocol, variables_of_prefix}
 use Rattle.cp_model.specs.declared.strand.Event.{Event}
 use Rattle.cp_model.specs.declared.strand.Event.TheVariants.{Receive as recv}
 use Rattle.cp_model.specs.Bundle.{node_at, Bundle, IsBundle}
@@ -32,7 +33,7 @@ pub record IsOriginPair (k : Skeleton) (p : OrderPair) : Type 0 where
 
 -- The skeleton with these pairs in place of its own.
 abbrev pub with_pairs : Skeleton → List OrderPair → Skeleton
-with_pairs k pairs = record { strands = k.strands; pairs = pairs; assumptions = k.assumptions; from_problem = k.from_problem }
+with_pairs k pairs = record { variables = k.variables; strands = k.strands; pairs = pairs; assumptions = k.assumptions; from_problem = k.from_problem }
 
 -- Each of the pairs is one of the skeleton's, or goes from a recorded origin to a reception that carries the value.
 abbrev pub AddOnlyOriginPairs : Skeleton → List OrderPair → Type 0
@@ -48,9 +49,13 @@ pub record IsHeardBefore (k : Skeleton) (g : Assignment) (v : AtomTerm) (x : Nod
   pub carried : IsCarriedByTerm (atom_term heard) received
   pub equal : value_of_atom g heard ≡ value_of_atom g v
 
+-- The terms of an instance under a substitution: for each variable of its prefix.
+abbrev pub terms_under : Substitution → Role → ℕ → List Binding → List Binding
+terms_under s role height terms = bindings_by (composed (as_substitution terms) s) (variables_of_prefix role height)
+
 -- A strand under a substitution: each term of an instance, and the message of a listener.
 abbrev pub strand_under : Substitution → SkeletonStrand → SkeletonStrand
-strand_under s (instance role height terms) = instance role height (composed terms s)
+strand_under s (instance role height terms) = instance role height (terms_under s role height terms)
 strand_under s (listener t) = listener (apply_to s t)
 
 -- A unique value under a substitution; its recorded origin stays.
@@ -70,6 +75,7 @@ from_problem_under s f = record { strands = f.strands; values = map (apply_to s)
 -- The skeleton under a substitution: each of its terms is; strands, nodes and pairs stay where they are.
 abbrev pub skeleton_under : Substitution → Skeleton → Skeleton
 skeleton_under s k = record {
+  variables = k.variables;
   strands = map (strand_under s) k.strands;
   pairs = k.pairs;
   assumptions = assumptions_under s k.assumptions;

@@ -55,7 +55,8 @@ assumptions = record { non_originating = []; penetrator_non_originating = []; un
 -- A speaker, and a repeater who sends the same text.
 abbrev pub two_say_it : Skeleton
 two_say_it = record {
-  strands = instance speaker 1 unchanged ∷ instance repeater 2 unchanged ∷ [];
+  variables = repeater.variables;
+  strands = instance speaker 1 [] ∷ instance repeater 2 [] ∷ [];
   pairs = [];
   assumptions = assumptions;
   from_problem = record { strands = 0 ∷ 1 ∷ []; values = variable_terms 0 (said ∷ heard_declaration ∷ []); assumptions = assumptions; pairs = [] };

@@ -1,36 +1,38 @@
 -- What is asked under more and more patterns goes on meeting what the law of cohorts wants.
-use Rattle.std.proofs.Common.{List}
+use Rattle.std.proofs.Common.{List, [], ◌∷◌, ◌++◌, refl}
 use Rattle.cp_lists.specs.Lists.{IsIn}
 use Rattle.cp_model.specs.Strand.{Role, Protocol}
-use Rattle.cp_model.specs.Skeleton.{IsSkeleton}
+use Rattle.cp_model.specs.Skeleton.{Skeleton, IsSkeleton}
 use Rattle.cp_model.specs.PointOfView.{HasDeclaredVariables}
-use Rattle.cp_strand.specs.Declares.{DeclaresItsVariables}
+use Rattle.cp_model.specs.Declares.{DeclaresItsVariables}
 use Rattle.cp_theory.specs.Critical.{IsTest}
 use Rattle.cp_theory.specs.Guards.{Guards}
-use Rattle.cp_cohort.specs.CoveringChildren.{Child}
+use Rattle.cp_cohort.specs.declared.child.Child.{Child}
 use Rattle.cp_cohort.specs.Cohort.{GuardedTest, IsCohort}
 use Rattle.cp_cohort.proofs.SoundChildren.{sound_child}
 use Rattle.cp_escape.proofs.EscapeGuards.{first_is_in}
 use Rattle.cp_escape.proofs.Widened.{guards_still}
 use Rattle.cp_expansion.proofs.OnceMore.{declared_more}
+use Rattle.cp_expansion.proofs.Tables.{skeleton_in_table, declared_in_table, test_in_table, guards_in_table}
 use Rattle.cp_expansion.specs.Expansion.{IsWidening, asked_under, AreWidened, has_most, none_widens, one_widens}
 
 -- What the law of cohorts wants of a guarded test.
 pub record IsWellAsked (protocol : Protocol) (q : GuardedTest) : Type 0 where
   pub skeleton : IsSkeleton protocol q.skeleton
-  pub declared : HasDeclaredVariables q.variables q.skeleton
+  pub declared : HasDeclaredVariables q.skeleton.variables q.skeleton
   pub test : IsTest q.skeleton q.node q.critical
   pub guards : Guards q.patterns q.skeleton q.node q.critical
 
 module _ (protocol : Protocol) (declares : (role : Role) → IsIn role protocol.roles → DeclaresItsVariables role) where
   pub asked_on : (q : GuardedTest) (children : List Child) (c : Child) → IsWellAsked protocol q → IsCohort protocol q children → IsIn c children → (w : IsWidening q c) → IsWellAsked protocol (asked_under q c w.pattern)
   asked_on q children c well is i w =
+      let tabled : Skeleton = record q.skeleton { variables = c.skeleton.variables } in
       let s = sound_child protocol q children well.skeleton declares well.declared well.test well.guards is c i in
       record {
-        skeleton = well.skeleton;
-        declared = declared_more q.variables c.variables q.skeleton s.more well.declared;
-        test = well.test;
-        guards = guards_still q.skeleton c.skeleton q.node q.critical c.path w.pattern w.widens q.patterns well.guards;
+        skeleton = skeleton_in_table q.skeleton tabled refl protocol well.skeleton;
+        declared = declared_in_table q.skeleton tabled refl c.skeleton.variables (declared_more q.skeleton.variables c.skeleton.variables q.skeleton s.more well.declared);
+        test = test_in_table q.skeleton tabled refl q.node q.critical well.test;
+        guards = guards_in_table q.skeleton tabled refl (q.patterns ++ w.pattern ∷ []) q.node q.critical (guards_still q.skeleton c.skeleton q.node q.critical c.path w.pattern w.widens q.patterns well.guards);
       }
 
   -- So does the last test, and the children are its cohort.

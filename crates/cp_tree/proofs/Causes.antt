@@ -15,8 +15,9 @@ use Rattle.cp_model.specs.declared.tree.Mark.TheVariants.{Shape as shape, Dead a
 use Rattle.cp_model.specs.declared.tree.Limits.{Limits}
 use Rattle.cp_shapes.specs.Shapes.{IsLeast, IsInstanceWithin, IsShapeAt}
 use Rattle.cp_shapes.proofs.Instances.{same_item}
-use Rattle.cp_roots.specs.Roots.{Root}
+use Rattle.cp_roots.specs.declared.root.Root.{Root}
 use Rattle.cp_general.specs.Generalisation.{IsMaximallyGeneral, GeneralisesTo}
+use Rattle.cp_general.proofs.SoundGeneralisations.{is_fit}
 use Rattle.cp_tree.specs.Candidates.{IsCandidate, skeletons_of, IsLabelAt}
 use Rattle.cp_tree.specs.Made.{Made, made_of_root, made_of_generalisation, LabelLink, link_of, MayPointTo}
 use Rattle.cp_tree.specs.Searched.{mark_by_children, is_dead, is_seen, is_realised, is_generalised, above_bound, at_limit, is_tested, IsMarkedAmong, as_shape, as_instance, IsTreeFrom}
@@ -26,7 +27,7 @@ use Rattle.cp_tree.proofs.Picked.{item_of, skeleton_at_place, place_of_item, pla
 use Rattle.cp_tree.proofs.CandidatesEmbed.{as_labels, as_candidates, one_label}
 use Rattle.cp_tree.proofs.Settled.{made_from}
 use Rattle.cp_tree.proofs.MarksSay.{only_dead, shape_says, instance_says, seen_says, steps_says, strands_says, candidate_shape}
-use Rattle.cp_tree.proofs.SoundLabels.{made, SettledHere, settled_here, BecomesHere, becomes_here, of_made_here, skeleton_here}
+use Rattle.cp_tree.proofs.SoundLabels.{made, SettledHere, settled_here, BecomesHere, becomes_here, of_made_here, where_derivable}
 use Rattle.cp_tree.proofs.MadeChildren.{IsLabelOfMade, given_labels}
 use Rattle.cp_tree.proofs.ReachedLimits.{count_reached}
 
@@ -86,7 +87,7 @@ module _ (protocol : Protocol) (variables : List Declaration) (limits : Limits) 
   shape_cause i l at e =
       let s = settled i l at in
       let r = shape_says protocol limits links from.candidates i s.expanded_before s.so l s.gives (here_is i l s) e in
-      let same : s.so.skeleton ≡ l.skeleton = sym (skeleton_here protocol variables limits roots tree from i l s) in
+      let same : s.so.skeleton ≡ l.skeleton = sym (where_derivable protocol variables limits roots tree from i l s r.realised) in
       record {
         realised = subst AllDerivable same r.realised;
         most_general = subst IsMaximallyGeneral same r.most_general;
@@ -133,13 +134,13 @@ module _ (protocol : Protocol) (variables : List Declaration) (limits : Limits) 
   dead_from_start : (i : ℕ) (m : Made) → item_at (made protocol variables limits roots tree from) i ≡ Some m → m.dead ≡ true → IsDeadRoot roots i
   dead_from_start i m at d =
       ⊎_elim
-      (λ (front : item_at (map (made_of_root variables) roots) i ≡ Some m).
-      let r = item_of_map (made_of_root variables) roots i m front in
+      (λ (front : item_at (map made_of_root roots) i ≡ Some m).
+      let r = item_of_map made_of_root roots i m front in
       record { root = r.0; at = r.1; dead = ap (λ (x : Made). x.dead) r.2 ∙ d })
       (λ (listed : IsIn m from.children).
       let f = made_from protocol limits links (IsMarkedAmong from.candidates) 0 0 (made protocol variables limits roots tree from) tree.labels from.children from.settled m listed in
       absurd (let e : false ≡ true = sym f.is_made.made_lives ∙ d in cc))
-      (front_or_behind (map (made_of_root variables) roots) from.children i m at)
+      (front_or_behind (map made_of_root roots) from.children i m at)
 
   dead_by : (i before : ℕ) (m : Made) (l : Label) (gives : List Made) → Here i before m l gives → l.mark ≡ Some dead → (m.dead ≡ true → IsDeadRoot roots i) → (l.children ≡ []) × ((l.test ≡ None → ⊥) ⊎ IsDeadRoot roots i)
   dead_by i before m l gives (is_dead d) e root = (refl, inr (root d))
@@ -183,7 +184,7 @@ module _ (protocol : Protocol) (variables : List Declaration) (limits : Limits) 
     realised : AllDerivable m.skeleton
     number : ℕ
     one_child : l.children ≡ number ∷ []
-    listed : IsIn (made_of_generalisation i m.variables generalisation) gives
+    listed : IsIn (made_of_generalisation i generalisation) gives
 
   goes_on : (i before : ℕ) (m : Made) (l : Label) (gives : List Made) → Here i before m l gives → l.mark ≡ None → l.test ≡ None → GoesOnTo m l gives i
   goes_on i before m l gives (is_dead d) e t = absurd (cc)
@@ -199,13 +200,14 @@ module _ (protocol : Protocol) (variables : List Declaration) (limits : Limits) 
   goes_on i before m l gives (is_tested d n u r b c x s) e t = absurd (cc)
 
   -- What was made of it is its one child.
-  child_of : (i : ℕ) (l : Label) (s : Settled i l) (g : GoesOnTo s.so l s.gives i) → IsLabelOfMade protocol variables limits roots tree from l.children (made_of_generalisation i s.so.variables g.generalisation) → IsGeneralised tree.labels l
+  child_of : (i : ℕ) (l : Label) (s : Settled i l) (g : GoesOnTo s.so l s.gives i) → IsLabelOfMade protocol variables limits roots tree from l.children (made_of_generalisation i g.generalisation) → IsGeneralised tree.labels l
   child_of i l s g c =
       let number : c.number ≡ g.number = only_item (subst (λ (ns : List ℕ). IsIn c.number ns) g.one_child c.listed) in
       let so = c.made_label.same in
       let t = c.made_label.settled in
-      let skeleton : g.generalisation ≡ c.made_label.label.skeleton = sym (skeleton_here protocol variables limits roots tree from c.number c.made_label.label t ∙ ap (λ (x : Made). x.skeleton) so) in
-      let same : s.so.skeleton ≡ l.skeleton = sym (skeleton_here protocol variables limits roots tree from i l s) in
+      let derivable : AllDerivable t.so.skeleton = subst (λ (x : Made). AllDerivable x.skeleton) (sym so) (is_fit g.generalises).realised in
+      let skeleton : g.generalisation ≡ c.made_label.label.skeleton = sym (where_derivable protocol variables limits roots tree from c.number c.made_label.label t derivable ∙ ap (λ (x : Made). x.skeleton) so) in
+      let same : s.so.skeleton ≡ l.skeleton = sym (where_derivable protocol variables limits roots tree from i l s g.realised) in
       record {
         realised = subst AllDerivable same g.realised;
         number = g.number;
@@ -220,7 +222,7 @@ module _ (protocol : Protocol) (variables : List Declaration) (limits : Limits) 
   generalised_cause i l at e t =
       let s = settled i l at in
       let g = goes_on i s.expanded_before s.so l s.gives (here_is i l s) e t in
-      child_of i l s g (given_labels protocol variables limits roots tree from i l s (made_of_generalisation i s.so.variables g.generalisation) g.listed)
+      child_of i l s g (given_labels protocol variables limits roots tree from i l s (made_of_generalisation i g.generalisation) g.listed)
 
   -- ---- limits
 

@@ -14,9 +14,10 @@ use Rattle.cp_model.specs.Derivable as derivable
 use Rattle.cp_model.specs.Order.{ReachesAlong, on_strand, over_pair}
 use Rattle.cp_model.proofs.LawOrder.{before_leads}
 use Rattle.cp_skel.specs.Deletion.{LeavesOut, all_left, is_gone, is_left, as_it_is}
-use Rattle.cp_theory.specs.EncryptionExamples.{shared, locked, reception, sent_before}
+use Rattle.cp_theory.specs.EncryptionExamples.{shared, locked, reception}
 use Rattle.cp_theory.proofs.HeardEncryption.{no_instance, IsUnlocked}
 use Rattle.cp_roots.specs.Roots.{in_report_order}
+use Rattle.cp_cohort.specs.Example.{one_child}
 use Rattle.cp_general.specs.Fit.{IsFit}
 use Rattle.cp_general.specs.Steps.{Deletes, IsPairOfOrder, Weakens}
 use Rattle.cp_general.specs.Generalisation.{IsMaximallyGeneral}
@@ -40,7 +41,7 @@ module _ (k : Skeleton) (secret : IsIn (key_term shared) k.assumptions.non_origi
 -- ---- without a strand
 
 abbrev sent : Skeleton
-sent = in_report_order sent_before
+sent = in_report_order one_child.skeleton
 
 -- What is not gone is left.
 still_in : {gone : AtomTerm → Type 0} {v : AtomTerm} {xs ys : List AtomTerm} → (gone v → ⊥) → LeavesOut gone as_it_is xs ys → IsIn v xs → IsIn v ys

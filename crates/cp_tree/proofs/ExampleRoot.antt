@@ -12,7 +12,7 @@ use Rattle.cp_model.proofs.SingleMaps.{itself, states_itself, own_carries}
 use Rattle.cp_model.proofs.StatedItself.{keeps_its_own}
 use Rattle.cp_theory.specs.EncryptionExamples.{locker, protocol, heard}
 use Rattle.cp_theory.proofs.HeardEncryption.{no_instance, heard_skeleton}
-use Rattle.cp_roots.specs.Roots.{Root}
+use Rattle.cp_roots.specs.declared.root.Root.{Root}
 use Rattle.cp_roots.specs.Sound.{AreSound}
 use Rattle.cp_cohort.proofs.OneChild.{heard_declared}
 use Rattle.cp_tree.specs.Example.{heard_root}

@@ -17,11 +17,12 @@ use Rattle.cp_model.specs.declared.tree.Mark.TheVariants.{Shape as shape, LimitS
 use Rattle.cp_derive.specs.Unrealised.{IsUnrealisedAt, ListsUnrealised}
 use Rattle.cp_theory.specs.Above.{encryptions_above}
 use Rattle.cp_theory.proofs.AllAbove.{nothing_above}
-use Rattle.cp_theory.specs.EncryptionExamples.{locked, locker, protocol, heard, reception, sent_before}
+use Rattle.cp_theory.specs.EncryptionExamples.{locked, locker, protocol, heard, reception}
 use Rattle.cp_theory.proofs.HeardEncryption.{no_instance, unlocked}
 use Rattle.cp_shapes.specs.Shapes.{EmbedsAt, IsShapeAt}
+use Rattle.cp_roots.specs.declared.root.Root.{Root}
 use Rattle.cp_roots.specs.Roots.{in_report_order}
-use Rattle.cp_cohort.specs.CoveringChildren.{Child}
+use Rattle.cp_cohort.specs.declared.child.Child.{Child}
 use Rattle.cp_cohort.specs.GatheredLists.{nothing_given, none_left, left_out}
 use Rattle.cp_cohort.specs.Example.{asked, one_child}
 use Rattle.cp_cohort.proofs.OneChild.{is_cohort}
@@ -98,15 +99,15 @@ none_gives : (c : Child) → IsIn c (one_child ∷ []) → IsWidening asked c �
 none_gives c i w = child_gives_none (subst (IsWidening asked) (only_item i) w)
 
 abbrev expansion : Expansion
-expansion = record { test = heard_test; variables = locker.variables; patterns = []; children = one_child ∷ [] }
+expansion = record { test = heard_test; skeleton = heard; patterns = []; children = one_child ∷ [] }
 
-is_expansion : IsExpansionOf protocol locker.variables heard expansion
-is_expansion = record { test = test_of_heard; escape = []; is_escape = no_escape; widened = none_widens (omega arith) is_cohort none_gives }
+is_expansion : IsExpansionOf protocol heard expansion
+is_expansion = record { test = test_of_heard; escape = []; is_escape = no_escape; widened = none_widens (omega arith) is_cohort none_gives; table = refl }
 
 -- ---- the child is realised, and new
 
 abbrev sent : Skeleton
-sent = in_report_order sent_before
+sent = in_report_order one_child.skeleton
 
 derivable_at : (s i : ℕ) (t : Term) → term_event_at sent.strands (node_at s i) ≡ Some (recv t) → DerivableAt sent (node_at s i) t
 derivable_at zero zero t at =
@@ -163,7 +164,7 @@ only_candidate = record { within = omega arith; no_instance = λ n i. other_plac
 abbrev sent_made : Made
 sent_made = made_of_child 0 one_child
 
-expands : Becomes protocol one_step_limits links (IsMarkedAmong candidates) 0 0 (made_of_root locker.variables heard_root) heard_label (sent_made ∷ [])
+expands : Becomes protocol one_step_limits links (IsMarkedAmong candidates) 0 0 (made_of_root heard_root) heard_label (sent_made ∷ [])
 expands = is_tested {nodes = reception ∷ []} {e = expansion} {children = 1 ∷ []} refl first_is_new lists_reception heard_unrealised (omega arith) (omega arith) is_expansion refl
 
 stays : Becomes protocol one_step_limits links (IsMarkedAmong candidates) 1 1 sent_made sent_label []
@@ -191,6 +192,7 @@ not_marked mark a b m = by m.0 m.1 m.2
 
 pub is_tree : IsTreeFrom protocol locker.variables one_step_limits (heard_root ∷ []) heard_tree
 is_tree = record {
+  declared = λ root i. ap (λ (r : Root). r.skeleton.variables) (only_item i);
   children = sent_made ∷ [];
   candidates = candidates;
   are_candidates = inr (λ c. not_both heard heard_unrealised c.realised, inl (sent_is_candidate, ([], refl, refl)));

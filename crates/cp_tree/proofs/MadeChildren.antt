@@ -7,7 +7,7 @@ use Rattle.cp_model.specs.Strand.{Protocol}
 use Rattle.cp_model.specs.declared.variable.Declaration.{Declaration}
 use Rattle.cp_model.specs.Tree.{Label, Tree}
 use Rattle.cp_model.specs.declared.tree.Limits.{Limits}
-use Rattle.cp_roots.specs.Roots.{Root}
+use Rattle.cp_roots.specs.declared.root.Root.{Root}
 use Rattle.cp_tree.specs.Made.{Made, made_of_root, link_of, IsEdge, to_child}
 use Rattle.cp_tree.specs.Searched.{IsMarkedAmong, IsTreeFrom}
 use Rattle.cp_tree.proofs.Numbered.{number_of, number_there}
@@ -24,9 +24,9 @@ module _ (protocol : Protocol) (variables : List Declaration) (limits : Limits) 
   -- What a label gives stands at its number.
   given_at : (i q : ℕ) (l : Label) (x : Made) (s : Settled i l) → item_at s.gives q ≡ Some x → item_at MadeHere ((length roots + s.offset) + q) ≡ Some x
   given_at i q l x s at =
-      let count : length (map (made_of_root variables) roots) ≡ length roots = length-map roots (made_of_root variables) in
-      let place : (length roots + s.offset) + q ≡ length (map (made_of_root variables) roots) + (s.offset + q) = omega (arith, count) in
-      item_further (map (made_of_root variables) roots) from.children (s.offset + q) ((length roots + s.offset) + q) x place (s.behind q x at)
+      let count : length (map made_of_root roots) ≡ length roots = length-map roots made_of_root in
+      let place : (length roots + s.offset) + q ≡ length (map made_of_root roots) + (s.offset + q) = omega (arith, count) in
+      item_further (map made_of_root roots) from.children (s.offset + q) ((length roots + s.offset) + q) x place (s.behind q x at)
 
   -- The label that was made so is among the children.
   pub record IsLabelOfMade (numbers : List ℕ) (x : Made) : Type 0 where

@@ -1,6 +1,7 @@
 -- What the mark of a label says of what became of it.
 use Rattle.std.proofs.Common.{◌≡◌, ℕ, ◌<◌, ◌≤◌, List, [], ◌∷◌, length, false, Option, Some, None, refl, subst}
 use Rattle.cp_model.specs.Strand.{Protocol}
+use Rattle.cp_model.specs.declared.variable.Declaration.{Declaration}
 use Rattle.cp_model.specs.Skeleton.{Skeleton}
 use Rattle.cp_model.specs.Derivable.{IsUnrealised}
 use Rattle.cp_model.specs.Realisation.{AllDerivable}
@@ -10,6 +11,7 @@ use Rattle.cp_model.specs.declared.tree.Mark.TheVariants.{Shape as shape, Dead a
 use Rattle.cp_model.specs.declared.tree.Limits.{Limits}
 use Rattle.cp_general.specs.Generalisation.{IsMaximallyGeneral}
 use Rattle.cp_shapes.specs.Shapes.{IsLeast, IsInstanceWithin, IsShapeAt, IsInstanceOfShape}
+use Rattle.cp_expansion.proofs.Tables.{derivable_from_table}
 use Rattle.cp_tree.specs.Candidates.{Candidate, IsCandidate, AreCandidates, skeletons_of, IsLabelAt}
 use Rattle.cp_tree.specs.Made.{Made, LabelLink, MayPointTo}
 use Rattle.cp_tree.specs.Searched.{mark_by_children, Becomes, is_dead, is_seen, is_realised, is_generalised, above_bound, at_limit, is_tested, IsMarkedAmong, as_shape, as_instance}
@@ -22,6 +24,10 @@ only_dead (n ∷ ns) mark e = absurd (cc)
 
 pub not_both : (k : Skeleton) → IsUnrealised k → AllDerivable k → ⊥
 not_both k u all = u.underivable (all u.node u.message u.reception)
+
+-- Nor is one with another table realised.
+pub not_with_table : (k : Skeleton) (table : List Declaration) → IsUnrealised k → AllDerivable (record k { variables = table }) → ⊥
+not_with_table k table u all = not_both k u (derivable_from_table k (record k { variables = table }) refl all)
 
 module _ (protocol : Protocol) (limits : Limits) (links : List LabelLink) (cs : List Candidate) (i before : ℕ) (m : Made) where
   abbrev Here : Label → List Made → Type 0
@@ -137,4 +143,4 @@ module _ (protocol : Protocol) (limits : Limits) (links : List LabelLink) (cs : 
     candidate_shape q l gives (is_generalised {child = child} d n a w) c at is = absurd (let e : (child ∷ []) ≡ [] = c.own in cc)
     candidate_shape q l gives (above_bound d n u r b) c at is = absurd (not_both m.skeleton r c.realised)
     candidate_shape q l gives (at_limit d n u r b e) c at is = absurd (not_both m.skeleton r c.realised)
-    candidate_shape q l gives (is_tested d n u r b e x s) c at is = absurd (not_both m.skeleton r c.realised)
+    candidate_shape q l gives (is_tested {e = expansion} d n u r b e x s) c at is = absurd (not_with_table m.skeleton expansion.skeleton.variables r c.realised)

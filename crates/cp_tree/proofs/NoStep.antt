@@ -1,16 +1,16 @@
 -- Where no step may be made each label is that of a root, or was made by generalising from one of these.
 use Rattle.std.proofs.Common.{◌≡◌, ◌⊎◌, inl, inr, ℕ, ◌<◌, List, map, Option, Some, None, sym, ap, ◌∙◌, subst, ⊎_elim, arith}
 use Rattle.cp_lists.specs.Lists.{item_at}
-use Rattle.cp_lists.proofs.Items.{item_of_map, front_or_behind}
+use Rattle.cp_lists.proofs.Items.{at_place, item_of_map, front_or_behind}
 use Rattle.cp_model.specs.Strand.{Protocol}
 use Rattle.cp_model.specs.declared.variable.Declaration.{Declaration}
 use Rattle.cp_model.specs.Skeleton.{Skeleton}
 use Rattle.cp_model.specs.Tree.{Label, Tree}
 use Rattle.cp_model.specs.declared.tree.Mark.{Mark}
 use Rattle.cp_model.specs.declared.tree.Limits.{Limits}
-use Rattle.cp_roots.specs.Roots.{Root}
+use Rattle.cp_roots.specs.declared.root.Root.{Root}
 use Rattle.cp_general.specs.Generalisation.{IsMaximallyGeneral, GeneralisesTo}
-use Rattle.cp_general.proofs.SoundGeneralisations.{is_most_general}
+use Rattle.cp_general.proofs.SoundGeneralisations.{is_most_general, same_table}
 use Rattle.cp_tree.specs.Made.{Made, made_of_root, LabelLink, link_of}
 use Rattle.cp_tree.specs.Searched.{IsMarkedAmong, IsTreeFrom}
 use Rattle.cp_tree.specs.Placed.{IsGeneralisedRoot, IsOfRoot, AreRootsGeneralised}
@@ -51,7 +51,7 @@ module _ (protocol : Protocol) (variables : List Declaration) (limits : Limits) 
   record IsRootMade (i : ℕ) (x : Made) : Type 0 where
     root : Root
     at : item_at roots i ≡ Some root
-    is_made : made_of_root variables root ≡ x
+    is_made : made_of_root root ≡ x
 
   -- It is made by generalising from one of these.
   record IsMadeByGeneralising (x : Made) : Type 0 where
@@ -76,16 +76,16 @@ module _ (protocol : Protocol) (variables : List Declaration) (limits : Limits) 
   root_or_generalised : (i : ℕ) (x : Made) → item_at MadeHere i ≡ Some x → IsRootMade i x ⊎ IsMadeByGeneralising x
   root_or_generalised i x at =
       ⊎_elim
-      (λ (front : item_at (map (made_of_root variables) roots) i ≡ Some x). let r = item_of_map (made_of_root variables) roots i x front in inl (record { root = r.0; at = r.1; is_made = r.2 }))
+      (λ (front : item_at (map made_of_root roots) i ≡ Some x). let r = item_of_map made_of_root roots i x front in inl (record { root = r.0; at = r.1; is_made = r.2 }))
       (λ listed. inr (from_one x (made_from protocol limits links marks 0 0 MadeHere tree.labels from.children from.settled x listed)))
-      (front_or_behind (map (made_of_root variables) roots) from.children i x at)
+      (front_or_behind (map made_of_root roots) from.children i x at)
 
   generalised_root : (i : ℕ) (l : Label) (s : Settled i l) (f : IsMadeByGeneralising s.so) → IsRootMade f.place f.so ⊎ IsMadeByGeneralising f.so → IsGeneralisedRoot variables roots l
   generalised_root i l s f (inl r) =
       let is : IsOfMade protocol limits links marks s.expanded_before s.so l s.gives = of_made_here protocol variables limits roots tree from i l s in
       let g = f.generalised in
-      let so : made_of_root variables r.root ≡ f.so = r.is_made in
-      let skeleton : g.skeleton ≡ l.skeleton = ap (λ (m : Made). m.skeleton) g.is_made ∙ sym is.skeleton in
+      let so : made_of_root r.root ≡ f.so = r.is_made in
+      let skeleton : g.skeleton ≡ l.skeleton = ap (λ (m : Made). m.skeleton) g.is_made ∙ sym (unexpanded_here i l s).same in
       let root : f.so.skeleton ≡ r.root.skeleton = ap (λ (m : Made). m.skeleton) (sym so) in
       record {
         number = f.place;
@@ -93,7 +93,7 @@ module _ (protocol : Protocol) (variables : List Declaration) (limits : Limits) 
         at = r.at;
         parent = is.parent ∙ f.parent;
         operation = is.operation ∙ ap (λ (m : Made). m.operation) (sym g.is_made);
-        declared = (unexpanded_here i l s).variables ∙ (ap (λ (m : Made). m.variables) (sym g.is_made) ∙ ap (λ (m : Made). m.variables) (sym so));
+        declared = ap (λ (x : Skeleton). x.variables) (sym skeleton) ∙ same_table variables g.generalises (ap (λ (x : Skeleton). x.variables) root ∙ from.declared r.root (at_place roots f.place r.root r.at));
         generalises = subst (λ (x : Skeleton). GeneralisesTo r.root.skeleton x) skeleton (subst (λ (x : Skeleton). GeneralisesTo x g.skeleton) root g.generalises);
       }
   generalised_root i l s f (inr h) =
@@ -102,7 +102,7 @@ module _ (protocol : Protocol) (variables : List Declaration) (limits : Limits) 
       absurd (not_further (subst IsMaximallyGeneral same (is_most_general g.generalises)) f.generalised.generalises)
 
   each_label : (i : ℕ) (l : Label) (s : Settled i l) → IsRootMade i s.so ⊎ IsMadeByGeneralising s.so → IsOfRoot variables roots i l ⊎ IsGeneralisedRoot variables roots l
-  each_label i l s (inl r) = inl (record { root = r.root; at = r.at; label = label_of_root protocol variables limits roots tree from i r.root l s (sym r.is_made) })
+  each_label i l s (inl r) = inl (record { root = r.root; at = r.at; label = label_of_root protocol variables limits roots tree from i r.root l s (sym r.is_made) (at_place roots i r.root r.at) })
   each_label i l s (inr f) = inr (generalised_root i l s f (root_or_generalised f.place f.so f.at))
 
   pub roots_generalised : AreRootsGeneralised variables roots tree.labels

@@ -9,8 +9,9 @@ use Rattle.cp_model.specs.declared.variable.Declaration.{Declaration}
 use Rattle.cp_model.specs.Skeleton.{Skeleton, IsSkeleton}
 use Rattle.cp_model.specs.Bundle.{Bundle, IsBundle}
 use Rattle.cp_model.specs.Standing.{Standing, StandsIn, StandsApart}
-use Rattle.cp_model.specs.Homomorphism.{Embeds, Covers, IsCompleteList}
+use Rattle.cp_model.specs.Homomorphism.{Embeds, FactorsThrough, Covers, IsCompleteList}
 use Rattle.cp_model.specs.Problem.{numbers_from}
+use Rattle.cp_model.specs.Realisation.{AllDerivable}
 use Rattle.cp_model.specs.PointOfView.{HasDeclaredVariables}
 use Rattle.cp_model.specs.Tree.{Label, Tree}
 use Rattle.cp_model.specs.declared.tree.Mark.{Mark}
@@ -23,17 +24,21 @@ use Rattle.cp_theory.proofs.FactorsThroughMaps.{left_out_factors}
 use Rattle.cp_theory.proofs.NoneLeftOut.{empty_where_it_stands_nowhere}
 use Rattle.cp_shapes.specs.Shapes.{EmbedsAt}
 use Rattle.cp_shapes.proofs.Instances.{same_item}
-use Rattle.cp_roots.specs.Roots.{Root, in_report_order}
+use Rattle.cp_skel.specs.Tables.{DiffersInTable}
+use Rattle.cp_roots.specs.declared.root.Root.{Root}
+use Rattle.cp_roots.specs.Roots.{in_report_order}
 use Rattle.cp_roots.specs.Sound.{AreSound, StandsThroughRoot}
-use Rattle.cp_cohort.specs.CoveringChildren.{Child}
-use Rattle.cp_general.proofs.SoundGeneralisations.{embeds_back}
+use Rattle.cp_cohort.specs.declared.child.Child.{Child}
+use Rattle.cp_expansion.proofs.Tables.{skeleton_in_table, stands_in_table, stood_in_table, apart_in_table, apart_from_table, factors_in_table, passes_in_table}
+use Rattle.cp_general.specs.Generalisation.{GeneralisesTo}
+use Rattle.cp_general.proofs.SoundGeneralisations.{is_fit, embeds_back}
 use Rattle.cp_tree.specs.Made.{Made, made_of_root, made_of_child, made_of_generalisation, LabelLink, link_of}
 use Rattle.cp_tree.specs.Searched.{mark_by_children, is_dead, is_seen, is_realised, is_generalised, above_bound, at_limit, is_tested, IsMarkedAmong, as_shape, as_instance, IsTreeFrom}
 use Rattle.cp_tree.specs.Sound.{ExpandsSoundly}
 use Rattle.cp_tree.proofs.Numbered.{number_there}
 use Rattle.cp_tree.proofs.CandidatesEmbed.{as_labels}
 use Rattle.cp_tree.proofs.SoundOrGeneralised.{IsSoundLabel, label_skeleton, label_nowhere, where_unrealised}
-use Rattle.cp_tree.proofs.SoundLabels.{SettledHere, settled_here, BecomesHere, becomes_here, skeleton_here, made_label, label_sound}
+use Rattle.cp_tree.proofs.SoundLabels.{SettledHere, settled_here, BecomesHere, becomes_here, skeleton_here, where_derivable, made_label, label_sound}
 use Rattle.cp_tree.proofs.MadeChildren.{IsLabelOfMade, given_labels}
 use Rattle.cp_tree.specs.Edges.{edge_by, edges_from, edges}
 use Rattle.cp_tree.proofs.TreeEdges.{edges_have_no_cycle}
@@ -74,7 +79,7 @@ module _ (protocol : Protocol) (variables : List Declaration) (limits : Limits) 
   pub label_is_skeleton : (i : ℕ) (l : Label) → item_at tree.labels i ≡ Some l → IsSkeleton protocol l.skeleton
   label_is_skeleton i l at =
       let s = settled_here protocol variables limits roots tree from i l at in
-      subst (IsSkeleton protocol) (sym (skeleton_here protocol variables limits roots tree from i l s)) (label_skeleton protocol k s.so (sound_here i l at s))
+      skeleton_in_table s.so.skeleton l.skeleton (skeleton_here protocol variables limits roots tree from i l s) protocol (label_skeleton protocol k s.so (sound_here i l at s))
 
   -- ---- along one edge
 
@@ -87,6 +92,18 @@ module _ (protocol : Protocol) (variables : List Declaration) (limits : Limits) 
       let passes : PassesOn protocol k l.skeleton (m.0.skeleton ∷ []) = passes_on_to_embedding protocol k m.0.skeleton l.skeleton into.0 (label_is_skeleton n m.0 m.1) (label_is_skeleton i l at) into.1 in
       subst (λ (o : Option Label). PassesOn protocol k l.skeleton (with_label o [])) (sym m.1) passes
 
+  -- Through a label with more variables than a skeleton a standing factors as through that.
+  covers_in_table : (b : Bundle) (f : Standing) (ns : List ℕ) (n : ℕ) (l : Label) (x : Skeleton) (g : Standing) → IsIn n ns → item_at tree.labels n ≡ Some l → DiffersInTable x l.skeleton
+      → StandsIn x b g → StandsApart x g → FactorsThrough k f x g → Covers (skeletons_at tree.labels ns) k b f
+  covers_in_table b f ns n l x g listed at differs stands apart factors = record {
+    skeleton = l.skeleton;
+    listed = skeleton_among tree.labels ns n l listed at;
+    standing = g;
+    stands = stands_in_table x l.skeleton differs b g stands;
+    apart = apart_in_table x l.skeleton differs g apart;
+    factors = factors_in_table x l.skeleton differs k f g factors;
+  }
+
   -- What covers by children covers by their labels.
   covers_by_labels : (b : Bundle) (f : Standing) (i : ℕ) (cs : List Child) (ns : List ℕ) → ((c : Child) → IsIn c cs → IsLabelOfMade protocol variables limits roots tree from ns (made_of_child i c))
       → Covers (map (λ (c : Child). in_report_order c.skeleton) cs) k b f → Covers (skeletons_at tree.labels ns) k b f
@@ -94,28 +111,23 @@ module _ (protocol : Protocol) (variables : List Declaration) (limits : Limits) 
       let d = from_map (λ (x : Child). in_report_order x.skeleton) cs c.listed in
       let n = labelled d.0 d.1 in
       let so = n.made_label.same in
-      let same : n.made_label.label.skeleton ≡ c.skeleton = skeleton_here protocol variables limits roots tree from n.number n.made_label.label n.made_label.settled ∙ ap (λ (m : Made). m.skeleton) so ∙ d.2 in
-      record {
-        skeleton = c.skeleton;
-        listed = subst (λ (x : Skeleton). IsIn x (skeletons_at tree.labels ns)) same (skeleton_among tree.labels ns n.number n.made_label.label n.listed n.made_label.at);
-        standing = c.standing;
-        stands = c.stands;
-        apart = c.apart;
-        factors = c.factors;
-      }
+      let same : n.made_label.settled.so.skeleton ≡ c.skeleton = ap (λ (m : Made). m.skeleton) so ∙ d.2 in
+      covers_in_table b f ns n.number n.made_label.label c.skeleton c.standing n.listed n.made_label.at
+      (subst (λ (x : Skeleton). DiffersInTable x n.made_label.label.skeleton) same (skeleton_here protocol variables limits roots tree from n.number n.made_label.label n.made_label.settled)) c.stands c.apart c.factors
 
   -- What a label generalises to embeds in it, as a label.
-  generalised_embeds : (i : ℕ) (m : Made) (g : Skeleton) (child : ℕ) → item_at ks i ≡ Some m.skeleton → Embeds g m.skeleton → IsLabelOfMade protocol variables limits roots tree from (child ∷ []) (made_of_generalisation i m.variables g) → EmbedsAt ks child i
-  generalised_embeds i m g child at e n =
+  generalised_embeds : (i : ℕ) (m : Made) (g : Skeleton) (child : ℕ) → item_at ks i ≡ Some m.skeleton → GeneralisesTo m.skeleton g → IsLabelOfMade protocol variables limits roots tree from (child ∷ []) (made_of_generalisation i g) → EmbedsAt ks child i
+  generalised_embeds i m g child at w n =
       let number : n.number ≡ child = only_item n.listed in
       let so = n.made_label.same in
-      let same : n.made_label.label.skeleton ≡ g = skeleton_here protocol variables limits roots tree from n.number n.made_label.label n.made_label.settled ∙ ap (λ (x : Made). x.skeleton) so in
+      let derivable : AllDerivable n.made_label.settled.so.skeleton = subst (λ (x : Made). AllDerivable x.skeleton) (sym so) (is_fit w).realised in
+      let same : n.made_label.label.skeleton ≡ g = where_derivable protocol variables limits roots tree from n.number n.made_label.label n.made_label.settled derivable ∙ ap (λ (x : Made). x.skeleton) so in
       record {
         first = g;
         second = m.skeleton;
         at_first = ap (item_at ks) (sym number) ∙ (map_of_item (λ (x : Label). x.skeleton) tree.labels n.number n.made_label.label n.made_label.at ∙ ap Some same);
         at_second = at;
-        embeds = e;
+        embeds = embeds_back w;
       }
 
   -- ---- by what became of the label
@@ -127,19 +139,20 @@ module _ (protocol : Protocol) (variables : List Declaration) (limits : Limits) 
   by_mark_among i m mark (as_shape a s) to = inl at_shape
   by_mark_among i m mark (as_instance {p = p} {q = q} {n = n} a s c) to = inr (to n (as_labels tree.labels from.candidates from.are_candidates p q i n a c s.holds.1.embeds))
 
-  by_becoming : (i before : ℕ) (m : Made) (l : Label) (gives : List Made) → BecomesHere protocol variables limits roots tree from i before m l gives → IsSoundLabel protocol k m → item_at ks i ≡ Some m.skeleton
-      → ((n : ℕ) → EmbedsAt ks n i → PassesOn protocol k m.skeleton (skeletons_at tree.labels (n ∷ []))) → ((x : Made) → IsIn x gives → IsLabelOfMade protocol variables limits roots tree from l.children x) → LeftOrPasses l
+  by_becoming : (i before : ℕ) (m : Made) (l : Label) (gives : List Made) → BecomesHere protocol variables limits roots tree from i before m l gives → IsSoundLabel protocol k m → item_at ks i ≡ Some l.skeleton
+      → ((n : ℕ) → EmbedsAt ks n i → PassesOn protocol k l.skeleton (skeletons_at tree.labels (n ∷ []))) → ((x : Made) → IsIn x gives → IsLabelOfMade protocol variables limits roots tree from l.children x) → LeftOrPasses l
   by_becoming i before m l gives (is_dead d) s at to labelled = inr (λ b f h is stands apart factors. absurd (label_nowhere protocol k m s d b h is stands apart))
   by_becoming i before m l gives (is_seen {n = n} d u least) s at to labelled = inr (to n (subst (λ (xs : List Skeleton). EmbedsAt xs n i) skeletons_of_links least.holds.embeds))
   by_becoming i before m l gives (is_realised {mark = mark} d n a y marked) s at to labelled = by_mark_among i m mark marked to
   by_becoming i before m l gives (is_generalised {g = g} {child = child} d n a w) s at to labelled =
-      inr (to child (generalised_embeds i m g child at (embeds_back w) (labelled (made_of_generalisation i m.variables g) here)))
+      inr (to child (generalised_embeds i m g child at w (labelled (made_of_generalisation i g) here)))
   by_becoming i before m l gives (above_bound d n u r b) s at to labelled = inl at_strand_bound
   by_becoming i before m l gives (at_limit d n u r b e) s at to labelled = inl at_step_bound
   by_becoming i before m l gives (is_tested {e = e} {children = children} d n u r b c x w) s at to labelled =
       let passes : PassesOn protocol k m.skeleton (skeletons_at tree.labels children) =
       (λ b f h is stands apart factors. covers_by_labels b f i e.children children (λ c p. labelled (made_of_child i c) (into_made c p)) (left_out_factors protocol k m.skeleton (map (λ (c : Child). in_report_order c.skeleton) e.children) b f h (where_unrealised protocol k m s r).stated.in_range (expands m e (where_unrealised protocol k m s r) d r x).leaves_none_out is stands apart factors)) in
-      inr (subst (λ (ns : List ℕ). PassesOn protocol k m.skeleton (skeletons_at tree.labels ns)) (sym (edges_of_expanded children)) passes)
+      let tabled : Skeleton = record m.skeleton { variables = e.skeleton.variables } in
+      inr (subst (λ (ns : List ℕ). PassesOn protocol k tabled (skeletons_at tree.labels ns)) (sym (edges_of_expanded children)) (passes_in_table m.skeleton tabled refl protocol k (skeletons_at tree.labels children) passes))
     where
       into_made : (c : Child) → IsIn c e.children → IsIn (made_of_child i c) (map (made_of_child i) e.children)
       into_made c p = into_map (made_of_child i) p
@@ -147,10 +160,8 @@ module _ (protocol : Protocol) (variables : List Declaration) (limits : Limits) 
   passes_on : (i : ℕ) (l : Label) → item_at tree.labels i ≡ Some l → IsLeft l.mark ⊎ PassesOn protocol k l.skeleton (skeletons_at tree.labels (edges tree.labels i))
   passes_on i l at =
       let s = settled_here protocol variables limits roots tree from i l at in
-      let same : l.skeleton ≡ s.so.skeleton = skeleton_here protocol variables limits roots tree from i l s in
-      let to : (n : ℕ) → EmbedsAt ks n i → PassesOn protocol k s.so.skeleton (skeletons_at tree.labels (n ∷ [])) = (λ n e. subst (λ (x : Skeleton). PassesOn protocol k x (skeletons_at tree.labels (n ∷ []))) same (passes_to_embedded i n l at e)) in
-      let there_is : item_at ks i ≡ Some s.so.skeleton = map_of_item (λ (x : Label). x.skeleton) tree.labels i l at ∙ ap Some same in
-      let r : LeftOrPasses l = by_becoming i s.expanded_before s.so l s.gives (becomes_here protocol variables limits roots tree from i l s) (sound_here i l at s) there_is to (given_labels protocol variables limits roots tree from i l s) in
+      let r : LeftOrPasses l = by_becoming i s.expanded_before s.so l s.gives (becomes_here protocol variables limits roots tree from i l s) (sound_here i l at s) (map_of_item (λ (x : Label). x.skeleton) tree.labels i l at) (λ n e. passes_to_embedded i n l at e)
+      (given_labels protocol variables limits roots tree from i l s) in
       subst (λ (o : Option Label). IsLeft l.mark ⊎ PassesOn protocol k l.skeleton (skeletons_at tree.labels (edges_from o))) (sym at) r
 
   pub is_lawful : IsLawful protocol k tree.labels (edges tree.labels)
@@ -182,26 +193,20 @@ module _ (protocol : Protocol) (variables : List Declaration) (limits : Limits) 
   pub dead_nowhere : (i : ℕ) (l : Label) → item_at tree.labels i ≡ Some l → l.mark ≡ Some dead → (b : Bundle) (h : Standing) → IsBundle protocol b → StandsIn l.skeleton b h → StandsApart l.skeleton h → ⊥
   dead_nowhere i l at e =
       let s = settled_here protocol variables limits roots tree from i l at in
-      let same : l.skeleton ≡ s.so.skeleton = skeleton_here protocol variables limits roots tree from i l s in
-      subst (λ (x : Skeleton). (b : Bundle) (h : Standing) → IsBundle protocol b → StandsIn x b h → StandsApart x h → ⊥) (sym same)
-      (dead_by_becoming i s.expanded_before s.so l s.gives (becomes_here protocol variables limits roots tree from i l s) (sound_here i l at s) e)
+      let differs : DiffersInTable s.so.skeleton l.skeleton = skeleton_here protocol variables limits roots tree from i l s in
+      λ b h is stands apart.
+      dead_by_becoming i s.expanded_before s.so l s.gives (becomes_here protocol variables limits roots tree from i l s) (sound_here i l at s) e b h is
+      (stood_in_table s.so.skeleton l.skeleton differs b h stands) (apart_from_table s.so.skeleton l.skeleton differs h apart)
 
   -- ---- from the roots
 
   pub roots_cover : IsCompleteList protocol k (skeletons_at tree.labels (numbers_from 0 roots))
   roots_cover b h is stands =
       let t : StandsThroughRoot k roots b h = sound.covers b h is stands in
-      let front : item_at (map (made_of_root variables) roots) t.number ≡ Some (made_of_root variables t.root) = map_of_item (made_of_root variables) roots t.number t.root t.at in
-      let m = made_label protocol variables limits roots tree from t.number (made_of_root variables t.root) (item_still (map (made_of_root variables) roots) from.children t.number (made_of_root variables t.root) front) in
+      let front : item_at (map made_of_root roots) t.number ≡ Some (made_of_root t.root) = map_of_item made_of_root roots t.number t.root t.at in
+      let m = made_label protocol variables limits roots tree from t.number (made_of_root t.root) (item_still (map made_of_root roots) from.children t.number (made_of_root t.root) front) in
       let so = m.same in
-      let same : m.label.skeleton ≡ t.root.skeleton = skeleton_here protocol variables limits roots tree from t.number m.label m.settled ∙ ap (λ (x : Made). x.skeleton) so in
+      let differs : DiffersInTable t.root.skeleton m.label.skeleton = subst (λ (x : Made). DiffersInTable x.skeleton m.label.skeleton) so (skeleton_here protocol variables limits roots tree from t.number m.label m.settled) in
       let number : 0 + t.number ≡ t.number = omega arith in
       let listed : IsIn t.number (numbers_from 0 roots) = subst (λ (n : ℕ). IsIn n (numbers_from 0 roots)) number (number_there 0 t.number roots t.root t.at) in
-      record {
-        skeleton = t.root.skeleton;
-        listed = subst (λ (x : Skeleton). IsIn x (skeletons_at tree.labels (numbers_from 0 roots))) same (skeleton_among tree.labels (numbers_from 0 roots) t.number m.label listed m.at);
-        standing = t.standing;
-        stands = t.stands;
-        apart = t.apart;
-        factors = t.factors;
-      }
+      covers_in_table b h (numbers_from 0 roots) t.number m.label t.root.skeleton t.standing listed m.at differs t.stands t.apart t.factors

@@ -6,18 +6,20 @@ use Rattle.cp_lists.proofs.Items.{at_place, map_of_item, item_of_map, item_still
 use Rattle.cp_lists.proofs.SameLists.{same_parts}
 use Rattle.cp_model.specs.Strand.{Protocol}
 use Rattle.cp_model.specs.declared.variable.Declaration.{Declaration}
+use Rattle.cp_model.specs.Skeleton.{Skeleton}
 use Rattle.cp_model.specs.Problem.{numbers_from}
 use Rattle.cp_model.specs.Tree.{Label, Tree, is_expanded}
 use Rattle.cp_model.specs.declared.tree.Mark.{Mark}
 use Rattle.cp_model.specs.declared.tree.Limits.{Limits}
 use Rattle.cp_model.proofs.NumbersFrom.{numbers_length}
-use Rattle.cp_roots.specs.Roots.{Root}
+use Rattle.cp_skel.specs.Tables.{DiffersInTable}
+use Rattle.cp_roots.specs.declared.root.Root.{Root}
 use Rattle.cp_tree.specs.Made.{Made, made_of_root, LabelLink, link_of}
 use Rattle.cp_tree.specs.Searched.{AreResolved, all_settled, then_settled, IsMarkedAmong, children_of, IsTreeFrom}
 use Rattle.cp_tree.specs.Placed.{IsLabelOfRoot, RootsAreFirst}
 use Rattle.cp_tree.proofs.Numbered.{numbers_append, number_there}
-use Rattle.cp_tree.proofs.Settled.{IsOfMade, of_made, unexpanded, made_of}
-use Rattle.cp_tree.proofs.SoundLabels.{made, SettledHere, settled_here, of_made_here, parent_here, made_label}
+use Rattle.cp_tree.proofs.Settled.{IsOfMade, of_made, made_of}
+use Rattle.cp_tree.proofs.SoundLabels.{made, SettledHere, settled_here, of_made_here, same_here, parent_here, made_label}
 use Rattle.cp_tree.proofs.MadeChildren.{child_label}
 
 module _ (protocol : Protocol) (limits : Limits) (links : List LabelLink) (marks : ℕ → Option Mark → Type 0) where
@@ -60,41 +62,41 @@ module _ (protocol : Protocol) (variables : List Declaration) (limits : Limits) 
   abbrev links : List LabelLink
   links = map link_of tree.labels
 
-  pub label_of_root : (i : ℕ) (root : Root) (l : Label) (s : SettledHere protocol variables limits roots tree from i l) → s.so ≡ made_of_root variables root → IsLabelOfRoot variables root l
-  label_of_root i root l s same =
+  pub label_of_root : (i : ℕ) (root : Root) (l : Label) (s : SettledHere protocol variables limits roots tree from i l) → s.so ≡ made_of_root root → IsIn root roots → IsLabelOfRoot variables root l
+  label_of_root i root l s same listed =
       let is : IsOfMade protocol limits links (IsMarkedAmong from.candidates) s.expanded_before s.so l s.gives = of_made_here protocol variables limits roots tree from i l s in
       record {
         no_parent = is.parent ∙ ap (λ (m : Made). m.parent) same;
         operation = is.operation ∙ ap (λ (m : Made). m.operation) same;
-        skeleton = is.skeleton ∙ ap (λ (m : Made). m.skeleton) same;
-        declared = λ e. (unexpanded protocol limits links (IsMarkedAmong from.candidates) s.expanded_before s.so l s.gives is e).variables ∙ ap (λ (m : Made). m.variables) same;
+        skeleton = subst (λ (m : Made). DiffersInTable m.skeleton l.skeleton) same is.skeleton;
+        declared = λ e. ap (λ (k : Skeleton). k.variables) (same_here protocol variables limits roots tree from i l s e) ∙ ap (λ (m : Made). m.skeleton.variables) same ∙ from.declared root listed;
       }
 
   pub roots_are_first : RootsAreFirst variables roots tree.labels
   roots_are_first = record {
     there = λ i root at.
-        let front : item_at (map (made_of_root variables) roots) i ≡ Some (made_of_root variables root) = map_of_item (made_of_root variables) roots i root at in
-        let m = made_label protocol variables limits roots tree from i (made_of_root variables root) (item_still (map (made_of_root variables) roots) from.children i (made_of_root variables root) front) in
-        (m.label, m.at, label_of_root i root m.label m.settled m.same);
+        let front : item_at (map made_of_root roots) i ≡ Some (made_of_root root) = map_of_item made_of_root roots i root at in
+        let m = made_label protocol variables limits roots tree from i (made_of_root root) (item_still (map made_of_root roots) from.children i (made_of_root root) front) in
+        (m.label, m.at, label_of_root i root m.label m.settled m.same (at_place roots i root at));
   }
 
   -- What was made from a label is its child.
   listed_where_made : (i j : ℕ) (l : Label) (x : Made) → item_at tree.labels i ≡ Some l → item_at (made protocol variables limits roots tree from) j ≡ Some x → x.parent ≡ Some i → IsIn j l.children
   listed_where_made i j l x at made_at parent =
       ⊎_elim
-      (λ (front : item_at (map (made_of_root variables) roots) j ≡ Some x).
-      let r = item_of_map (made_of_root variables) roots j x front in
+      (λ (front : item_at (map made_of_root roots) j ≡ Some x).
+      let r = item_of_map made_of_root roots j x front in
       let none : x.parent ≡ None = ap (λ (m : Made). m.parent) (sym r.2) in
       absurd (let e : None ≡ Some i = sym none ∙ parent in cc))
-      (λ (r : (q : ℕ) × (j ≡ length (map (made_of_root variables) roots) + q) × (item_at from.children q ≡ Some x)).
+      (λ (r : (q : ℕ) × (j ≡ length (map made_of_root roots) + q) × (item_at from.children q ≡ Some x)).
       let h = has_child protocol limits links (IsMarkedAmong from.candidates) 0 0 (length roots) (made protocol variables limits roots tree from) tree.labels from.children from.settled from.numbers r.0 x r.2 in
       let both : Some h.number ≡ Some i = sym h.parent ∙ parent in
       let place : h.place ≡ i = (let a : h.number ≡ i = cc in let b = h.number_is in omega (arith, a, b)) in
       let labels_same : Some h.label ≡ Some l = sym h.at ∙ (ap (item_at tree.labels) place ∙ at) in
       let same : h.label ≡ l = cc in
-      let number : length roots + r.0 ≡ j = (let a = r.1 in let b : length (map (made_of_root variables) roots) ≡ length roots = length-map roots (made_of_root variables) in omega (arith, a, b)) in
+      let number : length roots + r.0 ≡ j = (let a = r.1 in let b : length (map made_of_root roots) ≡ length roots = length-map roots made_of_root in omega (arith, a, b)) in
       subst (λ (n : ℕ). IsIn n l.children) number (subst (λ (y : Label). IsIn (length roots + r.0) y.children) same h.listed))
-      (item_in_parts (map (made_of_root variables) roots) from.children j x made_at)
+      (item_in_parts (map made_of_root roots) from.children j x made_at)
 
   parent_where_listed : (i j : ℕ) (l m : Label) → item_at tree.labels i ≡ Some l → item_at tree.labels j ≡ Some m → IsIn j l.children → m.parent ≡ Some i
   parent_where_listed i j l m at au p =

@@ -9,7 +9,7 @@ use Rattle.cp_model.specs.Tree.{Label, Tree, is_expanded, expanded_count, IsOpen
 use Rattle.cp_model.specs.declared.tree.Mark.{Mark}
 use Rattle.cp_model.specs.declared.tree.Mark.TheVariants.{LimitSteps as limit_steps, LimitStrands as limit_strands}
 use Rattle.cp_model.specs.declared.tree.Limits.{Limits}
-use Rattle.cp_roots.specs.Roots.{Root}
+use Rattle.cp_roots.specs.declared.root.Root.{Root}
 use Rattle.cp_tree.specs.Made.{Made, link_of, LabelLink}
 use Rattle.cp_tree.specs.Searched.{Becomes, is_dead, is_seen, is_realised, is_generalised, above_bound, at_limit, is_tested, AreResolved, all_settled, then_settled, IsMarkedAmong, IsMarked, IsTreeFrom}
 use Rattle.cp_tree.proofs.MarksSay.{steps_says, strands_says}

@@ -15,7 +15,8 @@ use Rattle.cp_model.specs.declared.tree.Mark.{Mark}
 use Rattle.cp_model.specs.declared.tree.Mark.TheVariants.{Dead as dead, Seen as seen, LimitSteps as limit_steps, LimitStrands as limit_strands}
 use Rattle.cp_model.specs.declared.tree.Limits.{Limits}
 use Rattle.cp_model.proofs.NumbersFrom.{numbers_length}
-use Rattle.cp_cohort.specs.CoveringChildren.{Child}
+use Rattle.cp_skel.specs.Tables.{DiffersInTable}
+use Rattle.cp_cohort.specs.declared.child.Child.{Child}
 use Rattle.cp_expansion.specs.Expansion.{Expansion, IsExpansionOf}
 use Rattle.cp_general.specs.Generalisation.{GeneralisesTo}
 use Rattle.cp_tree.specs.Made.{Made, made_of_child, made_of_generalisation, LabelLink}
@@ -25,35 +26,35 @@ use Rattle.cp_tree.proofs.Numbered.{numbers_append}
 module _ (protocol : Protocol) (limits : Limits) (links : List LabelLink) (marks : ℕ → Option Mark → Type 0) where
   -- ---- what becomes of one
 
-  -- A label that is not expanded has the variables with which it was made, and no escape set.
+  -- A label that is not expanded has the skeleton with which it was made, and no escape set.
   pub record IsUnexpanded (m : Made) (l : Label) : Type 0 where
     pub test : l.test ≡ None
     pub escape : l.escape ≡ []
-    pub variables : l.variables ≡ m.variables
+    pub same : l.skeleton ≡ m.skeleton
 
   -- An expanded one has the test of its expansion.
   pub record IsExpanded (before : ℕ) (m : Made) (l : Label) : Type 0 where
     pub allowed : before < limits.steps
     pub expansion : Expansion
-    pub is_expansion : IsExpansionOf protocol m.variables m.skeleton expansion
+    pub is_expansion : IsExpansionOf protocol m.skeleton expansion
     pub test : l.test ≡ Some expansion.test
 
-  -- What a label has of what was made; and it has as many numbers of children as are made from it.
+  -- What a label has of what was made, its skeleton maybe with more variables; and it has as many numbers of children as are made from it.
   pub record IsOfMade (before : ℕ) (m : Made) (l : Label) (gives : List Made) : Type 0 where
     pub parent : l.parent ≡ m.parent
     pub operation : l.operation ≡ m.operation
-    pub skeleton : l.skeleton ≡ m.skeleton
+    pub skeleton : DiffersInTable m.skeleton l.skeleton
     pub count : length l.children ≡ length gives
     pub way : IsUnexpanded m l ⊎ IsExpanded before m l
 
   unexpanded_of_made : (before : ℕ) (m : Made) (nodes : List Node) (mark : Option Mark) (children : List ℕ) (gives : List Made) → length children ≡ length gives → IsOfMade before m (record (leaf m nodes mark) { children = children }) gives
-  unexpanded_of_made before m nodes mark children gives e = record { parent = refl; operation = refl; skeleton = refl; count = e; way = inl (record { test = refl; escape = refl; variables = refl }) }
+  unexpanded_of_made before m nodes mark children gives e = record { parent = refl; operation = refl; skeleton = refl; count = e; way = inl (record { test = refl; escape = refl; same = refl }) }
 
   pub of_made : (i before : ℕ) (m : Made) (l : Label) (gives : List Made) → Becomes protocol limits links marks i before m l gives → IsOfMade before m l gives
   of_made i before m l gives (is_dead d) = unexpanded_of_made before m [] (Some dead) [] [] refl
   of_made i before m l gives (is_seen {nodes = nodes} {n = n} d u s) = unexpanded_of_made before m nodes (Some (seen n)) [] [] refl
   of_made i before m l gives (is_realised {mark = mark} d n a y s) = unexpanded_of_made before m [] mark [] [] refl
-  of_made i before m l gives (is_generalised {g = g} {child = child} d n a w) = unexpanded_of_made before m [] None (child ∷ []) (made_of_generalisation i m.variables g ∷ []) refl
+  of_made i before m l gives (is_generalised {g = g} {child = child} d n a w) = unexpanded_of_made before m [] None (child ∷ []) (made_of_generalisation i g ∷ []) refl
   of_made i before m l gives (above_bound {nodes = nodes} d n u r b) = unexpanded_of_made before m nodes (Some limit_strands) [] [] refl
   of_made i before m l gives (at_limit {nodes = nodes} d n u r b e) = unexpanded_of_made before m nodes (Some limit_steps) [] [] refl
   of_made i before m l gives (is_tested {e = e} {children = children} d n u r b c x s) =
@@ -67,7 +68,7 @@ module _ (protocol : Protocol) (limits : Limits) (links : List LabelLink) (marks
     pub unrealised : IsUnrealised m.skeleton
     pub allowed : 0 < limits.steps
     pub expansion : Expansion
-    pub is_expansion : IsExpansionOf protocol m.variables m.skeleton expansion
+    pub is_expansion : IsExpansionOf protocol m.skeleton expansion
     pub child : Child
     pub listed : IsIn child expansion.children
     pub is_made : made_of_child i child ≡ x
@@ -76,7 +77,7 @@ module _ (protocol : Protocol) (limits : Limits) (links : List LabelLink) (marks
   pub record IsMadeOfGeneralisation (i : ℕ) (m x : Made) : Type 0 where
     pub skeleton : Skeleton
     pub generalises : GeneralisesTo m.skeleton skeleton
-    pub is_made : made_of_generalisation i m.variables skeleton ≡ x
+    pub is_made : made_of_generalisation i skeleton ≡ x
 
   -- Either way the label lives, and so does what is made from it.
   pub record IsMadeFrom (i : ℕ) (m x : Made) : Type 0 where

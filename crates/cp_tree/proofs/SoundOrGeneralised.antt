@@ -1,6 +1,7 @@
 -- What is sound, or was made by generalising from what is sound.
-use Rattle.std.proofs.Common.{◌≡◌, ◌⊎◌, inl, inr, ℕ, true, false, ap, ◌∙◌, subst}
+use Rattle.std.proofs.Common.{◌≡◌, ◌⊎◌, inl, inr, ℕ, List, true, false, refl, sym, ap, ◌∙◌, subst}
 use Rattle.cp_model.specs.Strand.{Protocol}
+use Rattle.cp_model.specs.declared.variable.Declaration.{Declaration}
 use Rattle.cp_model.specs.Bundle.{Bundle, IsBundle}
 use Rattle.cp_model.specs.Skeleton.{Skeleton, IsSkeleton}
 use Rattle.cp_model.specs.Standing.{Standing, StandsIn, StandsApart}
@@ -8,7 +9,7 @@ use Rattle.cp_model.specs.Derivable.{IsUnrealised}
 use Rattle.cp_model.specs.Realisation.{KeepsAssumptions, AllDerivable}
 use Rattle.cp_model.specs.PointOfView.{HasDeclaredVariables}
 use Rattle.cp_general.specs.Generalisation.{IsMaximallyGeneral, GeneralisesTo}
-use Rattle.cp_general.proofs.SoundGeneralisations.{is_fit, is_most_general, is_skeleton, keeps_assumptions, are_declared}
+use Rattle.cp_general.proofs.SoundGeneralisations.{is_fit, is_most_general, is_skeleton, keeps_assumptions, are_declared, same_table}
 use Rattle.cp_tree.specs.Made.{Made, made_of_generalisation}
 use Rattle.cp_tree.specs.Sound.{IsSoundMade, GeneralisesSoundly}
 use Rattle.cp_tree.proofs.GeneralisedOnce.{not_further}
@@ -23,7 +24,7 @@ module _ (protocol : Protocol) (k : Skeleton) where
     pub skeleton : Skeleton
     pub generalises : GeneralisesTo so.skeleton skeleton
     pub number : ℕ
-    pub is_made : made_of_generalisation number so.variables skeleton ≡ m
+    pub is_made : made_of_generalisation number skeleton ≡ m
 
   abbrev pub IsSoundLabel : Made → Type 0
   IsSoundLabel m = IsSoundMade protocol k m ⊎ IsGeneralisedFrom m
@@ -32,9 +33,12 @@ module _ (protocol : Protocol) (k : Skeleton) where
   label_skeleton m (inl s) = s.skeleton
   label_skeleton m (inr g) = subst (λ (x : Made). IsSkeleton protocol x.skeleton) g.is_made (is_skeleton protocol g.generalises g.sound.skeleton)
 
-  pub label_declared : (m : Made) → IsSoundLabel m → HasDeclaredVariables m.variables m.skeleton
+  pub label_declared : (m : Made) → IsSoundLabel m → HasDeclaredVariables m.skeleton.variables m.skeleton
   label_declared m (inl s) = s.declared
-  label_declared m (inr g) = subst (λ (x : Made). HasDeclaredVariables x.variables x.skeleton) g.is_made (are_declared g.so.variables g.generalises g.sound.declared)
+  label_declared m (inr g) =
+      let table : g.skeleton.variables ≡ g.so.skeleton.variables = same_table g.so.skeleton.variables g.generalises refl in
+      subst (λ (x : Made). HasDeclaredVariables x.skeleton.variables x.skeleton) g.is_made
+      (subst (λ (ds : List Declaration). HasDeclaredVariables ds g.skeleton) (sym table) (are_declared g.so.skeleton.variables g.generalises g.sound.declared))
 
   pub label_assumptions : (m : Made) → IsSoundLabel m → m.dead ≡ false → KeepsAssumptions m.skeleton
   label_assumptions m (inl s) d = s.assumptions d

@@ -15,8 +15,10 @@ use Rattle.cp_model.specs.declared.tree.Limits.{Limits}
 use Rattle.cp_theory.proofs.Realised.{realised}
 use Rattle.cp_shapes.specs.Shapes.{EmbedsAt}
 use Rattle.cp_shapes.proofs.Instances.{shapes_apart}
-use Rattle.cp_roots.specs.Roots.{Root}
+use Rattle.cp_skel.specs.Tables.{DiffersInTable}
+use Rattle.cp_roots.specs.declared.root.Root.{Root}
 use Rattle.cp_roots.specs.Sound.{AreSound}
+use Rattle.cp_expansion.proofs.Tables.{skeleton_in_table, carries_in_table, stated_in_table}
 use Rattle.cp_tree.specs.Candidates.{skeletons_of}
 use Rattle.cp_tree.specs.Made.{link_of}
 use Rattle.cp_tree.specs.Searched.{IsTreeFrom}
@@ -24,7 +26,7 @@ use Rattle.cp_tree.specs.Sound.{ExpandsSoundly, GeneralisesSoundly}
 use Rattle.cp_tree.proofs.CandidatesEmbed.{as_candidates, one_label}
 use Rattle.cp_tree.proofs.MarksSay.{IsMarkedShape, shape_says}
 use Rattle.cp_tree.proofs.SoundOrGeneralised.{IsSoundLabel, label_skeleton, label_assumptions, itself_sound}
-use Rattle.cp_tree.proofs.SoundLabels.{SettledHere, settled_here, becomes_here, skeleton_here, label_sound}
+use Rattle.cp_tree.proofs.SoundLabels.{SettledHere, settled_here, becomes_here, skeleton_here, where_derivable, label_sound}
 
 module _ (protocol : Protocol) (variables : List Declaration) (limits : Limits) (roots : List Root) (tree : Tree) (from : IsTreeFrom protocol variables limits roots tree) where
   abbrev Settled : ℕ → Label → Type 0
@@ -48,22 +50,22 @@ module _ (protocol : Protocol) (variables : List Declaration) (limits : Limits) 
     sound_here : (i : ℕ) (l : Label) → item_at tree.labels i ≡ Some l → (s : Settled i l) → IsSoundLabel protocol k s.so
     sound_here = label_sound protocol variables limits roots tree from k sound declared expands
 
-    moved : (P : Skeleton → Type 0) (i : ℕ) (l : Label) (s : Settled i l) → P s.so.skeleton → P l.skeleton
-    moved P i l s h = subst P (sym (skeleton_here protocol variables limits roots tree from i l s)) h
+    differs : (i : ℕ) (l : Label) (s : Settled i l) → DiffersInTable s.so.skeleton l.skeleton
+    differs = skeleton_here protocol variables limits roots tree from
 
     pub are_skeletons : (i : ℕ) (l : Label) → item_at tree.labels i ≡ Some l → IsSkeleton protocol l.skeleton
-    are_skeletons i l at = let s = settled i l at in moved (IsSkeleton protocol) i l s (label_skeleton protocol k s.so (sound_here i l at s))
+    are_skeletons i l at = let s = settled i l at in skeleton_in_table s.so.skeleton l.skeleton (differs i l s) protocol (label_skeleton protocol k s.so (sound_here i l at s))
 
     pub shapes_realised : (i : ℕ) (l : Label) → item_at tree.labels i ≡ Some l → l.mark ≡ Some shape → IsRealised protocol l.skeleton
     shapes_realised i l at e =
         let s = settled i l at in
         let t = is_shape i l s e in
         let h = sound_here i l at s in
-        moved (IsRealised protocol) i l s (realised protocol s.so.skeleton (label_skeleton protocol k s.so h) (label_assumptions protocol k s.so h t.lives) t.realised)
+        subst (IsRealised protocol) (sym (where_derivable protocol variables limits roots tree from i l s t.realised)) (realised protocol s.so.skeleton (label_skeleton protocol k s.so h) (label_assumptions protocol k s.so h t.lives) t.realised)
 
     module _ (generalises : GeneralisesSoundly protocol k) where
       pub labels_from_problem : (i : ℕ) (l : Label) → item_at tree.labels i ≡ Some l → CarriesHomomorphism k l.skeleton
-      labels_from_problem i l at = let s = settled i l at in moved (CarriesHomomorphism k) i l s (itself_sound protocol k generalises s.so (sound_here i l at s)).from_problem
+      labels_from_problem i l at = let s = settled i l at in carries_in_table s.so.skeleton l.skeleton (differs i l s) k (itself_sound protocol k generalises s.so (sound_here i l at s)).from_problem
 
       pub labels_keep_stated : (i : ℕ) (l : Label) → item_at tree.labels i ≡ Some l → KeepsStated k l.skeleton
-      labels_keep_stated i l at = let s = settled i l at in moved (KeepsStated k) i l s (itself_sound protocol k generalises s.so (sound_here i l at s)).stated
+      labels_keep_stated i l at = let s = settled i l at in stated_in_table s.so.skeleton l.skeleton (differs i l s) k (itself_sound protocol k generalises s.so (sound_here i l at s)).stated

@@ -14,7 +14,7 @@ use Rattle.cp_model.specs.declared.tree.Mark.TheVariants.{LimitSteps as limit_st
 use Rattle.cp_model.specs.declared.tree.Limits.{Limits}
 use Rattle.cp_theory.specs.Lawful.{IsWithinLimits}
 use Rattle.cp_theory.proofs.LabelDescents.{left_is_complete, shapes_are_complete}
-use Rattle.cp_roots.specs.Roots.{Root}
+use Rattle.cp_roots.specs.declared.root.Root.{Root}
 use Rattle.cp_roots.specs.Sound.{AreSound}
 use Rattle.cp_tree.specs.Searched.{IsMarked, HasOutcome, some_at_step_limit, some_at_strand_limit, none_at_limit, IsTreeFrom}
 use Rattle.cp_tree.specs.Sound.{ExpandsSoundly, GeneralisesSoundly}

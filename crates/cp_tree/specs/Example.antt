@@ -5,8 +5,9 @@ use Rattle.cp_model.specs.declared.tree.Operation.TheVariants.{Problem as by_pro
 use Rattle.cp_model.specs.declared.tree.Mark.TheVariants.{Shape as shape}
 use Rattle.cp_model.specs.declared.tree.Outcome.TheVariants.{Complete as complete}
 use Rattle.cp_model.specs.declared.tree.Limits.{Limits}
-use Rattle.cp_theory.specs.EncryptionExamples.{locked, locker, heard, reception, sent_before}
-use Rattle.cp_roots.specs.Roots.{Root, in_report_order}
+use Rattle.cp_theory.specs.EncryptionExamples.{locked, heard, reception}
+use Rattle.cp_roots.specs.declared.root.Root.{Root}
+use Rattle.cp_roots.specs.Roots.{in_report_order}
 use Rattle.cp_cohort.specs.Example.{one_child}
 
 -- The problem is its one root.
@@ -22,7 +23,6 @@ abbrev pub heard_label : Label
 heard_label = record {
   parent = None;
   operation = by_problem;
-  variables = locker.variables;
   skeleton = heard;
   unrealised = reception ∷ [];
   test = Some heard_test;
@@ -36,8 +36,7 @@ abbrev pub sent_label : Label
 sent_label = record {
   parent = Some 0;
   operation = by_added_strand 1;
-  variables = one_child.variables;
-  skeleton = in_report_order sent_before;
+  skeleton = in_report_order one_child.skeleton;
   unrealised = [];
   test = None;
   escape = [];

@@ -1,7 +1,6 @@
 -- Labels as they are made, and to which labels they may point.
 use Rattle.std.specs.Prelude.{◌≡◌, ◌<◌, ◌⊎◌, ℕ, List, map, take, Bool, false, Option, Some, None}
 use Rattle.cp_lists.specs.Lists.{item_at, Steps}
-use Rattle.cp_model.specs.declared.variable.Declaration.{Declaration}
 use Rattle.cp_model.specs.Skeleton.{Skeleton}
 use Rattle.cp_model.specs.Tree.{Label}
 use Rattle.cp_model.specs.declared.tree.Operation.{Operation}
@@ -9,29 +8,29 @@ use Rattle.cp_model.specs.declared.tree.Operation.TheVariants.{Generalised as by
 use Rattle.cp_model.specs.declared.tree.Mark.{Mark}
 use Rattle.cp_model.specs.declared.tree.Mark.TheVariants.{Seen as seen}
 use Rattle.cp_shapes.specs.Shapes.{EmbedsAt}
-use Rattle.cp_roots.specs.Roots.{Root, in_report_order}
-use Rattle.cp_cohort.specs.CoveringChildren.{Child}
+use Rattle.cp_roots.specs.declared.root.Root.{Root}
+use Rattle.cp_roots.specs.Roots.{in_report_order}
+use Rattle.cp_cohort.specs.declared.child.Child.{Child}
 
--- A label as it is made: from which label, by which operation, its variables, its skeleton, and whether it is dead from the
--- start: the problem itself, where it has no normal form.
+-- A label as it is made: from which label, by which operation, its skeleton, and whether it is dead from the start: the problem
+-- itself, where it has no normal form.
 pub record Made : Type 0 where
   pub parent : Option ℕ
   pub operation : Operation
-  pub variables : List Declaration
   pub skeleton : Skeleton
   pub dead : Bool
 
--- A root of a problem of these variables.
-abbrev pub made_of_root : List Declaration → Root → Made
-made_of_root variables r = record { parent = None; operation = r.operation; variables = variables; skeleton = r.skeleton; dead = r.dead }
+-- A root of a problem.
+abbrev pub made_of_root : Root → Made
+made_of_root r = record { parent = None; operation = r.operation; skeleton = r.skeleton; dead = r.dead }
 
 -- A child of the test of label i; its assumptions stand in the order of a report.
 abbrev pub made_of_child : ℕ → Child → Made
-made_of_child i c = record { parent = Some i; operation = c.operation; variables = c.variables; skeleton = in_report_order c.skeleton; dead = false }
+made_of_child i c = record { parent = Some i; operation = c.operation; skeleton = in_report_order c.skeleton; dead = false }
 
--- What label i, of these variables, generalises to.
-abbrev pub made_of_generalisation : ℕ → List Declaration → Skeleton → Made
-made_of_generalisation i variables g = record { parent = Some i; operation = by_generalising; variables = variables; skeleton = g; dead = false }
+-- What label i generalises to.
+abbrev pub made_of_generalisation : ℕ → Skeleton → Made
+made_of_generalisation i g = record { parent = Some i; operation = by_generalising; skeleton = g; dead = false }
 
 -- What a label is for others that may point to it: from which it was made, in which it is seen, and its skeleton.
 pub record LabelLink : Type 0 where

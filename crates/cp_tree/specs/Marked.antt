@@ -6,7 +6,7 @@ use Rattle.cp_model.specs.Tree.{Label}
 use Rattle.cp_model.specs.declared.tree.Operation.TheVariants.{Generalised as by_generalising}
 use Rattle.cp_model.specs.declared.tree.Mark.TheVariants.{Seen as seen}
 use Rattle.cp_shapes.specs.Shapes.{IsLeast, IsInstanceWithin}
-use Rattle.cp_roots.specs.Roots.{Root}
+use Rattle.cp_roots.specs.declared.root.Root.{Root}
 use Rattle.cp_general.specs.Generalisation.{IsMaximallyGeneral, GeneralisesTo}
 use Rattle.cp_tree.specs.Candidates.{IsCandidate}
 use Rattle.cp_tree.specs.Made.{link_of, MayPointTo}

@@ -4,15 +4,17 @@ use Rattle.cp_lists.specs.Lists.{item_at}
 use Rattle.cp_model.specs.declared.variable.Declaration.{Declaration}
 use Rattle.cp_model.specs.Tree.{Label}
 use Rattle.cp_model.specs.declared.tree.Operation.TheVariants.{Generalised as by_generalising}
-use Rattle.cp_roots.specs.Roots.{Root}
+use Rattle.cp_skel.specs.Tables.{DiffersInTable}
+use Rattle.cp_roots.specs.declared.root.Root.{Root}
 use Rattle.cp_general.specs.Generalisation.{GeneralisesTo}
 
--- The label is that of the root of a problem of these variables: it was made from no other, as the root was.
+-- The label is that of the root of a problem of these variables: it was made from no other, as the root was, and has its skeleton,
+-- with more variables where it was expanded.
 pub record IsLabelOfRoot (variables : List Declaration) (root : Root) (l : Label) : Type 0 where
   pub no_parent : l.parent ≡ None
   pub operation : l.operation ≡ root.operation
-  pub skeleton : l.skeleton ≡ root.skeleton
-  pub declared : l.test ≡ None → l.variables ≡ variables
+  pub skeleton : DiffersInTable root.skeleton l.skeleton
+  pub declared : l.test ≡ None → l.skeleton.variables ≡ variables
 
 -- The labels of the roots are the first, in the order of the roots.
 pub record RootsAreFirst (variables : List Declaration) (roots : List Root) (labels : List Label) : Type 0 where
@@ -25,7 +27,7 @@ pub record IsGeneralisedRoot (variables : List Declaration) (roots : List Root) 
   pub at : item_at roots number ≡ Some root
   pub parent : l.parent ≡ Some number
   pub operation : l.operation ≡ by_generalising
-  pub declared : l.variables ≡ variables
+  pub declared : l.skeleton.variables ≡ variables
   pub generalises : GeneralisesTo root.skeleton l.skeleton
 
 -- Label i is that of root number i.

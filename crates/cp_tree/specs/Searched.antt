@@ -16,7 +16,8 @@ use Rattle.cp_model.specs.declared.tree.Outcome.TheVariants.{Complete as complet
 use Rattle.cp_model.specs.declared.tree.Limits.{Limits}
 use Rattle.cp_derive.specs.Unrealised.{ListsUnrealised}
 use Rattle.cp_shapes.specs.Shapes.{IsLeast, IsShapeAt, IsInstanceOfShape}
-use Rattle.cp_roots.specs.Roots.{Root, AreRoots}
+use Rattle.cp_roots.specs.declared.root.Root.{Root}
+use Rattle.cp_roots.specs.Roots.{AreRoots}
 use Rattle.cp_expansion.specs.Expansion.{Expansion, IsExpansionOf}
 use Rattle.cp_general.specs.Generalisation.{IsMaximallyGeneral, GeneralisesTo}
 use Rattle.cp_tree.specs.Candidates.{Candidate, AreCandidates, skeletons_of, IsLabelAt}
@@ -24,16 +25,17 @@ use Rattle.cp_tree.specs.Made.{Made, made_of_root, made_of_child, made_of_genera
 
 -- The label that was made so and is a leaf, with its unrealised receptions and its mark.
 abbrev pub leaf : Made → List Node → Option Mark → Label
-leaf m nodes mark = record { parent = m.parent; operation = m.operation; variables = m.variables; skeleton = m.skeleton; unrealised = nodes; test = None; escape = []; children = []; mark = mark }
+leaf m nodes mark = record { parent = m.parent; operation = m.operation; skeleton = m.skeleton; unrealised = nodes; test = None; escape = []; children = []; mark = mark }
 
 -- An expanded label is dead where it has no children.
 abbrev pub mark_by_children : List ℕ → Option Mark
 mark_by_children [] = Some dead
 mark_by_children (n ∷ ns) = None
 
--- The label that was made so and is expanded, with its unrealised receptions, its expansion, and the numbers of its children.
+-- The label that was made so and is expanded, with its unrealised receptions, its expansion, and the numbers of its children. Its
+-- skeleton declares the locals of the patterns too.
 abbrev pub expanded : Made → List Node → Expansion → List ℕ → Label
-expanded m nodes e children = record { parent = m.parent; operation = m.operation; variables = e.variables; skeleton = m.skeleton; unrealised = nodes; test = Some e.test; escape = e.patterns; children = children; mark = mark_by_children children }
+expanded m nodes e children = record { parent = m.parent; operation = m.operation; skeleton = record m.skeleton { variables = e.skeleton.variables }; unrealised = nodes; test = Some e.test; escape = e.patterns; children = children; mark = mark_by_children children }
 
 -- The label that was made so and generalises to another, whose label has this number.
 abbrev pub generalised : Made → ℕ → Label
@@ -50,13 +52,13 @@ pub data Becomes (protocol : Protocol) (limits : Limits) (links : List LabelLink
   is_seen : {nodes : List Node} {n : ℕ} → m.dead ≡ false → ListsUnrealised m.skeleton nodes → IsLeast (MayPointTo links i) n → Becomes protocol limits links marks i before m (leaf m nodes (Some (seen n))) []
   is_realised : {mark : Option Mark} → m.dead ≡ false → IsNew links i → AllDerivable m.skeleton → IsMaximallyGeneral m.skeleton → marks i mark → Becomes protocol limits links marks i before m (leaf m [] mark) []
   is_generalised : {g : Skeleton} {child : ℕ} → m.dead ≡ false → IsNew links i → AllDerivable m.skeleton → GeneralisesTo m.skeleton g
-      → Becomes protocol limits links marks i before m (generalised m child) (made_of_generalisation i m.variables g ∷ [])
+      → Becomes protocol limits links marks i before m (generalised m child) (made_of_generalisation i g ∷ [])
   above_bound : {nodes : List Node} → m.dead ≡ false → IsNew links i → ListsUnrealised m.skeleton nodes → IsUnrealised m.skeleton → limits.strands < length m.skeleton.strands
       → Becomes protocol limits links marks i before m (leaf m nodes (Some limit_strands)) []
   at_limit : {nodes : List Node} → m.dead ≡ false → IsNew links i → ListsUnrealised m.skeleton nodes → IsUnrealised m.skeleton → length m.skeleton.strands ≤ limits.strands → before ≡ limits.steps
       → Becomes protocol limits links marks i before m (leaf m nodes (Some limit_steps)) []
   is_tested : {nodes : List Node} {e : Expansion} {children : List ℕ} → m.dead ≡ false → IsNew links i → ListsUnrealised m.skeleton nodes → IsUnrealised m.skeleton → length m.skeleton.strands ≤ limits.strands → before < limits.steps
-      → IsExpansionOf protocol m.variables m.skeleton e → length children ≡ length e.children → Becomes protocol limits links marks i before m (expanded m nodes e children) (map (made_of_child i) e.children)
+      → IsExpansionOf protocol m.skeleton e → length children ≡ length e.children → Becomes protocol limits links marks i before m (expanded m nodes e children) (map (made_of_child i) e.children)
 
 -- What becomes of labels that were made so, the first of them number i, when `before` of the labels in front of it had been
 -- expanded; and which labels are made from them, in their order.
@@ -89,10 +91,11 @@ pub data HasOutcome (labels : List Label) : Outcome → Type 0 where
 -- stand the children of the labels, of a smaller label before those of a greater one, and of an expanded label in the order of its
 -- test's children; each comes behind the label from which it was made. The labels are resolved in ascending order.
 pub record IsTreeFrom (protocol : Protocol) (variables : List Declaration) (limits : Limits) (roots : List Root) (tree : Tree) : Type 0 where
+  pub declared : (root : Root) → IsIn root roots → root.skeleton.variables ≡ variables
   pub children : List Made
   pub candidates : List Candidate
   pub are_candidates : AreCandidates tree.labels candidates
-  pub settled : AreResolved protocol limits (map link_of tree.labels) (IsMarkedAmong candidates) 0 0 (map (made_of_root variables) roots ++ children) tree.labels children
+  pub settled : AreResolved protocol limits (map link_of tree.labels) (IsMarkedAmong candidates) 0 0 (map made_of_root roots ++ children) tree.labels children
   pub numbers : children_of tree.labels ≡ numbers_from (length roots) children
   pub parents_first : (i j : ℕ) (l : Label) → item_at tree.labels j ≡ Some l → l.parent ≡ Some i → i < j
   pub outcome : HasOutcome tree.labels tree.outcome

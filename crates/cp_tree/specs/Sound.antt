@@ -12,7 +12,7 @@ use Rattle.cp_model.specs.PointOfView.{HasDeclaredVariables}
 use Rattle.cp_model.specs.Stated.{KeepsStated}
 use Rattle.cp_theory.specs.NoneLeftOut.{IsComplete}
 use Rattle.cp_roots.specs.Roots.{in_report_order}
-use Rattle.cp_cohort.specs.CoveringChildren.{Child}
+use Rattle.cp_cohort.specs.declared.child.Child.{Child}
 use Rattle.cp_expansion.specs.Expansion.{Expansion, IsExpansionOf}
 use Rattle.cp_general.specs.Generalisation.{GeneralisesTo}
 use Rattle.cp_tree.specs.Made.{Made, made_of_child, made_of_generalisation}
@@ -23,7 +23,7 @@ pub record IsSoundMade (protocol : Protocol) (k : Skeleton) (m : Made) : Type 0 
   pub skeleton : IsSkeleton protocol m.skeleton
   pub from_problem : CarriesHomomorphism k m.skeleton
   pub stated : KeepsStated k m.skeleton
-  pub declared : HasDeclaredVariables m.variables m.skeleton
+  pub declared : HasDeclaredVariables m.skeleton.variables m.skeleton
   pub assumptions : m.dead ≡ false → KeepsAssumptions m.skeleton
   pub nowhere : m.dead ≡ true → (b : Bundle) (g : Standing) → IsBundle protocol b → StandsIn m.skeleton b g → StandsApart m.skeleton g → ⊥
 
@@ -34,11 +34,11 @@ pub record IsSoundExpansion (protocol : Protocol) (k : Skeleton) (m : Made) (e :
 
 -- Each expansion of what is sound, lives and is unrealised is sound.
 abbrev pub ExpandsSoundly : Protocol → Skeleton → Type 0
-ExpandsSoundly protocol k = (m : Made) (e : Expansion) → IsSoundMade protocol k m → m.dead ≡ false → IsUnrealised m.skeleton → IsExpansionOf protocol m.variables m.skeleton e → IsSoundExpansion protocol k m e
+ExpandsSoundly protocol k = (m : Made) (e : Expansion) → IsSoundMade protocol k m → m.dead ≡ false → IsUnrealised m.skeleton → IsExpansionOf protocol m.skeleton e → IsSoundExpansion protocol k m e
 
 -- What a label generalises to is sound, and embeds in the label.
 pub record IsSoundGeneralisation (protocol : Protocol) (k : Skeleton) (m : Made) (g : Skeleton) : Type 0 where
-  pub made : (i : ℕ) → IsSoundMade protocol k (made_of_generalisation i m.variables g)
+  pub made : (i : ℕ) → IsSoundMade protocol k (made_of_generalisation i g)
   pub embeds : Embeds g m.skeleton
 
 -- Each generalisation of what is sound and lives is sound.

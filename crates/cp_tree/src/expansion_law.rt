@@ -5,7 +5,7 @@ ghost use Rattle.cp_model.specs.Strand.{Role, Protocol};
 ghost use Rattle.cp_model.specs.declared.variable.Declaration.{Declaration};
 ghost use Rattle.cp_model.specs.Skeleton.{Skeleton};
 ghost use Rattle.cp_model.specs.PointOfView.{IsPointOfView};
-ghost use Rattle.cp_strand.specs.Declares.{DeclaresItsVariables};
+ghost use Rattle.cp_model.specs.Declares.{DeclaresItsVariables};
 ghost use Rattle.cp_tree.specs.Sound.{ExpandsSoundly};
 
 /// Each expansion of a label of a problem is sound, if the label is sound, not dead and unrealised: the label made of each child

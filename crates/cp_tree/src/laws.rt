@@ -10,9 +10,9 @@ ghost use Rattle.cp_model.specs.PointOfView.{HasDeclaredVariables, IsPointOfView
 ghost use Rattle.cp_model.specs.Tree.{Label, Tree, expanded_count, IsTrueOf};
 ghost use Rattle.cp_model.specs.declared.tree.Mark.TheVariants.{Dead as dead, LimitSteps as limit_steps};
 ghost use Rattle.cp_model.specs.declared.tree.Limits.{Limits};
-ghost use Rattle.cp_strand.specs.Declares.{DeclaresItsVariables};
+ghost use Rattle.cp_model.specs.Declares.{DeclaresItsVariables};
 ghost use Rattle.cp_theory.specs.Lawful.{IsEdgeOf, IsLawful};
-ghost use Rattle.cp_roots.specs.Roots.{Root};
+ghost use Rattle.cp_roots.specs.declared.root.Root.{Root};
 ghost use Rattle.cp_roots.specs.Sound.{AreSound};
 ghost use Rattle.cp_tree.specs.Searched.{IsTreeFrom};
 ghost use Rattle.cp_tree.specs.Edges.{edges};

@@ -5,7 +5,7 @@ ghost use Rattle.cp_model.specs.declared.variable.Declaration.{Declaration};
 ghost use Rattle.cp_model.specs.Tree.{Tree, ReachedSteps, ReachedStrands};
 ghost use Rattle.cp_model.specs.declared.tree.Outcome.TheVariants.{LimitSteps as at_step_limit, LimitStrands as at_strand_limit};
 ghost use Rattle.cp_model.specs.declared.tree.Limits.{Limits};
-ghost use Rattle.cp_roots.specs.Roots.{Root};
+ghost use Rattle.cp_roots.specs.declared.root.Root.{Root};
 ghost use Rattle.cp_tree.specs.Searched.{IsTreeFrom};
 
 /// The outcome of a tree is the step limit exactly if that was reached, and the strand limit exactly if that was.

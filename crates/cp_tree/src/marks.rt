@@ -9,7 +9,7 @@ ghost use Rattle.cp_model.specs.Tree.{Label, Tree, expanded_count};
 ghost use Rattle.cp_model.specs.declared.tree.Mark.TheVariants.{Shape as shape, Dead as dead, Seen as seen, InstanceOf as instance_of, LimitSteps as limit_steps, LimitStrands as limit_strands};
 ghost use Rattle.cp_model.specs.declared.tree.Limits.{Limits};
 ghost use Rattle.cp_shapes.specs.Shapes.{IsLeast};
-ghost use Rattle.cp_roots.specs.Roots.{Root};
+ghost use Rattle.cp_roots.specs.declared.root.Root.{Root};
 ghost use Rattle.cp_tree.specs.Made.{link_of, MayPointTo};
 ghost use Rattle.cp_tree.specs.Searched.{IsTreeFrom};
 ghost use Rattle.cp_tree.specs.Edges.{IsLeafLabel};

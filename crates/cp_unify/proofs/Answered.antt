@@ -2,8 +2,8 @@
 use Rattle.std.proofs.Common.{◌≡◌, ◌<◌, ◌≤◌, ◌+◌, ℕ, List, [], ◌∷◌, ◌++◌, Option, Some, None, MatchOption, IfSome, IfNone, length, get_or, drop, sym, ap, ◌∙◌, subst}
 use Rattle.std.proofs.lemmas.List.{drop_all}
 use Rattle.cp_lists.specs.Lists.{here, there}
-use Rattle.cp_model.specs.Term.{Term, atom_term, atom_of_variable, variable_term, variables_of_atom, variables_of, value_of}
-use Rattle.cp_unify.specs.Bindings.{Binding, variable_of, variables_of_bindings}
+use Rattle.cp_model.specs.Term.{Term, variable_term, variables_of, value_of}
+use Rattle.cp_unify.specs.Bindings.{Binding, variables_of_bindings}
 use Rattle.cp_unify.specs.Solved.{IsSolved, SolvesBeside, AreSolvedBut}
 use Rattle.cp_unify.specs.Unifiers.{AreVariablesAmong, IsMostGeneralUnifier, HasNoUnifier}
 use Rattle.cp_lists.proofs.Members.{not_in_none, in_append_left, in_append_right, drop_read}
@@ -33,34 +33,34 @@ solved_but_all s = record {
 }
 
 next_within : (s rest r : List Binding) (b : Binding) → AreSolvedBut s (b ∷ rest) r →
-    AreVariablesAmong (variables_of (variable_term (variable_of b)) ++ (variables_of (atom_term b.term) ++ variables_of_bindings r)) (variables_of_bindings s)
+    AreVariablesAmong (variables_of (variable_term b.variable) ++ (variables_of b.term ++ variables_of_bindings r)) (variables_of_bindings s)
 next_within s rest r b h =
-    let own : AreVariablesAmong (variables_of_atom (atom_of_variable (variable_of b))) (variables_of_bindings s) =
-    one_variable (variable_of b).sort b.number (variables_of_bindings s) (h.rest_within (variable_of b) here) in
+    let own : AreVariablesAmong (variables_of (variable_term b.variable)) (variables_of_bindings s) =
+    one_variable b.variable.sort b.variable.number (variables_of_bindings s) (h.rest_within b.variable here) in
     among_append _ _ _ own (among_append _ _ _ (λ x i. h.rest_within x (there (in_append_left (variables_of_bindings rest) i))) h.within)
 
 solved_but_fewer : (s rest r next : List Binding) (b : Binding) → AreSolvedBut s (b ∷ rest) r →
-    SolvesBeside (variable_term (variable_of b)) (atom_term b.term) r next → AreSolvedBut s rest next
+    SolvesBeside (variable_term b.variable) b.term r next → AreSolvedBut s rest next
 solved_but_fewer s rest r next b h k = record {
   solved = k.solved;
   sound = λ g m n. let p = k.sound g m in h.sound g p.0 (p.1, n);
   general = λ g m. let p = h.general g m in (k.general g p.0 p.1.0, p.1.1);
   within = λ x i. next_within s rest r b h x (k.no_new x i);
-  rest_within = λ x i. h.rest_within x (there (in_append_right (variables_of_atom b.term) i));
+  rest_within = λ x i. h.rest_within x (there (in_append_right (variables_of b.term) i));
 }
 
 none_solved : (s rest r : List Binding) (b : Binding) → AreSolvedBut s (b ∷ rest) r →
-    HasNoUnifier (variable_term (variable_of b)) (atom_term b.term) r → (a c : Term) → HasNoUnifier a c s
+    HasNoUnifier (variable_term b.variable) b.term r → (a c : Term) → HasNoUnifier a c s
 none_solved s rest r b h k a c g m e = let p = h.general g m in k g p.0 p.1.0
 
 -- As the loop has them.
 pub next_solved : (s r next : List Binding) (i : ℕ) (b : Binding) (left right : Term) → AreSolvedBut s (drop i s) r → i < length s → b ≡ get_or s i b →
-    left ≡ variable_term (variable_of b) → right ≡ atom_term b.term → SolvesBeside left right r next → AreSolvedBut s (drop (i + 1) s) next
+    left ≡ variable_term b.variable → right ≡ b.term → SolvesBeside left right r next → AreSolvedBut s (drop (i + 1) s) next
 next_solved s r next i b left right h below read el er k =
     solved_but_fewer s (drop (i + 1) s) r next b (subst (λ (t : List Binding). AreSolvedBut s t r) (drop_read s i b below read) h) (rw (← el, ← er) k)
 
 pub no_next : (s r : List Binding) (i : ℕ) (b : Binding) (left right : Term) → AreSolvedBut s (drop i s) r → i < length s → b ≡ get_or s i b →
-    left ≡ variable_term (variable_of b) → right ≡ atom_term b.term → HasNoUnifier left right r → (a c : Term) → HasNoUnifier a c s
+    left ≡ variable_term b.variable → right ≡ b.term → HasNoUnifier left right r → (a c : Term) → HasNoUnifier a c s
 no_next s r i b left right h below read el er k =
     none_solved s (drop (i + 1) s) r b (subst (λ (t : List Binding). AreSolvedBut s t r) (drop_read s i b below read) h)
     (λ g m e. k g m (ap (value_of g) el ∙ e ∙ sym (ap (value_of g) er)))
@@ -98,14 +98,14 @@ pub all_found : (s given r : List Binding) (i : ℕ) → s ≡ given → AreSolv
 all_found s given r i e h end = subst (λ (t : List Binding). AreSolvedBut t [] r) e (all_solved s r i h end)
 
 pub none_early : (s given r : List Binding) (i : ℕ) (x : Binding) (left right : Term) → s ≡ given → AreSolvedBut s (drop i s) r → i < length s → x ≡ get_or s i x →
-    left ≡ variable_term (variable_of x) → right ≡ atom_term x.term → (answer : Option (List Binding)) → answer ≡ None →
+    left ≡ variable_term x.variable → right ≡ x.term → (answer : Option (List Binding)) → answer ≡ None →
     MatchOption answer (HasNoUnifier left right r) (λ q. SolvesBeside left right r q) → (a b : Term) → HasNoUnifier a b given
 none_early s given r i x left right e h below read el er answer is_none k a b =
     let k' : HasNoUnifier left right r = rw is_none at k in
     subst (λ (t : List Binding). HasNoUnifier a b t) e (no_next s r i x left right h below read el er k' a b)
 
 pub next_early : (s r : List Binding) (i : ℕ) (x : Binding) (left right : Term) → AreSolvedBut s (drop i s) r → i < length s → x ≡ get_or s i x →
-    left ≡ variable_term (variable_of x) → right ≡ atom_term x.term → (answer : Option (List Binding)) (next : List Binding) → answer ≡ Some next →
+    left ≡ variable_term x.variable → right ≡ x.term → (answer : Option (List Binding)) (next : List Binding) → answer ≡ Some next →
     MatchOption answer (HasNoUnifier left right r) (λ q. SolvesBeside left right r q) → AreSolvedBut s (drop (i + 1) s) next
 next_early s r i x left right h below read el er answer next is_some k =
     let k' : SolvesBeside left right r next = rw is_some at k in

@@ -31,8 +31,8 @@ pub no_places : ArePlaces [] []
 no_places n = refl
 
 begin_more : (old : List ℕ) (b : Binding) (bs : List Binding) (n : ℕ) → BeginAt n (get_or old n 0) bs →
-    ((n == b.number) ≡ true) × (n ≡ b.number) ⊎ ((n == b.number) ≡ false) × (n ≢ b.number) →
-    BeginAt n (if n == b.number then suc (length bs) else get_or old n 0) (b ∷ bs)
+    ((n == b.variable.number) ≡ true) × (n ≡ b.variable.number) ⊎ ((n == b.variable.number) ≡ false) × (n ≢ b.variable.number) →
+    BeginAt n (if n == b.variable.number then suc (length bs) else get_or old n 0) (b ∷ bs)
 begin_more old b bs n h (inl p) = told (sym p.0) (inl refl)
   where
     told : {t : Bool} → true ≡ t → BeginAt n (suc (length bs)) (b ∷ bs) → BeginAt n (if t then suc (length bs) else get_or old n 0) (b ∷ bs)
@@ -44,17 +44,17 @@ begin_more old b bs n h (inr p) = told (sym p.0) (inr (λ e. p.1 (sym e), h))
 
 -- The table where one more binding stands in front.
 pub places_more : (old new : List ℕ) (b : Binding) (bs all : List Binding) (number count : ℕ) → ArePlaces old bs →
-    ((n : ℕ) → get_or new n 0 ≡ (if n == number then count else get_or old n 0)) → all ≡ b ∷ bs → number ≡ b.number → count ≡ length all → ArePlaces new all
+    ((n : ℕ) → get_or new n 0 ≡ (if n == number then count else get_or old n 0)) → all ≡ b ∷ bs → number ≡ b.variable.number → count ≡ length all → ArePlaces new all
 places_more old new b bs all number count h put e is counted n =
-    let told : get_or new n 0 ≡ (if n == b.number then suc (length bs) else get_or old n 0) =
+    let told : get_or new n 0 ≡ (if n == b.variable.number then suc (length bs) else get_or old n 0) =
     put n ∙ ap (λ (m : ℕ). if n == m then count else get_or old n 0) is
-    ∙ ap (λ (m : ℕ). if n == b.number then m else get_or old n 0) (counted ∙ ap length e) in
+    ∙ ap (λ (m : ℕ). if n == b.variable.number then m else get_or old n 0) (counted ∙ ap length e) in
     subst (λ (cs : List Binding). BeginAt n (get_or new n 0) cs) (sym e)
-    (subst (λ (m : ℕ). BeginAt n m (b ∷ bs)) (sym told) (begin_more old b bs n (h n) (eqb_tells n b.number)))
+    (subst (λ (m : ℕ). BeginAt n m (b ∷ bs)) (sym told) (begin_more old b bs n (h n) (eqb_tells n b.variable.number)))
 
 -- One step from the end to the start.
 pub places_before : (bs : List Binding) (old new : List ℕ) (start i : ℕ) (b : Binding) (number count : ℕ) → ArePlaces old (drop start bs) → start ≡ i + 1 →
-    i < length bs → b ≡ get_or bs i b → number ≡ b.number → count ≡ length bs - i →
+    i < length bs → b ≡ get_or bs i b → number ≡ b.variable.number → count ≡ length bs - i →
     ((n : ℕ) → get_or new n 0 ≡ (if n == number then count else get_or old n 0)) → ArePlaces new (drop i bs)
 places_before bs old new start i b number count h at below read is counted put =
     places_more old new b (drop (i + 1) bs) (drop i bs) number count (subst (λ (s : ℕ). ArePlaces old (drop s bs)) at h) put

@@ -15,22 +15,24 @@ use Rattle.std.proofs.lemmas.Bool.Decides.{Decides-and}
 use Rattle.cp_model.proofs.LawTerms.{flag_last}
 use Rattle.cp_model.specs.Same.{same_bool}
 use Rattle.cp_term.proofs.SameTerms.{bytes_Decides, flag_Decides, purpose_Decides}
-use Rattle.cp_unify.specs.Bindings.{Binding, sort_of, variable_of, MeetsBinding}
-use Rattle.cp_unify.specs.Unifiers.{IsBefore, AreVariablesAmong}
-use Rattle.cp_unify.specs.Differences.{first_difference, between, between_names, difference_of_symmetric, akey_atom, difference_of_pairs, difference_of_keys, difference_of_atoms, difference_of}
+use Rattle.cp_term.specs.Sorts.{is_atom_of_sort}
+use Rattle.cp_unify.specs.Bindings.{Binding, HasItsSort, MeetsBinding}
+use Rattle.cp_unify.specs.Unifiers.{IsBeforeAtom, IsBefore, AreVariablesAmong}
+use Rattle.cp_unify.specs.Differences.{first_difference, binds, between, between_names, difference_of_symmetric, akey_atom, difference_of_pairs, difference_of_keys, difference_of_atoms, difference_of}
 use Rattle.cp_unify.specs.declared.difference.Difference.{Difference}
 use Rattle.cp_unify.specs.declared.difference.Difference.TheVariants.{Same, Clash, Bind}
 use Rattle.cp_lists.proofs.Members.{in_cases, only_item, in_append_left, in_append_right}
 use Rattle.cp_unify.proofs.Members.{among_both}
 
--- Whatever meets an equation meets the binding, which is of one of the variables xs to a term of others of them, and
--- of a later to an earlier one.
+-- Whatever meets an equation meets the binding, which is of one of the variables xs to a term of its sort and of others
+-- of them, and of a later to an earlier one.
 pub record Narrows (equal : Assignment → Type 0) (xs : List Variable) (b : Binding) : Type 0 where
   pub every : (g : Assignment) → equal g → MeetsBinding g b
-  pub absent : IsIn (variable_of b) (variables_of_atom b.term) → ⊥
-  pub left : IsIn (variable_of b) xs
-  pub right : AreVariablesAmong (variables_of_atom b.term) xs
-  pub before : IsBefore b.term b.number
+  pub sorted : HasItsSort b
+  pub absent : IsIn b.variable (variables_of b.term) → ⊥
+  pub left : IsIn b.variable xs
+  pub right : AreVariablesAmong (variables_of b.term) xs
+  pub before : IsBefore b.term b.variable.number
 
 -- A difference between two things over the variables xs, which are the same, or equal under some assignments.
 abbrev pub Finding : Type 0 → (Assignment → Type 0) → List Variable → Difference → Type 0
@@ -42,6 +44,7 @@ narrows_within : (equal wider : Assignment → Type 0) (xs ys : List Variable) (
     ((g : Assignment) → wider g → equal g) → AreVariablesAmong xs ys → Narrows equal xs b → Narrows wider ys b
 narrows_within equal wider xs ys b e m h = record {
   every = λ g w. h.every g (e g w);
+  sorted = h.sorted;
   absent = h.absent;
   left = m _ h.left;
   right = λ x i. m x (h.right x i);
@@ -63,40 +66,45 @@ finding_first one two both eq1 eq2 eq xs ys zs (Bind b) d s e1 e2 m1 m2 h k = na
 
 -- A binding to a term of one variable, which is earlier.
 narrows_variable : (equal : Assignment → Type 0) (xs : List Variable) (b : Binding) (y : Variable) → ((g : Assignment) → equal g → MeetsBinding g b) →
-    variables_of_atom b.term ≡ y ∷ [] → y.number < b.number → IsIn (variable_of b) xs → IsIn y xs → IsBefore b.term b.number → Narrows equal xs b
-narrows_variable equal xs b y every variables less left right before = record {
+    HasItsSort b → variables_of b.term ≡ y ∷ [] → y.number < b.variable.number → IsIn b.variable xs → IsIn y xs → IsBefore b.term b.variable.number → Narrows equal xs b
+narrows_variable equal xs b y every sorted variables less left right before = record {
   every = every;
-  absent = λ h. let h' : IsIn (variable_of b) (y ∷ []) = subst (IsIn (variable_of b)) variables h in
-      let e : b.number ≡ y.number = ap (λ (x : Variable). x.number) (only_item h') in absurd (omega arith);
+  sorted = sorted;
+  absent = λ h. let h' : IsIn b.variable (y ∷ []) = subst (IsIn b.variable) variables h in
+      let e : b.variable.number ≡ y.number = ap (λ (x : Variable). x.number) (only_item h') in absurd (omega arith);
   left = left;
   right = λ x h. let h' : IsIn x (y ∷ []) = subst (IsIn x) variables h in subst (λ (z : Variable). IsIn z xs) (sym (only_item h')) right;
   before = before;
 }
 
+-- The binding of the variable of this sort and number.
+abbrev of_sort : Sort → ℕ → Term → Binding
+of_sort k n t = record { variable = record { sort = k; number = n }; term = t }
+
 -- Two variables, of which the later is bound.
-between_found : (same : Type 0) (equal : Assignment → Type 0) (xs : List Variable) (m n : ℕ) (u v : AtomTerm) → (m ≡ n → same) →
-    (m < n → Narrows equal xs (record { number = n; term = u })) → (n < m → Narrows equal xs (record { number = m; term = v })) →
-    Finding same equal xs (between m u n v)
-between_found same equal xs m n u v s below above =
+between_found : (same : Type 0) (equal : Assignment → Type 0) (xs : List Variable) (k : Sort) (m n : ℕ) (u v : Term) → (m ≡ n → same) →
+    (m < n → Narrows equal xs (of_sort k n u)) → (n < m → Narrows equal xs (of_sort k m v)) →
+    Finding same equal xs (between k m u n v)
+between_found same equal xs k m n u v s below above =
     choose (m == n) (nat_lt m n) (eqb-true m n) (ltb-true m n) (λ ne nl. let less : n ≤ m = ltb-false m n nl in let other : m ≢ n = eqb-false m n ne in omega arith)
   where
     choose : (b c : Bool) → (b ≡ true → m ≡ n) → (c ≡ true → m < n) → (b ≡ false → c ≡ false → n < m) →
-        Finding same equal xs (if b then Same else (if c then Bind (record { number = n; term = u }) else Bind (record { number = m; term = v })))
+        Finding same equal xs (if b then Same else (if c then binds k n u else binds k m v))
     choose true c p q r = s (p refl)
     choose false true p q r = below (q refl)
     choose false false p q r = above (r refl refl)
 
 -- Two variables of one sort, where u makes the term to which the later is bound.
 kind_found : (same : Type 0) (equal : Assignment → Type 0) (s : Sort) (u : ℕ → AtomTerm) →
-    ((n : ℕ) → variables_of_atom (u n) ≡ record { sort = s; number = n } ∷ []) → ((n : ℕ) → sort_of (u n) ≡ s) →
-    ((m n : ℕ) → m < n → IsBefore (u m) n) → (m n : ℕ) → (m ≡ n → same) →
-    ((g : Assignment) → equal g → MeetsBinding g (record { number = n; term = u m })) →
-    ((g : Assignment) → equal g → MeetsBinding g (record { number = m; term = u n })) →
-    Finding same equal (record { sort = s; number = m } ∷ record { sort = s; number = n } ∷ []) (between m (u m) n (u n))
+    ((n : ℕ) → variables_of_atom (u n) ≡ record { sort = s; number = n } ∷ []) → ((n : ℕ) → is_atom_of_sort s (u n) ≡ true) →
+    ((m n : ℕ) → m < n → IsBeforeAtom (u m) n) → (m n : ℕ) → (m ≡ n → same) →
+    ((g : Assignment) → equal g → MeetsBinding g (of_sort s n (atom_term (u m)))) →
+    ((g : Assignment) → equal g → MeetsBinding g (of_sort s m (atom_term (u n)))) →
+    Finding same equal (record { sort = s; number = m } ∷ record { sort = s; number = n } ∷ []) (between s m (atom_term (u m)) n (atom_term (u n)))
 kind_found same equal s u variables sort before m n is_same below above =
-    between_found same equal _ m n (u m) (u n) is_same
-    (λ h. narrows_variable equal _ _ _ below (variables m) h (rw (sort m) (there here)) here (before m n h))
-    (λ h. narrows_variable equal _ _ _ above (variables n) h (rw (sort n) here) (there here) (before n m h))
+    between_found same equal _ s m n (atom_term (u m)) (atom_term (u n)) is_same
+    (λ h. narrows_variable equal _ _ _ below (sort m) (variables m) h (there here) here (before m n h))
+    (λ h. narrows_variable equal _ _ _ above (sort n) (variables n) h here (there here) (before n m h))
 
 -- The variables of two atoms.
 abbrev both_variables : AtomTerm → AtomTerm → List Variable
@@ -105,10 +113,10 @@ both_variables u v = variables_of_atom u ++ variables_of_atom v
 abbrev AtomFinding : AtomTerm → AtomTerm → Difference → Type 0
 AtomFinding u v d = Finding (u ≡ v) (λ g. value_of_atom g u ≡ value_of_atom g v) (both_variables u v) d
 
-texts_found : (m n : ℕ) → AtomFinding (text_variable m) (text_variable n) (between m (text_variable m) n (text_variable n))
+texts_found : (m n : ℕ) → AtomFinding (text_variable m) (text_variable n) (between text_sort m (atom_term (text_variable m)) n (atom_term (text_variable n)))
 texts_found m n = kind_found _ _ text_sort text_variable (λ _. refl) (λ _. refl) (λ _ _ h. h) m n (λ e. ap text_variable e) (λ g e. ap atom (sym e)) (λ g e. ap atom e)
 
-datums_found : (m n : ℕ) → AtomFinding (datum_variable m) (datum_variable n) (between m (datum_variable m) n (datum_variable n))
+datums_found : (m n : ℕ) → AtomFinding (datum_variable m) (datum_variable n) (between datum_sort m (atom_term (datum_variable m)) n (atom_term (datum_variable n)))
 datums_found m n = kind_found _ _ datum_sort datum_variable (λ _. refl) (λ _. refl) (λ _ _ h. h) m n (λ e. ap datum_variable e) (λ g e. ap atom (sym e)) (λ g e. ap atom e)
 
 names_found : (m n : ℕ) → AtomFinding (name_variable m) (name_variable n) (between_names m n)
@@ -153,6 +161,7 @@ symmetric_found : (k j : SymmetricTerm) → AtomFinding (symmetric_atom k) (symm
 symmetric_found (skey_variable m) (skey_variable n) = skeys_found m n
 symmetric_found (skey_variable m) (ltk_term a b) = record {
   every = λ g e. ap atom e;
+  sorted = refl;
   absent = λ h. skey_not_in_names h;
   left = here;
   right = λ x h. there h;
@@ -160,6 +169,7 @@ symmetric_found (skey_variable m) (ltk_term a b) = record {
 }
 symmetric_found (ltk_term a b) (skey_variable n) = record {
   every = λ g e. ap atom (sym e);
+  sorted = refl;
   absent = λ h. skey_not_in_names h;
   left = there (there here);
   right = λ x h. in_append_left _ h;
@@ -208,7 +218,7 @@ akeys_meet f h s sum x y e =
     ap₂ (λ (b : Bool) (k : KeyPair). key (asymmetric b k)) (swap f h x.0 y.0 e0 ∙ ap (λ (b : Bool). flag_of b y.0) sum) e1
 
 akeys_between : (f h s : Bool) → flag_of f h ≡ s → (m n : ℕ) → (m ≡ n → akey_atom f m ≡ akey_atom h n) →
-    AtomFinding (akey_atom f m) (akey_atom h n) (between m (akey_atom s m) n (akey_atom s n))
+    AtomFinding (akey_atom f m) (akey_atom h n) (between akey_sort m (atom_term (akey_atom s m)) n (atom_term (akey_atom s n)))
 akeys_between f h s sum m n is_same =
     kind_found _ _ akey_sort (akey_atom s) (λ _. refl) (λ _. refl) (λ _ _ h. h) m n is_same
     (λ g e. ap atom (akeys_meet h f s (sum_comm h f ∙ sum) (g.akeys n) (g.akeys m) (sym e)))
@@ -219,14 +229,14 @@ own_inverse f h sum x e = let e' : key (asymmetric x.0 x.1) ≡ key (asymmetric 
     let e0 : x.0 ≡ not x.0 = cc in not_own x.0 e0
 
 akeys_other : (f h : Bool) → flag_of f h ≡ true → (m n : ℕ) → (b : Bool) → (b ≡ true → m ≡ n) → (b ≡ false → m ≢ n) →
-    AtomFinding (akey_atom f m) (akey_atom h n) (if b then Clash else between m (akey_atom true m) n (akey_atom true n))
+    AtomFinding (akey_atom f m) (akey_atom h n) (if b then Clash else between akey_sort m (atom_term (akey_atom true m)) n (atom_term (akey_atom true n)))
 akeys_other f h sum m n true same apart =
     λ g e. own_inverse f h sum (g.akeys n) (subst (λ (k : ℕ). key (asymmetric (flag_of f (g.akeys k).0) (g.akeys k).1) ≡ key (asymmetric (flag_of h (g.akeys n).0) (g.akeys n).1)) (same refl) e)
 akeys_other f h sum m n false same apart = akeys_between f h true sum m n (λ e. absurd (apart refl e))
 
 akeys_choice : (f h : Bool) (m n : ℕ) (b : Bool) → same_bool f h ≡ b →
-    AtomFinding (akey_atom f m) (akey_atom h n) (if b then between m (akey_atom false m) n (akey_atom false n)
-    else (if m == n then Clash else between m (akey_atom true m) n (akey_atom true n)))
+    AtomFinding (akey_atom f m) (akey_atom h n) (if b then between akey_sort m (atom_term (akey_atom false m)) n (atom_term (akey_atom false n))
+    else (if m == n then Clash else between akey_sort m (atom_term (akey_atom true m)) n (atom_term (akey_atom true n))))
 akeys_choice f h m n true same =
     akeys_between f h false (sum_same f h same) m n (λ e. ap₂ akey_atom ((flag_Decides f h).0 same) e)
 akeys_choice f h m n false same = akeys_other f h (sum_other f h same) m n (m == n) (eqb-true m n) (eqb-false m n)
@@ -254,6 +264,7 @@ pairs_found : (f : Bool) (k : PairTerm) (h : Bool) (j : PairTerm) → AtomFindin
 pairs_found f (akey_variable m) h (akey_variable n) = akeys_choice f h m n (same_bool f h) refl
 pairs_found f (akey_variable m) h (pubk_term p a) = record {
   every = λ g e. ap atom (name_key f h (g.akeys m) (pubk p (g.names a)) e);
+  sorted = refl;
   absent = λ i. akey_is_no_name (only_item i);
   left = here;
   right = λ x i. there i;
@@ -261,6 +272,7 @@ pairs_found f (akey_variable m) h (pubk_term p a) = record {
 }
 pairs_found f (pubk_term p a) h (akey_variable n) = record {
   every = λ g e. ap atom (name_key h f (g.akeys n) (pubk p (g.names a)) (sym e));
+  sorted = refl;
   absent = λ i. akey_is_no_name (only_item i);
   left = there here;
   right = λ x i. in_append_left (akey_at n ∷ []) i;

@@ -10,11 +10,10 @@ use Rattle.cp_model.specs.declared.sort.Sort.TheVariants.{Text as text_sort, Dat
 use Rattle.cp_model.specs.declared.variable.Variable.{Variable}
 use Rattle.cp_model.proofs.LawTerms.{term_unchanged}
 use Rattle.cp_term.specs.Variables.{variable_of_sort}
-use Rattle.cp_unify.specs.Atoms.{IsAtom, atom_of}
-use Rattle.cp_unify.specs.Bindings.{Binding, sort_of, variable_of, as_substitution}
+use Rattle.cp_unify.specs.Bindings.{Binding, HasItsSort, as_substitution}
 use Rattle.cp_unify.specs.Matched.{bound_term}
 use Rattle.cp_unify.specs.Places.{IsRestAfter}
-use Rattle.cp_model.specs.Same.{same_atom, same_term}
+use Rattle.cp_model.specs.Same.{same_term}
 use Rattle.cp_term.proofs.SameTerms.{same_Decides, test_is}
 use Rattle.cp_unify.proofs.VariablesUnder.{bound, other}
 
@@ -36,35 +35,35 @@ pub yet_to_find : (bs : List Binding) (v : Term) → IsYetToFind bs 0 v
 yet_to_find bs v = record { applied = refl; exact = refl }
 
 pub found_here : (bs : List Binding) (i : ℕ) (b : Binding) (v : Term) → IsYetToFind bs i v →
-    i < length bs → b ≡ get_or bs i b → v ≡ variable_term (variable_of b) → apply_to (as_substitution bs) v ≡ atom_term b.term
-found_here bs i b v so_far below read here =
+    i < length bs → b ≡ get_or bs i b → HasItsSort b → v ≡ variable_term b.variable → apply_to (as_substitution bs) v ≡ b.term
+found_here bs i b v so_far below read sorted here =
     so_far.applied ∙ ap (λ (cs : List Binding). apply_to (as_substitution cs) v) (drop_read bs i b below read)
-    ∙ ap (apply_to (as_substitution (b ∷ drop (i + 1) bs))) here ∙ ap atom_term (bound b (as_substitution (drop (i + 1) bs)))
+    ∙ ap (apply_to (as_substitution (b ∷ drop (i + 1) bs))) here ∙ bound b (as_substitution (drop (i + 1) bs)) sorted
 
-term_here : (b : Binding) (bs : List Binding) (v : Term) → v ≡ variable_term (variable_of b) → bound_term (b ∷ bs) v ≡ Some b.term
-term_here b bs v here = rw ((same_Decides v (variable_term (variable_of b))).1 here) refl
+term_here : (b : Binding) (bs : List Binding) (v : Term) → v ≡ variable_term b.variable → bound_term (b ∷ bs) v ≡ Some b.term
+term_here b bs v here = rw ((same_Decides v (variable_term b.variable)).1 here) refl
 
 pub found_exactly : (bs : List Binding) (i : ℕ) (b : Binding) (v : Term) → IsYetToFind bs i v →
-    i < length bs → b ≡ get_or bs i b → v ≡ variable_term (variable_of b) → bound_term bs v ≡ Some b.term
+    i < length bs → b ≡ get_or bs i b → v ≡ variable_term b.variable → bound_term bs v ≡ Some b.term
 found_exactly bs i b v so_far below read here =
     so_far.exact ∙ ap (λ (cs : List Binding). bound_term cs v) (drop_read bs i b below read) ∙ term_here b (drop (i + 1) bs) v here
 
-not_here : {n : ℕ} (b : Binding) (bs : List Binding) (v : Term) → IsVariableTerm n v → (v ≡ variable_term (variable_of b) → ⊥) →
+not_here : {n : ℕ} (b : Binding) (bs : List Binding) (v : Term) → IsVariableTerm n v → (v ≡ variable_term b.variable → ⊥) →
     apply_to (as_substitution (b ∷ bs)) v ≡ apply_to (as_substitution bs) v
 not_here b bs v is apart =
     ap (apply_to (as_substitution (b ∷ bs))) is.is_variable
-    ∙ ap atom_term (other b (as_substitution bs) is.variable (λ e. apart (is.is_variable ∙ ap (λ (x : Variable). variable_term x) e)))
+    ∙ other b (as_substitution bs) is.variable (λ e. apart (is.is_variable ∙ ap (λ (x : Variable). variable_term x) e))
     ∙ sym (ap (apply_to (as_substitution bs)) is.is_variable)
 
-term_not_here : (b : Binding) (bs : List Binding) (v : Term) → (v ≡ variable_term (variable_of b) → ⊥) → bound_term (b ∷ bs) v ≡ bound_term bs v
-term_not_here b bs v apart = choose (same_term v (variable_term (variable_of b))) (same_Decides v (variable_term (variable_of b))).0
+term_not_here : (b : Binding) (bs : List Binding) (v : Term) → (v ≡ variable_term b.variable → ⊥) → bound_term (b ∷ bs) v ≡ bound_term bs v
+term_not_here b bs v apart = choose (same_term v (variable_term b.variable)) (same_Decides v (variable_term b.variable)).0
   where
-    choose : (c : Bool) → (c ≡ true → v ≡ variable_term (variable_of b)) → (if c then Some b.term else bound_term bs v) ≡ bound_term bs v
+    choose : (c : Bool) → (c ≡ true → v ≡ variable_term b.variable) → (if c then Some b.term else bound_term bs v) ≡ bound_term bs v
     choose true p = absurd (apart (p refl))
     choose false p = refl
 
 pub found_later : {n : ℕ} (bs : List Binding) (i : ℕ) (b : Binding) (v : Term) → IsVariableTerm n v → IsYetToFind bs i v →
-    i < length bs → b ≡ get_or bs i b → (v ≡ variable_term (variable_of b) → ⊥) → IsYetToFind bs (i + 1) v
+    i < length bs → b ≡ get_or bs i b → (v ≡ variable_term b.variable → ⊥) → IsYetToFind bs (i + 1) v
 found_later bs i b v is so_far below read apart = record {
   applied = so_far.applied ∙ ap (λ (cs : List Binding). apply_to (as_substitution cs) v) (drop_read bs i b below read) ∙ not_here b (drop (i + 1) bs) v is apart;
   exact = so_far.exact ∙ ap (λ (cs : List Binding). bound_term cs v) (drop_read bs i b below read) ∙ term_not_here b (drop (i + 1) bs) v apart;
@@ -96,9 +95,9 @@ term_number (enc_term a k) = 0
 number_of_term : (s : Sort) (n : ℕ) → term_number (variable_of_sort s n) ≡ n
 number_of_term s n = elim s as (λ k. term_number (variable_of_sort k n) ≡ n) [ text_sort ↦ refl | datum_sort ↦ refl | name_sort ↦ refl | skey_sort ↦ refl | akey_sort ↦ refl ]
 
-other_number : (s : Sort) (n : ℕ) (b : Binding) → (b.number ≡ n → ⊥) → variable_of_sort s n ≡ variable_term (variable_of b) → ⊥
+other_number : (s : Sort) (n : ℕ) (b : Binding) → (b.variable.number ≡ n → ⊥) → variable_of_sort s n ≡ variable_term b.variable → ⊥
 other_number s n b apart e =
-    apart (sym (number_of_term (sort_of b.term) b.number) ∙ sym (ap term_number e) ∙ number_of_term s n)
+    apart (sym (number_of_term b.variable.sort b.variable.number) ∙ sym (ap term_number e) ∙ number_of_term s n)
 
 pub behind_applied : (s : Sort) (n : ℕ) (rest bs : List Binding) → IsRestAfter n rest bs →
     apply_to (as_substitution bs) (variable_of_sort s n) ≡ apply_to (as_substitution rest) (variable_of_sort s n)
@@ -121,12 +120,10 @@ pub found_behind : {A : Type 0} (f : A → Term) (s : Sort) (n : ℕ) (rest bs :
 found_behind f s n rest bs None h k = behind_applied s n rest bs h ∙ k
 found_behind f s n rest bs (Some t) h k = behind_applied s n rest bs h ∙ k
 
--- Whether a variable is bound to a term of an atom sort, where it is bound.
-pub bound_same : (bound : Option AtomTerm) (found term : Term) (r : Bool) → IsAtom term → Some found ≡ option_map (λ (u : AtomTerm). atom_term u) bound →
-    Decides r (found ≡ term) → Some r ≡ option_map (λ (u : AtomTerm). same_atom u (atom_of term)) bound
-bound_same None found term r a e h = absurd (cc)
-bound_same (Some u) found term r a e h =
-    let is_u : found ≡ atom_term u = cc in
-    let decided : Decides r (atom_term u ≡ atom_term a.atom) =
-    subst (λ (t : Term). Decides r (t ≡ atom_term a.atom)) is_u (subst (λ (t : Term). Decides r (found ≡ t)) a.is_atom h) in
-    ap Some (sym (test_is (atom_term u) (atom_term a.atom) r decided) ∙ sym (ap (λ (t : Term). same_atom u (atom_of t)) a.is_atom))
+-- Whether a variable is bound to a term, where it is bound.
+pub bound_same : (bound : Option Term) (found term : Term) (r : Bool) → Some found ≡ bound → Decides r (found ≡ term) →
+    Some r ≡ option_map (λ (u : Term). same_term u term) bound
+bound_same None found term r e h = absurd (cc)
+bound_same (Some u) found term r e h =
+    let is_u : found ≡ u = cc in
+    ap Some (sym (test_is u term r (subst (λ (t : Term). Decides r (t ≡ term)) is_u h)))

@@ -7,26 +7,25 @@ use Rattle.std.specs.Option.{option_eq}
 use Rattle.std.proofs.lemmas.Bool.{eq-eqb}
 use Rattle.std.proofs.lemmas.Bool.Decides.{Decides-and}
 use Rattle.cp_lists.specs.Lists.{IsIn, here}
-use Rattle.cp_model.specs.Term.{SymmetricTerm, skey_variable, ltk_term, PairTerm, akey_variable, pubk_term, KeyTerm, symmetric_term, asymmetric_term, AtomTerm, text_variable, datum_variable, name_variable, key_term, Term, tag_term, atom_term, pair_term, enc_term, atom_of_variable, variable_term, variables_of_symmetric, variables_of_pair, variables_of_key, variables_of_atom, variables_of, inverse_term, flag_of, Substitution, apply_to_key, apply_to_atom, apply_to}
+use Rattle.cp_model.specs.Term.{SymmetricTerm, skey_variable, ltk_term, PairTerm, akey_variable, pubk_term, KeyTerm, symmetric_term, asymmetric_term, AtomTerm, text_variable, datum_variable, name_variable, key_term, Term, tag_term, atom_term, pair_term, enc_term, variable_term, variables_of_symmetric, variables_of_pair, variables_of_key, variables_of_atom, variables_of, inverse_term, flag_of, Substitution, apply_to_key, apply_to}
 use Rattle.cp_model.specs.declared.sort.Sort.{Sort}
 use Rattle.cp_model.specs.declared.sort.Sort.TheVariants.{Text as text_sort, Datum as datum_sort, Name as name_sort, Skey as skey_sort, Akey as akey_sort}
 use Rattle.cp_model.specs.declared.variable.Variable.{Variable}
 use Rattle.cp_model.proofs.LawTerms.{flag_last, term_unchanged, flag_twice}
-use Rattle.cp_model.specs.Same.{same_bool, same_atom, same_term}
+use Rattle.cp_model.specs.Same.{same_bool, same_term}
 use Rattle.cp_model.proofs.CarriedParts.{not_both}
 use Rattle.cp_model.proofs.SameTests.{variable_in, in_has_variable}
-use Rattle.cp_term.proofs.SameTerms.{bytes_Decides, flag_Decides, purpose_Decides, atom_Decides, same_Decides}
-use Rattle.cp_unify.specs.Bindings.{Binding, sort_of, variable_of, put_term, as_substitution}
+use Rattle.cp_term.proofs.SameTerms.{bytes_Decides, flag_Decides, purpose_Decides, same_Decides}
+use Rattle.cp_unify.specs.Bindings.{Binding, put_term, as_substitution}
 use Rattle.cp_unify.specs.Beside.{Agrees, MatchesBeside, NeverMatchesBeside}
-use Rattle.cp_unify.specs.Matched.{is_listed, bound_term, is_same_sort, matched_local, matched_variable, matched_names, matched_symmetric, matched_pairs, matched_keys, matched_atoms, matched}
+use Rattle.cp_unify.specs.Matched.{is_listed, bound_term, matched_local, matched_variable, matched_names, matched_symmetric, matched_pairs, matched_keys, matched_atoms, matched}
 use Rattle.cp_unify.specs.Matches.{ChangesOnly, BindsOnly, IsMatch, HasNoMatch}
 use Rattle.cp_term.specs.Keys.{key_as_term, IsKey}
 use Rattle.cp_term.specs.Variables.{variable_of_sort}
 use Rattle.cp_term.specs.Sorts.{is_atom_of_sort, is_of_sort}
 use Rattle.cp_unify.proofs.Found.{swap}
 use Rattle.cp_unify.proofs.Members.{among_left, among_right}
-use Rattle.cp_unify.proofs.VariablesUnder.{bound, other}
-use Rattle.cp_model.proofs.VariableTerms.{same_atom_terms}
+use Rattle.cp_unify.proofs.VariablesUnder.{sort_matches, bound, other}
 
 -- The substitution changes only is_local.
 abbrev pub ChangesLocals : (Variable → Bool) → Substitution → Type 0
@@ -94,93 +93,73 @@ outcome_choice is_local xs e r true up down = record {
 outcome_choice is_local xs e r false up down = λ s c a w. down refl s c a w
 
 -- The term of a bound variable; and that one that is not bound is that of no binding.
-agrees_bound : (s : Substitution) (r : List Binding) (x t : AtomTerm) → Agrees s r → bound_term r (atom_term x) ≡ Some t → apply_to_atom s x ≡ t
-agrees_bound s [] x t a e = absurd (let f : ◌≡◌ {A = Option AtomTerm} None (Some t) = e in cc)
-agrees_bound s (b ∷ bs) x t a e = choose (same_term (atom_term x) (variable_term (variable_of b))) (same_Decides (atom_term x) (variable_term (variable_of b))).0 e (agrees_bound s bs x t a.1)
+agrees_bound : (s : Substitution) (r : List Binding) (x t : Term) → Agrees s r → bound_term r x ≡ Some t → apply_to s x ≡ t
+agrees_bound s [] x t a e = absurd (let f : ◌≡◌ {A = Option Term} None (Some t) = e in cc)
+agrees_bound s (b ∷ bs) x t a e = choose (same_term x (variable_term b.variable)) (same_Decides x (variable_term b.variable)).0 e (agrees_bound s bs x t a.1)
   where
-    choose : (c : Bool) → (c ≡ true → atom_term x ≡ variable_term (variable_of b)) → (if c then Some b.term else bound_term bs (atom_term x)) ≡ Some t →
-        (bound_term bs (atom_term x) ≡ Some t → apply_to_atom s x ≡ t) → apply_to_atom s x ≡ t
-    choose true p f rest = let same = p refl in
-        let ex : x ≡ atom_of_variable (variable_of b) = cc in
-        let et : b.term ≡ t = cc in ap (apply_to_atom s) ex ∙ same_atom_terms a.0 ∙ et
+    choose : (c : Bool) → (c ≡ true → x ≡ variable_term b.variable) → (if c then Some b.term else bound_term bs x) ≡ Some t →
+        (bound_term bs x ≡ Some t → apply_to s x ≡ t) → apply_to s x ≡ t
+    choose true p f rest = let et : b.term ≡ t = cc in ap (apply_to s) (p refl) ∙ a.0 ∙ et
     choose false p f rest = rest f
 
-unbound_apart : (r : List Binding) (c : Binding) → bound_term r (variable_term (variable_of c)) ≡ None → (s : Substitution) → Agrees s r → Agrees (put_term c.number c.term s) r
+unbound_apart : (r : List Binding) (c : Binding) → bound_term r (variable_term c.variable) ≡ None → (s : Substitution) → Agrees s r → Agrees (put_term c.variable c.term s) r
 unbound_apart [] c e s a = tt
 unbound_apart (b ∷ bs) c e s a =
-    choose (same_term v (variable_term (variable_of b))) (same_Decides v (variable_term (variable_of b))).1 e (λ f. unbound_apart bs c f s a.1)
+    choose (same_term v (variable_term b.variable)) (same_Decides v (variable_term b.variable)).1 e (λ f. unbound_apart bs c f s a.1)
   where
     v : Term
-    v = variable_term (variable_of c)
+    v = variable_term c.variable
 
-    choose : (k : Bool) → (variable_term (variable_of c) ≡ variable_term (variable_of b) → k ≡ true) →
-        (if k then Some b.term else bound_term bs (variable_term (variable_of c))) ≡ None →
-        (bound_term bs (variable_term (variable_of c)) ≡ None → Agrees (put_term c.number c.term s) bs) → Agrees (put_term c.number c.term s) (b ∷ bs)
+    choose : (k : Bool) → (variable_term c.variable ≡ variable_term b.variable → k ≡ true) →
+        (if k then Some b.term else bound_term bs (variable_term c.variable)) ≡ None →
+        (bound_term bs (variable_term c.variable) ≡ None → Agrees (put_term c.variable c.term s) bs) → Agrees (put_term c.variable c.term s) (b ∷ bs)
     choose true p f rest = absurd (let g : Some b.term ≡ None = f in cc)
     choose false p f rest =
-        (ap atom_term (other c s (variable_of b) (λ same. let g : false ≡ true = p (ap (λ (x : Variable). variable_term x) (sym same)) in cc)) ∙ a.0, rest f)
+        (other c s b.variable (λ same. let g : false ≡ true = p (ap (λ (x : Variable). variable_term x) (sym same)) in cc) ∙ a.0, rest f)
 
--- Sorts are kept.
-abbrev at_sort : Sort → ℕ → AtomTerm
-at_sort k m = atom_of_variable (record { sort = k; number = m })
-
-sort_matches : (s : Substitution) (k : Sort) (m : ℕ) → is_same_sort (at_sort k m) (apply_to_atom s (at_sort k m)) ≡ true
-sort_matches s text_sort m = refl
-sort_matches s datum_sort m = refl
-sort_matches s name_sort m = refl
-sort_matches s skey_sort m = refl
-sort_matches s akey_sort m = refl
-
-same_sort_of : (k : Sort) (m : ℕ) (v : AtomTerm) → is_same_sort (at_sort k m) v ≡ true → sort_of v ≡ k
-same_sort_of text_sort m (text_variable n) e = refl
-same_sort_of datum_sort m (datum_variable n) e = refl
-same_sort_of name_sort m (name_variable n) e = refl
-same_sort_of skey_sort m (key_term (symmetric_term j)) e = refl
-same_sort_of akey_sort m (key_term (asymmetric_term g j)) e = refl
-same_sort_of akey_sort m (key_term (symmetric_term j)) e = cc
-same_sort_of _ m (key_term (asymmetric_term g j)) e = cc
-same_sort_of _ m _ e = cc
+-- The substitution makes the pattern the term.
+abbrev pub IsMade : Term → Term → Substitution → Type 0
+IsMade p t s = apply_to s p ≡ t
 
 abbrev Stands : AtomTerm → AtomTerm → Substitution → Type 0
-Stands x v s = apply_to_atom s x ≡ v
+Stands x v = IsMade (atom_term x) (atom_term v)
 
 -- A local that is not bound yet.
-new_local : (is_local : Variable → Bool) (k : Sort) (m : ℕ) (v : AtomTerm) (r : List Binding) → sort_of v ≡ k → is_local (record { sort = k; number = m }) ≡ true → bound_term r (atom_term (at_sort k m)) ≡ None →
-    MeetsBeside is_local (record { sort = k; number = m } ∷ []) (Stands (at_sort k m) v) r (record { number = m; term = v } ∷ r)
-new_local is_local k m v r sort one free =
-    let b : Binding = record { number = m; term = v } in
-    let x_is : at_sort k m ≡ atom_of_variable (variable_of b) = ap (λ (j : Sort). at_sort j m) (sym sort) in
+new_local : (is_local : Variable → Bool) (x : Variable) (v : Term) (r : List Binding) → is_of_sort x.sort v ≡ true → is_local x ≡ true → bound_term r (variable_term x) ≡ None →
+    MeetsBeside is_local (x ∷ []) (IsMade (variable_term x) v) r (record { variable = x; term = v } ∷ r)
+new_local is_local x v r sort one free =
+    let b : Binding = record { variable = x; term = v } in
     record {
       extends = λ s a. a.1;
-      sound = λ s c a. ap (apply_to_atom s) x_is ∙ same_atom_terms a.0;
-      general = λ s c a w. (ap atom_term (sym (ap (apply_to_atom s) x_is) ∙ w), a);
-      own = λ o. (ap atom_term (bound b (as_substitution r)), unbound_apart r b (subst (λ (x : AtomTerm). bound_term r (atom_term x) ≡ None) x_is free) (as_substitution r) o);
-      only = λ ls w o. (subst (λ (j : Sort). IsIn (record { sort = j; number = m }) ls) (sym sort) (w (record { sort = k; number = m }) here one), o);
+      sound = λ s c a. a.0;
+      general = λ s c a w. (w, a);
+      own = λ o. (bound b (as_substitution r) sort, unbound_apart r b free (as_substitution r) o);
+      only = λ ls w o. (w x here one, o);
     }
 
-local_found : (is_local : Variable → Bool) (k : Sort) (m : ℕ) (v : AtomTerm) (r : List Binding) → sort_of v ≡ k → is_local (record { sort = k; number = m }) ≡ true → (o : Option AtomTerm) →
-    bound_term r (atom_term (at_sort k m)) ≡ o → Outcome is_local (record { sort = k; number = m } ∷ []) (Stands (at_sort k m) v) r (matched_local m v r o)
-local_found is_local k m v r sort one None e = new_local is_local k m v r sort one e
-local_found is_local k m v r sort one (Some t) e =
-    outcome_choice is_local (record { sort = k; number = m } ∷ []) (Stands (at_sort k m) v) r (same_atom t v)
-    (λ f s c a. agrees_bound s r (at_sort k m) t a e ∙ (atom_Decides t v).0 f)
-    (λ f s c a w. let g : same_atom t v ≡ true = (atom_Decides t v).1 (sym (agrees_bound s r (at_sort k m) t a e) ∙ w) in cc)
+local_found : (is_local : Variable → Bool) (x : Variable) (v : Term) (r : List Binding) → is_of_sort x.sort v ≡ true → is_local x ≡ true → (o : Option Term) →
+    bound_term r (variable_term x) ≡ o → Outcome is_local (x ∷ []) (IsMade (variable_term x) v) r (matched_local x v r o)
+local_found is_local x v r sort one None e = new_local is_local x v r sort one e
+local_found is_local x v r sort one (Some t) e =
+    outcome_choice is_local (x ∷ []) (IsMade (variable_term x) v) r (same_term t v)
+    (λ f s c a. agrees_bound s r (variable_term x) t a e ∙ (same_Decides t v).0 f)
+    (λ f s c a w. let g : same_term t v ≡ true = (same_Decides t v).1 (sym (agrees_bound s r (variable_term x) t a e) ∙ w) in cc)
 
-variable_matched : (is_local : Variable → Bool) (k : Sort) (m : ℕ) (v : AtomTerm) (r : List Binding) → Outcome is_local (record { sort = k; number = m } ∷ []) (Stands (at_sort k m) v) r (matched_variable is_local (record { sort = k; number = m }) v r)
-variable_matched is_local k m v r = by_sort (is_same_sort (at_sort k m) v) refl
+variable_matched : (is_local : Variable → Bool) (x : Variable) (v : Term) (r : List Binding) → Outcome is_local (x ∷ []) (IsMade (variable_term x) v) r (matched_variable is_local x v r)
+variable_matched is_local x v r = by_sort (is_of_sort x.sort v) refl
   where
-    by_local : sort_of v ≡ k → (c : Bool) → is_local (record { sort = k; number = m }) ≡ c →
-        Outcome is_local (record { sort = k; number = m } ∷ []) (Stands (at_sort k m) v) r (if c then matched_local m v r (bound_term r (atom_term (at_sort k m))) else (if same_atom (at_sort k m) v then Some r else None))
-    by_local sort true e = local_found is_local k m v r sort e (bound_term r (atom_term (at_sort k m))) refl
+    by_local : is_of_sort x.sort v ≡ true → (c : Bool) → is_local x ≡ c →
+        Outcome is_local (x ∷ []) (IsMade (variable_term x) v) r (if c then matched_local x v r (bound_term r (variable_term x)) else (if same_term (variable_term x) v then Some r else None))
+    by_local sort true e = local_found is_local x v r sort e (bound_term r (variable_term x)) refl
     by_local sort false e =
-        outcome_choice is_local (record { sort = k; number = m } ∷ []) (Stands (at_sort k m) v) r (same_atom (at_sort k m) v)
-        (λ f s c a. same_atom_terms (c (record { sort = k; number = m }) e) ∙ (atom_Decides (at_sort k m) v).0 f)
-        (λ f s c a w. let g : same_atom (at_sort k m) v ≡ true = (atom_Decides (at_sort k m) v).1 (sym (same_atom_terms (c (record { sort = k; number = m }) e)) ∙ w) in cc)
+        outcome_choice is_local (x ∷ []) (IsMade (variable_term x) v) r (same_term (variable_term x) v)
+        (λ f s c a. c x e ∙ (same_Decides (variable_term x) v).0 f)
+        (λ f s c a w. let g : same_term (variable_term x) v ≡ true = (same_Decides (variable_term x) v).1 (sym (c x e) ∙ w) in cc)
 
-    by_sort : (b : Bool) → is_same_sort (at_sort k m) v ≡ b →
-        Outcome is_local (record { sort = k; number = m } ∷ []) (Stands (at_sort k m) v) r (if b then (if is_local (record { sort = k; number = m }) then matched_local m v r (bound_term r (atom_term (at_sort k m))) else (if same_atom (at_sort k m) v then Some r else None)) else None)
-    by_sort true e = by_local (same_sort_of k m v e) (is_local (record { sort = k; number = m })) refl
-    by_sort false e = λ s c a w. let f : is_same_sort (at_sort k m) v ≡ true = subst (λ (u : AtomTerm). is_same_sort (at_sort k m) u ≡ true) w (sort_matches s k m) in cc
+    by_sort : (b : Bool) → is_of_sort x.sort v ≡ b →
+        Outcome is_local (x ∷ []) (IsMade (variable_term x) v) r (if b then (if is_local x then matched_local x v r (bound_term r (variable_term x)) else (if same_term (variable_term x) v then Some r else None)) else None)
+    by_sort true e = by_local e (is_local x) refl
+    by_sort false e = λ s c a w. let f : is_of_sort x.sort v ≡ true = subst (λ (u : Term). is_of_sort x.sort u ≡ true) w (sort_matches s x.sort x.number) in cc
 
 -- Keys.
 abbrev symmetric_atom : SymmetricTerm → AtomTerm
@@ -189,18 +168,25 @@ symmetric_atom k = key_term (symmetric_term k)
 abbrev asymmetric_atom : Bool → PairTerm → AtomTerm
 asymmetric_atom f k = key_term (asymmetric_term f k)
 
+-- The same as a term.
+abbrev asymmetric_term_of : Bool → PairTerm → Term
+asymmetric_term_of f k = atom_term (asymmetric_atom f k)
+
+named : {m n : ℕ} → m ≡ n → atom_term (name_variable m) ≡ atom_term (name_variable n)
+named e = ap (λ (k : ℕ). atom_term (name_variable k)) e
+
 abbrev a_name : ℕ → Variable
 a_name n = record { sort = name_sort; number = n }
 
 symmetric_matched : (is_local : Variable → Bool) (k j : SymmetricTerm) (r : List Binding) → Outcome is_local (variables_of_symmetric k) (Stands (symmetric_atom k) (symmetric_atom j)) r (matched_symmetric is_local k j r)
-symmetric_matched is_local (skey_variable m) j r = variable_matched is_local skey_sort m (symmetric_atom j) r
+symmetric_matched is_local (skey_variable m) j r = variable_matched is_local (record { sort = skey_sort; number = m }) (atom_term (symmetric_atom j)) r
 symmetric_matched is_local (ltk_term a b) (skey_variable n) r = λ s c g w. cc
 symmetric_matched is_local (ltk_term a b) (ltk_term c d) r =
     outcome_both is_local (a_name a ∷ []) (a_name b ∷ []) (variables_of_symmetric (ltk_term a b)) (Stands (name_variable a) (name_variable c)) (Stands (name_variable b) (name_variable d)) (Stands (symmetric_atom (ltk_term a b)) (symmetric_atom (ltk_term c d))) r
     (matched_names is_local a c r) (matched_names is_local b d) (among_left (a_name a ∷ []) (a_name b ∷ [])) (among_right (a_name a ∷ []) (a_name b ∷ []))
-    (λ s e f. let e' : s.names a ≡ c = cc in let f' : s.names b ≡ d = cc in ap₂ (λ (m n : ℕ). symmetric_atom (ltk_term m n)) e' f')
-    (λ s w. let e : s.names a ≡ c = cc in ap name_variable e) (λ s w. let e : s.names b ≡ d = cc in ap name_variable e)
-    (variable_matched is_local name_sort a (name_variable c) r) (λ q. variable_matched is_local name_sort b (name_variable d) q)
+    (λ s e f. let e' : s.names a ≡ c = cc in let f' : s.names b ≡ d = cc in ap₂ (λ (m n : ℕ). atom_term (symmetric_atom (ltk_term m n))) e' f')
+    (λ s w. let e : s.names a ≡ c = cc in named e) (λ s w. let e : s.names b ≡ d = cc in named e)
+    (variable_matched is_local (record { sort = name_sort; number = a }) (atom_term (name_variable c)) r) (λ q. variable_matched is_local (record { sort = name_sort; number = b }) (atom_term (name_variable d)) q)
 
 akey_up : (f g x : Bool) → x ≡ flag_of f g → flag_of f x ≡ g
 akey_up f g x e = ap (flag_of f) e ∙ flag_twice f g
@@ -211,20 +197,20 @@ akey_down f g x e = swap f g x false (e ∙ sym (flag_last g)) ∙ flag_last (fl
 akey_matched : (is_local : Variable → Bool) (f : Bool) (m : ℕ) (g : Bool) (j : PairTerm) (r : List Binding) →
     Outcome is_local (variables_of_pair (akey_variable m)) (Stands (asymmetric_atom f (akey_variable m)) (asymmetric_atom g j)) r (matched_pairs is_local f (akey_variable m) g j r)
 akey_matched is_local f m g j r =
-    outcome_like is_local (variables_of_pair (akey_variable m)) (Stands (at_sort akey_sort m) (asymmetric_atom (flag_of f g) j)) (Stands (asymmetric_atom f (akey_variable m)) (asymmetric_atom g j)) r
+    outcome_like is_local (variables_of_pair (akey_variable m)) (IsMade (variable_of_sort akey_sort m) (atom_term (asymmetric_atom (flag_of f g) j))) (Stands (asymmetric_atom f (akey_variable m)) (asymmetric_atom g j)) r
     (matched_pairs is_local f (akey_variable m) g j r)
-    (λ s w. let e0 : (s.akeys m).0 ≡ flag_of f g = cc in let e1 : (s.akeys m).1 ≡ j = cc in ap₂ asymmetric_atom (akey_up f g (s.akeys m).0 e0) e1)
-    (λ s w. let e0 : flag_of f (s.akeys m).0 ≡ g = cc in let e1 : (s.akeys m).1 ≡ j = cc in ap₂ asymmetric_atom (akey_down f g (s.akeys m).0 e0) e1)
-    (variable_matched is_local akey_sort m (asymmetric_atom (flag_of f g) j) r)
+    (λ s w. let e0 : (s.akeys m).0 ≡ flag_of f g = cc in let e1 : (s.akeys m).1 ≡ j = cc in ap₂ asymmetric_term_of (akey_up f g (s.akeys m).0 e0) e1)
+    (λ s w. let e0 : flag_of f (s.akeys m).0 ≡ g = cc in let e1 : (s.akeys m).1 ≡ j = cc in ap₂ asymmetric_term_of (akey_down f g (s.akeys m).0 e0) e1)
+    (variable_matched is_local (record { sort = akey_sort; number = m }) (atom_term (asymmetric_atom (flag_of f g) j)) r)
 
 pubk_matched : (is_local : Variable → Bool) (f g : Bool) (p q : Option (List ℕ)) (a b : ℕ) (r : List Binding) (c : Bool) → Decides c ((f ≡ g) × (p ≡ q)) →
     Outcome is_local (variables_of_pair (pubk_term p a)) (Stands (asymmetric_atom f (pubk_term p a)) (asymmetric_atom g (pubk_term q b))) r (if c then matched_names is_local a b r else None)
 pubk_matched is_local f g p q a b r true d =
     let e : (f ≡ g) × (p ≡ q) = d.0 refl in
     outcome_like is_local (variables_of_pair (pubk_term p a)) (Stands (name_variable a) (name_variable b)) (Stands (asymmetric_atom f (pubk_term p a)) (asymmetric_atom g (pubk_term q b))) r (matched_names is_local a b r)
-    (λ s w. let w' : s.names a ≡ b = cc in ap₂ asymmetric_atom e.0 (ap₂ pubk_term e.1 w'))
-    (λ s w. let w' : s.names a ≡ b = cc in ap name_variable w')
-    (variable_matched is_local name_sort a (name_variable b) r)
+    (λ s w. let w' : s.names a ≡ b = cc in ap₂ asymmetric_term_of e.0 (ap₂ pubk_term e.1 w'))
+    (λ s w. let w' : s.names a ≡ b = cc in named w')
+    (variable_matched is_local (record { sort = name_sort; number = a }) (atom_term (name_variable b)) r)
 pubk_matched is_local f g p q a b r false d = λ s c x w. let e0 : f ≡ g = cc in let e1 : p ≡ q = cc in let e : false ≡ true = d.1 (e0, e1) in cc
 
 pairs_matched : (is_local : Variable → Bool) (f : Bool) (k : PairTerm) (g : Bool) (j : PairTerm) (r : List Binding) →
@@ -241,25 +227,20 @@ keys_matched is_local (symmetric_term k) (asymmetric_term g j) r = λ s c x w. c
 keys_matched is_local (asymmetric_term f k) (symmetric_term j) r = λ s c x w. cc
 
 atoms_matched : (is_local : Variable → Bool) (u v : AtomTerm) (r : List Binding) → Outcome is_local (variables_of_atom u) (Stands u v) r (matched_atoms is_local u v r)
-atoms_matched is_local (text_variable m) v r = variable_matched is_local text_sort m v r
-atoms_matched is_local (datum_variable m) v r = variable_matched is_local datum_sort m v r
-atoms_matched is_local (name_variable m) v r = variable_matched is_local name_sort m v r
+atoms_matched is_local (text_variable m) v r = variable_matched is_local (record { sort = text_sort; number = m }) (atom_term v) r
+atoms_matched is_local (datum_variable m) v r = variable_matched is_local (record { sort = datum_sort; number = m }) (atom_term v) r
+atoms_matched is_local (name_variable m) v r = variable_matched is_local (record { sort = name_sort; number = m }) (atom_term v) r
 atoms_matched is_local (key_term k) (key_term j) r = keys_matched is_local k j r
 atoms_matched is_local (key_term k) _ r = λ s c x w. cc
 
 -- Terms.
-abbrev pub IsMade : Term → Term → Substitution → Type 0
-IsMade p t s = apply_to s p ≡ t
-
 tags_matched : (is_local : Variable → Bool) (x y : List ℕ) (r : List Binding) (b : Bool) → Decides b (x ≡ y) → Outcome is_local [] (IsMade (tag_term x) (tag_term y)) r (if b then Some r else None)
 tags_matched is_local x y r b d =
     outcome_choice is_local [] (IsMade (tag_term x) (tag_term y)) r b (λ f s c a. ap tag_term (d.0 f)) (λ f s c a w. let e : x ≡ y = cc in let g : b ≡ true = d.1 e in cc)
 
 pub terms_matched : (is_local : Variable → Bool) (p t : Term) (r : List Binding) → Outcome is_local (variables_of p) (IsMade p t) r (matched is_local p t r)
 terms_matched is_local (tag_term x) (tag_term y) r = tags_matched is_local x y r (pointwise nat_eq x y) (bytes_Decides x y)
-terms_matched is_local (atom_term u) (atom_term v) r =
-    outcome_like is_local (variables_of_atom u) (Stands u v) (IsMade (atom_term u) (atom_term v)) r (matched_atoms is_local u v r)
-    (λ s w. ap atom_term w) (λ s w. cc) (atoms_matched is_local u v r)
+terms_matched is_local (atom_term u) (atom_term v) r = atoms_matched is_local u v r
 terms_matched is_local (pair_term a b) (pair_term c d) r =
     outcome_both is_local (variables_of a) (variables_of b) (variables_of (pair_term a b)) (IsMade a c) (IsMade b d) (IsMade (pair_term a b) (pair_term c d)) r (matched is_local a c r) (matched is_local b d)
     (among_left (variables_of a) (variables_of b)) (among_right (variables_of a) (variables_of b))
@@ -267,7 +248,7 @@ terms_matched is_local (pair_term a b) (pair_term c d) r =
 terms_matched is_local (enc_term a k) (enc_term b j) r =
     outcome_both is_local (variables_of_key k) (variables_of a) (variables_of (enc_term a k)) (Stands (key_term k) (key_term j)) (IsMade a b) (IsMade (enc_term a k) (enc_term b j)) r (matched_keys is_local k j r) (matched is_local a b)
     (among_right (variables_of a) (variables_of_key k)) (among_left (variables_of a) (variables_of_key k))
-    (λ s e f. let e' : apply_to_key s k ≡ j = cc in ap₂ enc_term f e') (λ s w. let e : apply_to_key s k ≡ j = cc in ap key_term e) (λ s w. cc)
+    (λ s e f. let e' : apply_to_key s k ≡ j = cc in ap₂ enc_term f e') (λ s w. let e : apply_to_key s k ≡ j = cc in ap (λ (i : KeyTerm). atom_term (key_term i)) e) (λ s w. cc)
     (keys_matched is_local k j r) (λ q. terms_matched is_local a b q)
 terms_matched is_local _ _ r = λ s c x w. cc
 
@@ -275,7 +256,7 @@ terms_matched is_local _ _ r = λ s c x w. cc
 changes_only : (locals : List Variable) (r : List Binding) → BindsOnly locals r → ChangesOnly locals (as_substitution r)
 changes_only locals [] h x apart = term_unchanged (variable_term x)
 changes_only locals (b ∷ bs) h x apart =
-    ap atom_term (other b (as_substitution bs) x (λ e. apart (subst (λ (y : Variable). IsIn y locals) (sym e) h.0))) ∙ changes_only locals bs h.1 x apart
+    other b (as_substitution bs) x (λ e. apart (subst (λ (y : Variable). IsIn y locals) (sym e) h.0)) ∙ changes_only locals bs h.1 x apart
 
 -- Where a substitution changes only variables that are listed, it changes only those that pass the test.
 changes_listed : (locals : List Variable) (s : Substitution) → ChangesOnly locals s → ChangesLocals (is_listed (Some locals)) s
@@ -374,10 +355,10 @@ pub asymmetric_is_key : (t : Term) → IsAsymmetric t → IsKey t
 asymmetric_is_key t h = record { key = asymmetric_term h.flag h.half; is_key = h.is_asymmetric }
 
 pub inverse_matched : (t inverse : Term) (m : ℕ) (is_local : Variable → Bool) (r : List Binding) (answer : Option (List Binding)) → IsAsymmetric t →
-    ((k : KeyTerm) → t ≡ key_as_term k → inverse ≡ key_as_term (inverse_term k)) → answer ≡ matched is_local (atom_term (at_sort akey_sort m)) inverse r →
+    ((k : KeyTerm) → t ≡ key_as_term k → inverse ≡ key_as_term (inverse_term k)) → answer ≡ matched is_local (variable_of_sort akey_sort m) inverse r →
     answer ≡ matched is_local (atom_term (asymmetric_atom true (akey_variable m))) t r
 inverse_matched t inverse m is_local r answer h made e =
-    e ∙ ap (λ (u : Term). matched is_local (atom_term (at_sort akey_sort m)) u r) (made (asymmetric_term h.flag h.half) h.is_asymmetric)
+    e ∙ ap (λ (u : Term). matched is_local (variable_of_sort akey_sort m) u r) (made (asymmetric_term h.flag h.half) h.is_asymmetric)
     ∙ sym (ap (λ (u : Term). matched is_local (atom_term (asymmetric_atom true (akey_variable m))) u r) h.is_asymmetric)
 
 -- A variable that is no local matches itself.

@@ -1,11 +1,13 @@
 -- What solved bindings do to terms, and how a further binding is added to them.
-use Rattle.std.proofs.Common.{◌≡◌, Bool, List, [], ◌∷◌, ◌++◌, map, refl, sym, ap, ◌∙◌, subst}
+use Rattle.std.proofs.Common.{◌≡◌, Bool, List, [], ◌∷◌, ◌++◌, map, refl, sym, ap, ap₂, ◌∙◌, subst, true}
 use Rattle.cp_model.specs.Message.{KeyPair, symmetric, asymmetric, key}
-use Rattle.cp_model.specs.Term.{SymmetricTerm, PairTerm, symmetric_term, asymmetric_term, AtomTerm, text_variable, datum_variable, name_variable, key_term, Term, variable_term, Assignment, value_of_symmetric, value_of_half, value_of, Substitution, apply_to_symmetric, apply_to_half, apply_to_atom, apply_to, after, composed, atom_term}
+use Rattle.cp_model.specs.Term.{SymmetricTerm, PairTerm, symmetric_term, asymmetric_term, AtomTerm, text_variable, datum_variable, name_variable, key_term, Term, tag_term, pair_term, enc_term, variable_term, Assignment, value_of_symmetric, value_of_half, value_of, Substitution, apply_to_symmetric, apply_to_half, apply_to_atom, apply_to, after, composed, atom_term}
 use Rattle.cp_model.specs.declared.sort.Sort.{Sort}
+use Rattle.cp_model.specs.declared.sort.Sort.TheVariants.{Text as text_sort, Datum as datum_sort, Name as name_sort, Skey as skey_sort, Akey as akey_sort}
 use Rattle.cp_model.specs.declared.variable.Variable.{Variable}
 use Rattle.cp_model.proofs.LawTerms.{atom_after, value_after}
-use Rattle.cp_unify.specs.Bindings.{Binding, sort_of, variable_of, Meets, as_substitution}
+use Rattle.cp_term.specs.Sorts.{is_atom_of_sort, is_of_sort}
+use Rattle.cp_unify.specs.Bindings.{Binding, HasItsSort, Meets, as_substitution}
 use Rattle.cp_unify.specs.Joined.{moved, joined_bindings}
 use Rattle.cp_unify.specs.Unifiers.{Solves, IsSolvable}
 use Rattle.cp_unify.proofs.Free.{free, same_atoms, same_terms}
@@ -33,27 +35,39 @@ after_composed g s t = λ i. record (after (after g t) s) {
 }
 
 -- A term has under a substitution the sort that it had.
-pub sort_kept : (s : Substitution) (u : AtomTerm) → sort_of (apply_to_atom s u) ≡ sort_of u
-sort_kept s (text_variable n) = refl
-sort_kept s (datum_variable n) = refl
-sort_kept s (name_variable n) = refl
-sort_kept s (key_term (symmetric_term k)) = refl
-sort_kept s (key_term (asymmetric_term flag k)) = refl
+atom_sort_kept : (s : Substitution) (k : Sort) (u : AtomTerm) → is_atom_of_sort k (apply_to_atom s u) ≡ is_atom_of_sort k u
+atom_sort_kept s text_sort (text_variable n) = refl
+atom_sort_kept s datum_sort (datum_variable n) = refl
+atom_sort_kept s name_sort (name_variable n) = refl
+atom_sort_kept s skey_sort (key_term (symmetric_term k)) = refl
+atom_sort_kept s akey_sort (key_term (asymmetric_term flag k)) = refl
+atom_sort_kept s skey_sort (key_term (asymmetric_term flag k)) = refl
+atom_sort_kept s akey_sort (key_term (symmetric_term k)) = refl
+atom_sort_kept s _ _ = refl
 
-pub variable_kept : (q : List Binding) (b : Binding) → variable_of (moved q b) ≡ variable_of b
-variable_kept q b = ap (λ (k : Sort). let x : Variable = record { sort = k; number = b.number } in x) (sort_kept (as_substitution q) b.term)
+pub sort_kept : (s : Substitution) (k : Sort) (t : Term) → is_of_sort k (apply_to s t) ≡ is_of_sort k t
+sort_kept s k (tag_term bytes) = refl
+sort_kept s k (atom_term u) = atom_sort_kept s k u
+sort_kept s k (pair_term a b) = refl
+sort_kept s k (enc_term a j) = refl
 
-left_kept : (g : Assignment) (q : List Binding) (b : Binding) → value_of g (variable_term (variable_of (moved q b))) ≡ value_of g (variable_term (variable_of b))
-left_kept g q b = ap (λ (x : Variable). value_of g (variable_term x)) (variable_kept q b)
+pub moved_has_sort : (q : List Binding) (b : Binding) → HasItsSort b → HasItsSort (moved q b)
+moved_has_sort q b h = sort_kept (as_substitution q) b.variable.sort b.term ∙ h
+
+-- As a loop has the parts of the binding.
+pub sorted_under : (q : List Binding) (b : Binding) (x : Variable) (t u : Term) → HasItsSort b → x ≡ b.variable → t ≡ b.term → u ≡ apply_to (as_substitution q) t →
+    is_of_sort x.sort u ≡ true
+sorted_under q b x t u h same is given =
+    ap₂ (λ (y : Variable) (v : Term). is_of_sort y.sort v) same (given ∙ ap (apply_to (as_substitution q)) is) ∙ moved_has_sort q b h
 
 -- What meets q meets bindings where it meets them with their terms under q.
 pub moved_meets : (g : Assignment) (r q : List Binding) → Meets g q → Meets g r → Meets g (map (moved q) r)
 moved_meets g [] q met m = tt
-moved_meets g (b ∷ bs) q met m = (left_kept g q b ∙ m.0 ∙ sym (value_met g q (atom_term b.term) met), moved_meets g bs q met m.1)
+moved_meets g (b ∷ bs) q met m = (m.0 ∙ sym (value_met g q b.term met), moved_meets g bs q met m.1)
 
 pub meets_moved : (g : Assignment) (r q : List Binding) → Meets g q → Meets g (map (moved q) r) → Meets g r
 meets_moved g [] q met m = tt
-meets_moved g (b ∷ bs) q met m = (sym (left_kept g q b) ∙ m.0 ∙ value_met g q (atom_term b.term) met, meets_moved g bs q met m.1)
+meets_moved g (b ∷ bs) q met m = (m.0 ∙ value_met g q b.term met, meets_moved g bs q met m.1)
 
 meets_append : (g : Assignment) (r q : List Binding) → Meets g r → Meets g q → Meets g (r ++ q)
 meets_append g [] q m n = n
@@ -81,10 +95,10 @@ AlwaysMet r = (g : Assignment) → Meets (after g (as_substitution r)) r
 
 -- Bindings that leave both sides of a further one, and which leaves its own term, with that one.
 pub always_met_joined : (r : List Binding) (b : Binding) → AlwaysMet r →
-    apply_to (as_substitution r) (variable_term (variable_of b)) ≡ variable_term (variable_of b) →
-    apply_to (as_substitution r) (atom_term b.term) ≡ atom_term b.term →
-    apply_to (as_substitution (b ∷ [])) (variable_term (variable_of b)) ≡ atom_term b.term →
-    apply_to (as_substitution (b ∷ [])) (atom_term b.term) ≡ atom_term b.term →
+    apply_to (as_substitution r) (variable_term b.variable) ≡ variable_term b.variable →
+    apply_to (as_substitution r) b.term ≡ b.term →
+    apply_to (as_substitution (b ∷ [])) (variable_term b.variable) ≡ b.term →
+    apply_to (as_substitution (b ∷ [])) b.term ≡ b.term →
     AlwaysMet (joined_bindings r (b ∷ []))
 always_met_joined r b met left right bound absent g =
     let q : List Binding = b ∷ [] in
@@ -92,12 +106,12 @@ always_met_joined r b met left right bound absent g =
     let h : Assignment = after f (as_substitution r) in
     let same : after g (as_substitution (joined_bindings r q)) ≡ h =
     ap (λ (s : Substitution). after g s) (as_joined r q) ∙ after_composed g (as_substitution r) (as_substitution q) in
-    let at_variable : value_of h (variable_term (variable_of b)) ≡ value_of g (atom_term b.term) =
-    value_after f (as_substitution r) (variable_term (variable_of b)) ∙ ap (value_of f) left
-    ∙ value_after g (as_substitution q) (variable_term (variable_of b)) ∙ ap (value_of g) bound in
-    let at_term : value_of h (atom_term b.term) ≡ value_of g (atom_term b.term) =
-    value_after f (as_substitution r) (atom_term b.term) ∙ ap (value_of f) right
-    ∙ value_after g (as_substitution q) (atom_term b.term) ∙ ap (value_of g) absent in
+    let at_variable : value_of h (variable_term b.variable) ≡ value_of g b.term =
+    value_after f (as_substitution r) (variable_term b.variable) ∙ ap (value_of f) left
+    ∙ value_after g (as_substitution q) (variable_term b.variable) ∙ ap (value_of g) bound in
+    let at_term : value_of h b.term ≡ value_of g b.term =
+    value_after f (as_substitution r) b.term ∙ ap (value_of f) right
+    ∙ value_after g (as_substitution q) b.term ∙ ap (value_of g) absent in
     let all : Meets h (joined_bindings r q) = meets_joined h r q (met f) (at_variable ∙ sym at_term, tt) in
     subst (λ (k : Assignment). Meets k (joined_bindings r q)) (sym same) all
 
@@ -122,7 +136,7 @@ unified r a b met equal =
 solved_where_met : (s : Substitution) (q : List Binding) → Meets (after free s) q → Solves s q
 solved_where_met s [] m = tt
 solved_where_met s (b ∷ bs) m =
-    (same_terms _ _ (sym (value_after free s (variable_term (variable_of b))) ∙ m.0 ∙ value_after free s (atom_term b.term)), solved_where_met s bs m.1)
+    (same_terms _ _ (sym (value_after free s (variable_term b.variable)) ∙ m.0 ∙ value_after free s b.term), solved_where_met s bs m.1)
 
 pub solves : (r q : List Binding) → AlwaysMet r → ((g : Assignment) → Meets g r → Meets g q) → Solves (as_substitution r) q
 solves r q met sound = solved_where_met (as_substitution r) q (sound (after free (as_substitution r)) (met free))
@@ -134,7 +148,7 @@ solvable r met = record { solution = after free (as_substitution r); meets = met
 met_where_solved : (s : Substitution) (q : List Binding) → Solves s q → Meets (after free s) q
 met_where_solved s [] h = tt
 met_where_solved s (b ∷ bs) h =
-    (value_after free s (variable_term (variable_of b)) ∙ ap (value_of free) h.0 ∙ sym (value_after free s (atom_term b.term)), met_where_solved s bs h.1)
+    (value_after free s (variable_term b.variable) ∙ ap (value_of free) h.0 ∙ sym (value_after free s b.term), met_where_solved s bs h.1)
 
 pub factoring : (r q : List Binding) (a b : Term) → ((g : Assignment) → Meets g q → value_of g a ≡ value_of g b → Meets g r) →
     (t : Substitution) → Solves t q → apply_to t a ≡ apply_to t b → (u : Term) → apply_to t (apply_to (as_substitution r) u) ≡ apply_to t u

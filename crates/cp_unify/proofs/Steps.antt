@@ -1,13 +1,13 @@
 -- The loop that mends one difference after the other.
 use Rattle.std.proofs.Common.{◌≡◌, ◌⊎◌, inl, inr, ◌<◌, ℕ, true, false, List, [], ◌∷◌, ◌++◌, refl, sym, ap, ◌∙◌, subst, arith}
 use Rattle.cp_lists.specs.Lists.{IsIn, here, there}
-use Rattle.cp_model.specs.Term.{skey_variable, ltk_term, akey_variable, pubk_term, symmetric_term, asymmetric_term, AtomTerm, text_variable, datum_variable, name_variable, key_term, Term, atom_of_variable, variable_term, variables_of_atom, variables_of, Assignment, value_of, Substitution, apply_to_atom, apply_to, atom_term}
+use Rattle.cp_model.specs.Term.{skey_variable, ltk_term, akey_variable, pubk_term, symmetric_term, asymmetric_term, AtomTerm, text_variable, datum_variable, name_variable, key_term, Term, tag_term, pair_term, enc_term, variable_term, variables_of_atom, variables_of, Assignment, value_of, Substitution, apply_to, atom_term}
 use Rattle.cp_model.specs.declared.sort.Sort.{Sort}
 use Rattle.cp_model.specs.declared.sort.Sort.TheVariants.{Text as text_sort, Datum as datum_sort, Name as name_sort, Skey as skey_sort, Akey as akey_sort}
 use Rattle.cp_model.specs.declared.variable.Variable.{Variable}
 use Rattle.cp_model.specs.Identity.{unchanged}
-use Rattle.cp_model.proofs.LawTerms.{atom_unchanged, term_composed}
-use Rattle.cp_unify.specs.Bindings.{Binding, variable_of, Meets, put_term, as_substitution, variables_of_bindings}
+use Rattle.cp_model.proofs.LawTerms.{atom_unchanged, term_unchanged, term_composed}
+use Rattle.cp_unify.specs.Bindings.{Binding, HasItsSort, Meets, put_term, as_substitution, variables_of_bindings}
 use Rattle.cp_unify.specs.Joined.{moved, joined_bindings}
 use Rattle.cp_unify.specs.Unifiers.{IsBefore, AreLaterToEarlier, AreVariablesAmong}
 use Rattle.cp_unify.specs.Solved.{IsSolved, SolvesBeside}
@@ -17,22 +17,26 @@ use Rattle.cp_unify.specs.Differences.{difference_of}
 use Rattle.cp_unify.specs.declared.difference.Difference.TheVariants.{Same, Clash, Bind}
 use Rattle.cp_lists.proofs.Members.{not_in_none, only_item, in_append_left, in_append_right, in_append}
 use Rattle.cp_unify.proofs.Members.{among_cons, among_append, among_left, among_right}
-use Rattle.cp_unify.proofs.VariablesUnder.{Leaves, leaves_variables_of, leaves_atom, bound, other, leaves_other, leaves_absent, given_atom, given_term}
-use Rattle.cp_unify.proofs.SolvedBindings.{variable_kept, meets_joined, joined_meets, AlwaysMet, always_met_joined, idempotent_term}
+use Rattle.cp_unify.proofs.VariablesUnder.{Leaves, leaves_variables_of, leaves_term, bound, bound_or_left, other, leaves_other, leaves_absent, given_term}
+use Rattle.cp_unify.proofs.SolvedBindings.{meets_joined, joined_meets, AlwaysMet, always_met_joined, idempotent_term}
 use Rattle.cp_unify.proofs.Substituted.{as_joined, value_met}
 
 -- What bindings give to a variable is over their variables and that one.
-gives_cases : (b : Binding) (s : Substitution) (zs : List Variable) (x : Variable) → AreVariablesAmong (variables_of_atom b.term) zs →
+gives_cases : (b : Binding) (s : Substitution) (zs : List Variable) (x : Variable) → AreVariablesAmong (variables_of b.term) zs →
     AreVariablesAmong (variables_of (apply_to s (variable_term x))) zs →
-    ((is_variable x (variable_of b) ≡ true) × (x ≡ variable_of b)) ⊎ ((is_variable x (variable_of b) ≡ false) × (x ≡ variable_of b → ⊥)) →
-    AreVariablesAmong (variables_of (apply_to (put_term b.number b.term s) (variable_term x))) zs
+    ((is_variable x b.variable ≡ true) × (x ≡ b.variable)) ⊎ ((is_variable x b.variable ≡ false) × (x ≡ b.variable → ⊥)) →
+    AreVariablesAmong (variables_of (apply_to (put_term b.variable b.term s) (variable_term x))) zs
 gives_cases b s zs x own rest (inl p) =
-    let e : apply_to_atom (put_term b.number b.term s) (atom_of_variable x) ≡ b.term =
-    ap (λ (y : Variable). apply_to_atom (put_term b.number b.term s) (atom_of_variable y)) p.1 ∙ bound b s in
-    subst (λ (u : AtomTerm). AreVariablesAmong (variables_of_atom u) zs) (sym e) own
-gives_cases b s zs x own rest (inr p) = subst (λ (u : AtomTerm). AreVariablesAmong (variables_of_atom u) zs) (sym (other b s x p.1)) rest
+    elim (bound_or_left b s) [
+      | inl e ↦
+          let f : apply_to (put_term b.variable b.term s) (variable_term x) ≡ b.term =
+          ap (λ (y : Variable). apply_to (put_term b.variable b.term s) (variable_term y)) p.1 ∙ e in
+          subst (λ (u : Term). AreVariablesAmong (variables_of u) zs) (sym f) own
+      | inr e ↦ subst (λ (t : Substitution). AreVariablesAmong (variables_of (apply_to t (variable_term x))) zs) (sym e) rest
+    ]
+gives_cases b s zs x own rest (inr p) = subst (λ (u : Term). AreVariablesAmong (variables_of u) zs) (sym (other b s x p.1)) rest
 
-pub one_variable : (s : Sort) (n : ℕ) (zs : List Variable) → (let x : Variable = record { sort = s; number = n } in IsIn x zs → AreVariablesAmong (variables_of_atom (atom_of_variable x)) zs)
+pub one_variable : (s : Sort) (n : ℕ) (zs : List Variable) → (let x : Variable = record { sort = s; number = n } in IsIn x zs → AreVariablesAmong (variables_of (variable_term x)) zs)
 one_variable text_sort n zs h y i = subst (λ (z : Variable). IsIn z zs) (sym (only_item i)) h
 one_variable datum_sort n zs h y i = subst (λ (z : Variable). IsIn z zs) (sym (only_item i)) h
 one_variable name_sort n zs h y i = subst (λ (z : Variable). IsIn z zs) (sym (only_item i)) h
@@ -44,11 +48,7 @@ as_gives : (q : List Binding) (zs : List Variable) → AreVariablesAmong (variab
 as_gives [] zs h x i = rw atom_unchanged (one_variable x.sort x.number zs i)
 as_gives (b ∷ bs) zs h x i =
     gives_cases b (as_substitution bs) zs x (λ y j. h y (there (in_append_left (variables_of_bindings bs) j)))
-    (as_gives bs zs (λ y j. h y (there (in_append_right (variables_of_atom b.term) j))) x i) (is_variable_tells x (variable_of b))
-
-pub applied_atom_among : (q : List Binding) (zs : List Variable) (u : AtomTerm) → AreVariablesAmong (variables_of_bindings q) zs → AreVariablesAmong (variables_of_atom u) zs →
-    AreVariablesAmong (variables_of_atom (apply_to_atom (as_substitution q) u)) zs
-applied_atom_among q zs u h k y i = given_atom (λ z. IsIn z zs) (as_substitution q) u (λ x j. as_gives q zs h x (k x j)) y i
+    (as_gives bs zs (λ y j. h y (there (in_append_right (variables_of b.term) j))) x i) (is_variable_tells x b.variable)
 
 pub applied_among : (q : List Binding) (zs : List Variable) (t : Term) → AreVariablesAmong (variables_of_bindings q) zs → AreVariablesAmong (variables_of t) zs →
     AreVariablesAmong (variables_of (apply_to (as_substitution q) t)) zs
@@ -58,51 +58,67 @@ pub joined_among : (r q : List Binding) (zs : List Variable) → AreVariablesAmo
     AreVariablesAmong (variables_of_bindings (joined_bindings r q)) zs
 joined_among [] q zs h k = k
 joined_among (b ∷ bs) q zs h k =
-    among_cons (variable_of (moved q b)) _ zs (subst (λ (x : Variable). IsIn x zs) (sym (variable_kept q b)) (h (variable_of b) here))
-    (among_append (variables_of_atom (moved q b).term) (variables_of_bindings (joined_bindings bs q)) zs
-    (applied_atom_among q zs b.term k (λ y j. h y (there (in_append_left (variables_of_bindings bs) j))))
-    (joined_among bs q zs (λ y j. h y (there (in_append_right (variables_of_atom b.term) j))) k))
+    among_cons b.variable _ zs (h b.variable here)
+    (among_append (variables_of (moved q b).term) (variables_of_bindings (joined_bindings bs q)) zs
+    (applied_among q zs b.term k (λ y j. h y (there (in_append_left (variables_of_bindings bs) j))))
+    (joined_among bs q zs (λ y j. h y (there (in_append_right (variables_of b.term) j))) k))
 
 -- Later variables stay bound to earlier ones.
-before_longer : (u : AtomTerm) (m n : ℕ) → IsBefore u m → m < n → IsBefore u n
-before_longer (text_variable k) m n h l = omega arith
-before_longer (datum_variable k) m n h l = omega arith
-before_longer (name_variable k) m n h l = omega arith
-before_longer (key_term (symmetric_term (skey_variable k))) m n h l = omega arith
-before_longer (key_term (symmetric_term (ltk_term a b))) m n h l = tt
-before_longer (key_term (asymmetric_term flag (akey_variable k))) m n h l = omega arith
-before_longer (key_term (asymmetric_term flag (pubk_term p a))) m n h l = tt
+before_longer : (u : Term) (m n : ℕ) → IsBefore u m → m < n → IsBefore u n
+before_longer (atom_term (text_variable k)) m n h l = omega arith
+before_longer (atom_term (datum_variable k)) m n h l = omega arith
+before_longer (atom_term (name_variable k)) m n h l = omega arith
+before_longer (atom_term (key_term (symmetric_term (skey_variable k)))) m n h l = omega arith
+before_longer (atom_term (key_term (symmetric_term (ltk_term a b)))) m n h l = tt
+before_longer (atom_term (key_term (asymmetric_term flag (akey_variable k)))) m n h l = omega arith
+before_longer (atom_term (key_term (asymmetric_term flag (pubk_term p a)))) m n h l = tt
+before_longer (tag_term bytes) m n h l = tt
+before_longer (pair_term a b) m n h l = tt
+before_longer (enc_term a k) m n h l = tt
 
-before_own : (s : Sort) (m n : ℕ) → m < n → IsBefore (atom_of_variable (record { sort = s; number = m })) n
+before_own : (s : Sort) (m n : ℕ) → m < n → IsBefore (variable_term (record { sort = s; number = m })) n
 before_own text_sort m n h = h
 before_own datum_sort m n h = h
 before_own name_sort m n h = h
 before_own skey_sort m n h = h
 before_own akey_sort m n h = h
 
-before_variable : (b : Binding) (x : Variable) (n : ℕ) → x.number < n → IsBefore b.term b.number → IsBefore (apply_to_atom (as_substitution (b ∷ [])) (atom_of_variable x)) n
+-- A term that is not changed, or that is the term of the binding.
+before_either : (b : Binding) (x : Variable) (n : ℕ) → x.number < n → IsBefore b.term b.variable.number → x ≡ b.variable →
+    (apply_to (as_substitution (b ∷ [])) (variable_term b.variable) ≡ b.term) ⊎ (as_substitution (b ∷ []) ≡ unchanged) →
+    IsBefore (apply_to (as_substitution (b ∷ [])) (variable_term x)) n
+before_either b x n l h same (inl given) =
+    let e : apply_to (as_substitution (b ∷ [])) (variable_term x) ≡ b.term =
+    ap (λ (y : Variable). apply_to (as_substitution (b ∷ [])) (variable_term y)) same ∙ given in
+    let number : x.number ≡ b.variable.number = ap (λ (y : Variable). y.number) same in
+    subst (λ (u : Term). IsBefore u n) (sym e) (before_longer b.term b.variable.number n h (omega arith))
+before_either b x n l h same (inr none) =
+    let e : apply_to (as_substitution (b ∷ [])) (variable_term x) ≡ variable_term x =
+    ap (λ (s : Substitution). apply_to s (variable_term x)) none ∙ term_unchanged (variable_term x) in
+    subst (λ (u : Term). IsBefore u n) (sym e) (before_own x.sort x.number n l)
+
+before_variable : (b : Binding) (x : Variable) (n : ℕ) → x.number < n → IsBefore b.term b.variable.number → IsBefore (apply_to (as_substitution (b ∷ [])) (variable_term x)) n
 before_variable b x n l h =
-    elim (is_variable_tells x (variable_of b)) [
-      | inl p ↦
-          let e : apply_to_atom (as_substitution (b ∷ [])) (atom_of_variable x) ≡ b.term =
-          ap (λ (y : Variable). apply_to_atom (as_substitution (b ∷ [])) (atom_of_variable y)) p.1 ∙ bound b unchanged in
-          let number : x.number ≡ b.number = ap (λ (y : Variable). y.number) p.1 in
-          subst (λ (u : AtomTerm). IsBefore u n) (sym e) (before_longer b.term b.number n h (omega arith))
-      | inr p ↦ subst (λ (u : AtomTerm). IsBefore u n) (sym (leaves_other b x p.1)) (before_own x.sort x.number n l)
+    elim (is_variable_tells x b.variable) [
+      | inl p ↦ before_either b x n l h p.1 (bound_or_left b unchanged)
+      | inr p ↦ subst (λ (u : Term). IsBefore u n) (sym (ap atom_term (leaves_other b x p.1))) (before_own x.sort x.number n l)
     ]
 
-before_moved : (b : Binding) (u : AtomTerm) (n : ℕ) → IsBefore u n → IsBefore b.term b.number → IsBefore (apply_to_atom (as_substitution (b ∷ [])) u) n
-before_moved b (text_variable m) n l h = before_variable b (record { sort = text_sort; number = m }) n l h
-before_moved b (datum_variable m) n l h = before_variable b (record { sort = datum_sort; number = m }) n l h
-before_moved b (name_variable m) n l h = before_variable b (record { sort = name_sort; number = m }) n l h
-before_moved b (key_term (symmetric_term (skey_variable m))) n l h = before_variable b (record { sort = skey_sort; number = m }) n l h
-before_moved b (key_term (symmetric_term (ltk_term a c))) n l h = tt
-before_moved b (key_term (asymmetric_term flag (akey_variable m))) n l h = before_variable b (record { sort = akey_sort; number = m }) n l h
-before_moved b (key_term (asymmetric_term flag (pubk_term p a))) n l h = tt
+before_moved : (b : Binding) (u : Term) (n : ℕ) → IsBefore u n → IsBefore b.term b.variable.number → IsBefore (apply_to (as_substitution (b ∷ [])) u) n
+before_moved b (atom_term (text_variable m)) n l h = before_variable b (record { sort = text_sort; number = m }) n l h
+before_moved b (atom_term (datum_variable m)) n l h = before_variable b (record { sort = datum_sort; number = m }) n l h
+before_moved b (atom_term (name_variable m)) n l h = before_variable b (record { sort = name_sort; number = m }) n l h
+before_moved b (atom_term (key_term (symmetric_term (skey_variable m)))) n l h = before_variable b (record { sort = skey_sort; number = m }) n l h
+before_moved b (atom_term (key_term (symmetric_term (ltk_term a c)))) n l h = tt
+before_moved b (atom_term (key_term (asymmetric_term flag (akey_variable m)))) n l h = before_variable b (record { sort = akey_sort; number = m }) n l h
+before_moved b (atom_term (key_term (asymmetric_term flag (pubk_term p a)))) n l h = tt
+before_moved b (tag_term bytes) n l h = tt
+before_moved b (pair_term a c) n l h = tt
+before_moved b (enc_term a k) n l h = tt
 
-joined_before : (r : List Binding) (b : Binding) → AreLaterToEarlier r → IsBefore b.term b.number → AreLaterToEarlier (joined_bindings r (b ∷ []))
+joined_before : (r : List Binding) (b : Binding) → AreLaterToEarlier r → IsBefore b.term b.variable.number → AreLaterToEarlier (joined_bindings r (b ∷ []))
 joined_before [] b h k = (k, tt)
-joined_before (c ∷ cs) b h k = (before_moved b c.term c.number h.0 k, joined_before cs b h.1 k)
+joined_before (c ∷ cs) b h k = (before_moved b c.term c.variable.number h.0 k, joined_before cs b h.1 k)
 
 -- How far the loop has come: from the equation of a0 and b0 beside the bindings r0 to that of a and b beside r, which
 -- leaves a and b.
@@ -158,11 +174,11 @@ reduced_further a0 b0 r0 a b r x h n =
     let left_alone : (y : Variable) → IsIn y (variables_of a ++ variables_of b) → Leaves (as_substitution r) y = leaves_of_both r a b h.leaves_left h.leaves_right in
     let both : AreVariablesAmong (variables_of a ++ variables_of b) zs = among_append (variables_of a) (variables_of b) zs h.left_within h.right_within in
     let of_x : AreVariablesAmong (variables_of_bindings q) zs =
-    among_cons (variable_of x) _ zs (both _ n.left) (among_append (variables_of_atom x.term) [] zs (λ y i. both y (n.right y i)) (λ y i. absurd (not_in_none i))) in
+    among_cons x.variable _ zs (both _ n.left) (among_append (variables_of x.term) [] zs (λ y i. both y (n.right y i)) (λ y i. absurd (not_in_none i))) in
     let met : AlwaysMet (joined_bindings r q) =
-    always_met_joined r x h.solved.met (ap atom_term (left_alone (variable_of x) n.left))
-    (ap atom_term (leaves_atom (as_substitution r) x.term (λ y i. left_alone y (n.right y i))))
-    (ap atom_term (bound x unchanged)) (ap atom_term (leaves_absent x x.term n.absent)) in
+    always_met_joined r x h.solved.met (ap atom_term (left_alone x.variable n.left))
+    (leaves_term (as_substitution r) x.term (λ y i. left_alone y (n.right y i)))
+    (bound x unchanged n.sorted) (leaves_absent x x.term n.absent) in
     record {
       solved = record { met = met; later_to_earlier = joined_before r x h.solved.later_to_earlier n.before };
       sound = λ g m e.
@@ -191,26 +207,26 @@ reduced_to_same a0 b0 r0 a b r h e = record {
 abbrev pub unbound : List Variable → Term → Term → ℕ
 unbound zs a b = count (occurs (variables_of a ++ variables_of b)) zs
 
-one_of : (s : Sort) (n : ℕ) (y : Variable) → (let x : Variable = record { sort = s; number = n } in IsIn y (variables_of_atom (atom_of_variable x)) → y ≡ x)
+one_of : (s : Sort) (n : ℕ) (y : Variable) → (let x : Variable = record { sort = s; number = n } in IsIn y (variables_of (variable_term x)) → y ≡ x)
 one_of text_sort n y i = only_item i
 one_of datum_sort n y i = only_item i
 one_of name_sort n y i = only_item i
 one_of skey_sort n y i = only_item i
 one_of akey_sort n y i = only_item i
 
-gone_one : (x : Binding) → (IsIn (variable_of x) (variables_of_atom x.term) → ⊥) → (z y : Variable) →
-    IsIn y (variables_of (apply_to (as_substitution (x ∷ [])) (variable_term z))) → y ≡ variable_of x → ⊥
-gone_one x absent z y i e =
-    elim (is_variable_tells z (variable_of x)) [
+gone_one : (x : Binding) → HasItsSort x → (IsIn x.variable (variables_of x.term) → ⊥) → (z y : Variable) →
+    IsIn y (variables_of (apply_to (as_substitution (x ∷ [])) (variable_term z))) → y ≡ x.variable → ⊥
+gone_one x sorted absent z y i e =
+    elim (is_variable_tells z x.variable) [
       | inl p ↦
-          let f : apply_to_atom (as_substitution (x ∷ [])) (atom_of_variable z) ≡ x.term =
-          ap (λ (v : Variable). apply_to_atom (as_substitution (x ∷ [])) (atom_of_variable v)) p.1 ∙ bound x unchanged in
-          absent (subst (λ (v : Variable). IsIn v (variables_of_atom x.term)) e (subst (λ (u : AtomTerm). IsIn y (variables_of_atom u)) f i))
+          let f : apply_to (as_substitution (x ∷ [])) (variable_term z) ≡ x.term =
+          ap (λ (v : Variable). apply_to (as_substitution (x ∷ [])) (variable_term v)) p.1 ∙ bound x unchanged sorted in
+          absent (subst (λ (v : Variable). IsIn v (variables_of x.term)) e (subst (λ (u : Term). IsIn y (variables_of u)) f i))
       | inr p ↦ p.1 (sym (one_of z.sort z.number y (subst (λ (u : AtomTerm). IsIn y (variables_of_atom u)) (leaves_other x z p.1) i)) ∙ e)
     ]
 
-gone_from : (x : Binding) (t : Term) → (IsIn (variable_of x) (variables_of_atom x.term) → ⊥) → (y : Variable) → IsIn y (variables_of (apply_to (as_substitution (x ∷ [])) t)) → y ≡ variable_of x → ⊥
-gone_from x t absent = given_term (λ y. y ≡ variable_of x → ⊥) (as_substitution (x ∷ [])) t (λ z i y j. gone_one x absent z y j)
+gone_from : (x : Binding) (t : Term) → HasItsSort x → (IsIn x.variable (variables_of x.term) → ⊥) → (y : Variable) → IsIn y (variables_of (apply_to (as_substitution (x ∷ [])) t)) → y ≡ x.variable → ⊥
+gone_from x t sorted absent = given_term (λ y. y ≡ x.variable → ⊥) (as_substitution (x ∷ [])) t (λ z i y j. gone_one x sorted absent z y j)
 
 occurs_still : (xs ys : List Variable) → AreVariablesAmong ys xs → (x : Variable) → occurs ys x ≡ true → occurs xs x ≡ true
 occurs_still xs ys h x e =
@@ -226,13 +242,13 @@ fewer_unbound zs a b x within n =
     let xs : List Variable = variables_of a ++ variables_of b in
     let ys : List Variable = variables_of (apply_to (as_substitution q) a) ++ variables_of (apply_to (as_substitution q) b) in
     let of_x : AreVariablesAmong (variables_of_bindings q) xs =
-    among_cons (variable_of x) _ xs n.left (among_append (variables_of_atom x.term) [] xs n.right (λ y i. absurd (not_in_none i))) in
+    among_cons x.variable _ xs n.left (among_append (variables_of x.term) [] xs n.right (λ y i. absurd (not_in_none i))) in
     let still : AreVariablesAmong ys xs = among_append _ _ xs (applied_among q xs a of_x (among_left _ _)) (applied_among q xs b of_x (among_right (variables_of a) (variables_of b))) in
-    let gone : IsIn (variable_of x) ys → ⊥ = λ i. elim (in_append _ _ i) [
-      | inl j ↦ gone_from x a n.absent (variable_of x) j refl
-      | inr j ↦ gone_from x b n.absent (variable_of x) j refl
+    let gone : IsIn x.variable ys → ⊥ = λ i. elim (in_append _ _ i) [
+      | inl j ↦ gone_from x a n.sorted n.absent x.variable j refl
+      | inr j ↦ gone_from x b n.sorted n.absent x.variable j refl
     ] in
-    fewer (occurs xs) (occurs ys) (variable_of x) zs (occurs_still xs ys still) (within _ n.left) (occurs_in xs (variable_of x) n.left) (occurs_not ys (variable_of x) gone)
+    fewer (occurs xs) (occurs ys) x.variable zs (occurs_still xs ys still) (within _ n.left) (occurs_in xs x.variable n.left) (occurs_not ys x.variable gone)
 
 -- What each difference of the terms so far tells.
 pub same_found : (a b : Term) → Same ≡ difference_of a b → a ≡ b

@@ -1,14 +1,17 @@
 -- The variables of terms under substitutions.
-use Rattle.std.proofs.Common.{◌≡◌, ◌⊎◌, inl, inr, ℕ, Bool, true, false, if◌then◌else◌, ◌==◌, List, [], ◌∷◌, refl, sym, ap, ap₂, ◌∙◌, subst}
-use Rattle.std.proofs.lemmas.Bool.{eqb-true, eq-eqb, cond-false, cond-true, false_from_ne_true}
+use Rattle.std.proofs.Common.{◌≡◌, ◌⊎◌, inl, inr, ℕ, Bool, true, false, List, [], ◌∷◌, refl, sym, ap, ap₂, ◌∙◌, subst}
 use Rattle.cp_lists.specs.Lists.{IsIn, here, there}
-use Rattle.cp_model.specs.Term.{SymmetricTerm, skey_variable, ltk_term, PairTerm, akey_variable, pubk_term, symmetric_term, asymmetric_term, AtomTerm, text_variable, datum_variable, name_variable, key_term, Term, tag_term, atom_term, pair_term, enc_term, atom_of_variable, variables_of_key, variables_of_atom, variables_of, flag_of, Substitution, apply_to_key, apply_to_atom, apply_to}
+use Rattle.cp_model.specs.Term.{SymmetricTerm, skey_variable, ltk_term, PairTerm, akey_variable, pubk_term, symmetric_term, asymmetric_term, AtomTerm, text_variable, datum_variable, name_variable, key_term, Term, tag_term, atom_term, pair_term, enc_term, atom_of_variable, variable_term, variables_of_key, variables_of_atom, variables_of, flag_of, Substitution, apply_to_key, apply_to_atom, apply_to}
 use Rattle.cp_model.specs.declared.sort.Sort.{Sort}
 use Rattle.cp_model.specs.declared.sort.Sort.TheVariants.{Text as text_sort, Datum as datum_sort, Name as name_sort, Skey as skey_sort, Akey as akey_sort}
 use Rattle.cp_model.specs.declared.variable.Variable.{Variable}
 use Rattle.cp_model.specs.Identity.{unchanged}
-use Rattle.cp_model.proofs.LawTerms.{flag_last, atom_unchanged}
-use Rattle.cp_unify.specs.Bindings.{Binding, sort_of, variable_of, put_term, as_substitution}
+use Rattle.cp_model.proofs.LawTerms.{flag_last, term_unchanged}
+use Rattle.cp_model.proofs.OneBinding.{put_here, other_left}
+use Rattle.cp_model.proofs.VariableTerms.{same_atom_terms}
+use Rattle.cp_term.specs.Sorts.{is_of_sort}
+use Rattle.cp_term.specs.Variables.{variable_of_sort}
+use Rattle.cp_unify.specs.Bindings.{Binding, HasItsSort, put_of_sort, put_term, as_substitution}
 use Rattle.cp_unify.proofs.Found.{swap}
 use Rattle.cp_lists.proofs.Members.{in_cases, not_in_none, only_item, in_append_left, in_append_right, in_append}
 
@@ -83,44 +86,76 @@ leaves_atom s (key_term (asymmetric_term flag (pubk_term p a))) h =
     let q = h (record { sort = name_sort; number = a }) here in
     let e0 : s.names a ≡ a = cc in ap (λ (n : ℕ). key_term (asymmetric_term flag (pubk_term p n))) e0
 
--- One binding gives its variable its term, and leaves the other variables.
-put_here : {A : Type 0} (n : ℕ) (v w : A) → (if n == n then v else w) ≡ v
-put_here n v w = cond-true (n == n) v w (eq-eqb n n refl)
+pub leaves_term : (s : Substitution) (t : Term) → ((x : Variable) → IsIn x (variables_of t) → Leaves s x) → apply_to s t ≡ t
+leaves_term s (tag_term bytes) h = refl
+leaves_term s (atom_term u) h = ap atom_term (leaves_atom s u h)
+leaves_term s (pair_term a b) h =
+    ap₂ pair_term (leaves_term s a (λ x i. h x (in_append_left (variables_of b) i))) (leaves_term s b (λ x i. h x (in_append_right (variables_of a) i)))
+leaves_term s (enc_term a k) h =
+    let e : key_term (apply_to_key s k) ≡ key_term k = leaves_atom s (key_term k) (λ x i. h x (in_append_right (variables_of a) i)) in
+    let e' : apply_to_key s k ≡ k = cc in
+    ap₂ enc_term (leaves_term s a (λ x i. h x (in_append_left (variables_of_key k) i))) e'
 
-bound_at : (s : Substitution) (n : ℕ) (u : AtomTerm) → apply_to_atom (put_term n u s) (atom_of_variable (variable_of (record { number = n; term = u }))) ≡ u
-bound_at s n (text_variable m) = ap text_variable (put_here n m (s.texts n))
-bound_at s n (datum_variable m) = ap datum_variable (put_here n m (s.datums n))
-bound_at s n (name_variable m) = ap name_variable (put_here n m (s.names n))
-bound_at s n (key_term (symmetric_term k)) = ap (λ (j : SymmetricTerm). key_term (symmetric_term j)) (put_here n k (s.skeys n))
-bound_at s n (key_term (asymmetric_term flag k)) = ap (λ (h : Bool × PairTerm). key_term (asymmetric_term h.0 h.1)) (put_here n (flag, k) (s.akeys n))
+-- A variable has its own sort as a term, and so has what a substitution gives it.
+pub variable_has_sort : (k : Sort) (n : ℕ) → is_of_sort k (variable_of_sort k n) ≡ true
+variable_has_sort text_sort n = refl
+variable_has_sort datum_sort n = refl
+variable_has_sort name_sort n = refl
+variable_has_sort skey_sort n = refl
+variable_has_sort akey_sort n = refl
 
-pub bound : (b : Binding) (s : Substitution) → apply_to_atom (put_term b.number b.term s) (atom_of_variable (variable_of b)) ≡ b.term
-bound b s = bound_at s b.number b.term
+pub sorted_variable : (k : Sort) (n : ℕ) (t : Term) → t ≡ variable_of_sort k n → is_of_sort k t ≡ true
+sorted_variable k n t e = ap (is_of_sort k) e ∙ variable_has_sort k n
 
-put_other : {A : Type 0} (s : Sort) (m n : ℕ) (v w : A) → ((let x : Variable = record { sort = s; number = m } in x) ≡ record { sort = s; number = n } → ⊥) → (if m == n then v else w) ≡ w
-put_other s m n v w h = cond-false (m == n) v w (false_from_ne_true (m == n) (λ e. h (ap (λ (k : ℕ). let x : Variable = record { sort = s; number = k } in x) (eqb-true m n e))))
+pub sort_matches : (s : Substitution) (k : Sort) (n : ℕ) → is_of_sort k (apply_to s (variable_of_sort k n)) ≡ true
+sort_matches s text_sort n = refl
+sort_matches s datum_sort n = refl
+sort_matches s name_sort n = refl
+sort_matches s skey_sort n = refl
+sort_matches s akey_sort n = refl
 
-other_at : (s : Substitution) (k : Sort) (m n : ℕ) (u : AtomTerm) → ((let x : Variable = record { sort = k; number = m } in x) ≡ record { sort = sort_of u; number = n } → ⊥) →
-    apply_to_atom (put_term n u s) (atom_of_variable (record { sort = k; number = m })) ≡ apply_to_atom s (atom_of_variable (record { sort = k; number = m }))
-other_at s text_sort m n (text_variable k) h = ap text_variable (put_other text_sort m n k (s.texts m) h)
-other_at s datum_sort m n (datum_variable k) h = ap datum_variable (put_other datum_sort m n k (s.datums m) h)
-other_at s name_sort m n (name_variable k) h = ap name_variable (put_other name_sort m n k (s.names m) h)
-other_at s skey_sort m n (key_term (symmetric_term k)) h = ap (λ (j : SymmetricTerm). key_term (symmetric_term j)) (put_other skey_sort m n k (s.skeys m) h)
-other_at s akey_sort m n (key_term (asymmetric_term flag k)) h =
-    ap (λ (j : Bool × PairTerm). key_term (asymmetric_term j.0 j.1)) (put_other akey_sort m n (flag, k) (s.akeys m) h)
-other_at s _ m n (key_term (symmetric_term k)) h = refl
-other_at s _ m n (key_term (asymmetric_term flag k)) h = refl
-other_at s _ m n _ h = refl
+-- One binding gives its variable its term, if that has the variable's sort, and leaves the other variables.
+bound_of_sort : (k : Sort) (n : ℕ) (t : Term) (s : Substitution) → is_of_sort k t ≡ true → apply_to (put_of_sort k n t s) (variable_of_sort k n) ≡ t
+bound_of_sort text_sort n (atom_term (text_variable m)) s h = ap (λ (j : ℕ). atom_term (text_variable j)) (put_here n m (s.texts n))
+bound_of_sort datum_sort n (atom_term (datum_variable m)) s h = ap (λ (j : ℕ). atom_term (datum_variable j)) (put_here n m (s.datums n))
+bound_of_sort name_sort n (atom_term (name_variable m)) s h = ap (λ (j : ℕ). atom_term (name_variable j)) (put_here n m (s.names n))
+bound_of_sort skey_sort n (atom_term (key_term (symmetric_term k))) s h = ap (λ (j : SymmetricTerm). atom_term (key_term (symmetric_term j))) (put_here n k (s.skeys n))
+bound_of_sort akey_sort n (atom_term (key_term (asymmetric_term flag k))) s h =
+    ap (λ (j : Bool × PairTerm). atom_term (key_term (asymmetric_term j.0 j.1))) (put_here n (flag, k) (s.akeys n))
+bound_of_sort skey_sort n (atom_term (key_term (asymmetric_term flag k))) s h = absurd (let f : false ≡ true = h in cc)
+bound_of_sort akey_sort n (atom_term (key_term (symmetric_term k))) s h = absurd (let f : false ≡ true = h in cc)
+bound_of_sort _ n _ s h = absurd (let f : false ≡ true = h in cc)
 
-pub other : (b : Binding) (s : Substitution) (x : Variable) → (x ≡ variable_of b → ⊥) →
-    apply_to_atom (put_term b.number b.term s) (atom_of_variable x) ≡ apply_to_atom s (atom_of_variable x)
-other b s x h = other_at s x.sort x.number b.number b.term h
+pub bound : (b : Binding) (s : Substitution) → HasItsSort b → apply_to (put_term b.variable b.term s) (variable_term b.variable) ≡ b.term
+bound b s h = bound_of_sort b.variable.sort b.variable.number b.term s h
 
-pub leaves_other : (b : Binding) (x : Variable) → (x ≡ variable_of b → ⊥) → Leaves (as_substitution (b ∷ [])) x
-leaves_other b x h = other b unchanged x h ∙ atom_unchanged (atom_of_variable x)
+left_of_sort : (k : Sort) (n : ℕ) (t : Term) (s : Substitution) → is_of_sort k t ≡ false → put_of_sort k n t s ≡ s
+left_of_sort text_sort n (atom_term (text_variable m)) s h = absurd (let f : true ≡ false = h in cc)
+left_of_sort datum_sort n (atom_term (datum_variable m)) s h = absurd (let f : true ≡ false = h in cc)
+left_of_sort name_sort n (atom_term (name_variable m)) s h = absurd (let f : true ≡ false = h in cc)
+left_of_sort skey_sort n (atom_term (key_term (symmetric_term k))) s h = absurd (let f : true ≡ false = h in cc)
+left_of_sort akey_sort n (atom_term (key_term (asymmetric_term flag k))) s h = absurd (let f : true ≡ false = h in cc)
+left_of_sort skey_sort n (atom_term (key_term (asymmetric_term flag k))) s h = refl
+left_of_sort akey_sort n (atom_term (key_term (symmetric_term k))) s h = refl
+left_of_sort _ n _ s h = refl
 
-pub leaves_absent : (b : Binding) (u : AtomTerm) → (IsIn (variable_of b) (variables_of_atom u) → ⊥) → apply_to_atom (as_substitution (b ∷ [])) u ≡ u
-leaves_absent b u h = leaves_atom (as_substitution (b ∷ [])) u (λ x i. leaves_other b x (λ e. h (subst (λ (y : Variable). IsIn y (variables_of_atom u)) e i)))
+-- A binding of any sort gives its variable its term, or changes nothing.
+pub bound_or_left : (b : Binding) (s : Substitution) → (apply_to (put_term b.variable b.term s) (variable_term b.variable) ≡ b.term) ⊎ (put_term b.variable b.term s ≡ s)
+bound_or_left b s = choose (is_of_sort b.variable.sort b.term) refl
+  where
+    choose : (c : Bool) → is_of_sort b.variable.sort b.term ≡ c → (apply_to (put_term b.variable b.term s) (variable_term b.variable) ≡ b.term) ⊎ (put_term b.variable b.term s ≡ s)
+    choose true e = inl (bound b s e)
+    choose false e = inr (left_of_sort b.variable.sort b.variable.number b.term s e)
+
+pub other : (b : Binding) (s : Substitution) (x : Variable) → (x ≡ b.variable → ⊥) →
+    apply_to (put_term b.variable b.term s) (variable_term x) ≡ apply_to s (variable_term x)
+other b s x h = other_left s x b.variable b.term h
+
+pub leaves_other : (b : Binding) (x : Variable) → (x ≡ b.variable → ⊥) → Leaves (as_substitution (b ∷ [])) x
+leaves_other b x h = same_atom_terms (other b unchanged x h ∙ term_unchanged (variable_term x))
+
+pub leaves_absent : (b : Binding) (t : Term) → (IsIn b.variable (variables_of t) → ⊥) → apply_to (as_substitution (b ∷ [])) t ≡ t
+leaves_absent b t h = leaves_term (as_substitution (b ∷ [])) t (λ x i. leaves_other b x (λ e. h (subst (λ (y : Variable). IsIn y (variables_of t)) e i)))
 
 -- The variables of a term under a substitution are those of what it gives to the term's variables.
 module _ (P : Variable → Type 0) (s : Substitution) where

@@ -1,13 +1,13 @@
 -- Bindings that make a pattern a term, beside some that there are already. The variables of the pattern stand apart from
 -- those of the term, also where they have the same numbers.
 use Rattle.std.specs.Prelude.{◌≡◌, List, [], ◌∷◌}
-use Rattle.cp_model.specs.Term.{Term, atom_term, variable_term, Substitution, apply_to}
-use Rattle.cp_unify.specs.Bindings.{Binding, variable_of, as_substitution}
+use Rattle.cp_model.specs.Term.{Term, variable_term, Substitution, apply_to}
+use Rattle.cp_unify.specs.Bindings.{Binding, as_substitution}
 
 -- The substitution gives each variable of the bindings its term.
 abbrev pub Agrees : Substitution → List Binding → Type 0
 Agrees s [] = Unit {0}
-Agrees s (b ∷ bs) = (apply_to s (variable_term (variable_of b)) ≡ atom_term b.term) × Agrees s bs
+Agrees s (b ∷ bs) = (apply_to s (variable_term b.variable) ≡ b.term) × Agrees s bs
 
 -- Of the substitutions that agree with the bindings r, those that make the pattern the term are those that agree with q, and
 -- all that agree with q are among them; and where r, as a substitution, agrees with itself, so does q.

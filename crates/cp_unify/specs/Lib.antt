@@ -1,4 +1,3 @@
-pub mod Atoms
 pub mod Beside
 pub mod Bindings
 pub mod Differences

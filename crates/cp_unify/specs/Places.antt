@@ -5,7 +5,7 @@ use Rattle.cp_unify.specs.Bindings.{Binding}
 -- All bindings but the last of this count are of other numbers than n.
 abbrev pub BeginAt : ℕ → ℕ → List Binding → Type 0
 BeginAt n count [] = count ≡ 0
-BeginAt n count (b ∷ bs) = (count ≡ suc (length bs)) ⊎ ((b.number ≡ n → ⊥) × BeginAt n count bs)
+BeginAt n count (b ∷ bs) = (count ≡ suc (length bs)) ⊎ ((b.variable.number ≡ n → ⊥) × BeginAt n count bs)
 
 -- The table has such a count for each number; a number past its end has 0.
 abbrev pub ArePlaces : List ℕ → List Binding → Type 0
@@ -19,4 +19,4 @@ ArePlacesIfAny (count ∷ counts) bs = ArePlaces (count ∷ counts) bs
 -- The rest is what is left of the bindings behind some of other numbers than n.
 abbrev pub IsRestAfter : ℕ → List Binding → List Binding → Type 0
 IsRestAfter n rest [] = rest ≡ []
-IsRestAfter n rest (b ∷ bs) = (rest ≡ b ∷ bs) ⊎ ((b.number ≡ n → ⊥) × IsRestAfter n rest bs)
+IsRestAfter n rest (b ∷ bs) = (rest ≡ b ∷ bs) ⊎ ((b.variable.number ≡ n → ⊥) × IsRestAfter n rest bs)

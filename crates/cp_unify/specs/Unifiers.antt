@@ -1,9 +1,9 @@
 -- Most general unifiers.
 use Rattle.std.specs.Prelude.{◌≡◌, ◌<◌, ℕ, List, [], ◌∷◌, ◌++◌}
 use Rattle.cp_lists.specs.Lists.{IsIn}
-use Rattle.cp_model.specs.Term.{SymmetricTerm, skey_variable, ltk_term, PairTerm, akey_variable, pubk_term, KeyTerm, symmetric_term, asymmetric_term, AtomTerm, text_variable, datum_variable, name_variable, key_term, Term, atom_term, variable_term, variables_of, Assignment, value_of, Substitution, apply_to}
+use Rattle.cp_model.specs.Term.{SymmetricTerm, skey_variable, ltk_term, PairTerm, akey_variable, pubk_term, KeyTerm, symmetric_term, asymmetric_term, AtomTerm, text_variable, datum_variable, name_variable, key_term, Term, tag_term, atom_term, pair_term, enc_term, variable_term, variables_of, Assignment, value_of, Substitution, apply_to}
 use Rattle.cp_model.specs.declared.variable.Variable.{Variable}
-use Rattle.cp_unify.specs.Bindings.{Binding, variable_of, Meets, as_substitution, variables_of_bindings}
+use Rattle.cp_unify.specs.Bindings.{Binding, Meets, as_substitution, variables_of_bindings}
 
 -- The symmetric key, where it is a variable, is one with a smaller number than x, so one that was made before.
 abbrev pub IsBeforeSymmetric : SymmetricTerm → ℕ → Type 0
@@ -20,17 +20,24 @@ abbrev pub IsBeforeKey : KeyTerm → ℕ → Type 0
 IsBeforeKey (symmetric_term k) x = IsBeforeSymmetric k x
 IsBeforeKey (asymmetric_term flag k) x = IsBeforePair k x
 
+-- The term of an atom sort, where it is a variable or the inverse of one, is of one with a smaller number than x.
+abbrev pub IsBeforeAtom : AtomTerm → ℕ → Type 0
+IsBeforeAtom (text_variable n) x = n < x
+IsBeforeAtom (datum_variable n) x = n < x
+IsBeforeAtom (name_variable n) x = n < x
+IsBeforeAtom (key_term k) x = IsBeforeKey k x
+
 -- The term, where it is a variable or the inverse of one, is of one with a smaller number than x.
-abbrev pub IsBefore : AtomTerm → ℕ → Type 0
-IsBefore (text_variable n) x = n < x
-IsBefore (datum_variable n) x = n < x
-IsBefore (name_variable n) x = n < x
-IsBefore (key_term k) x = IsBeforeKey k x
+abbrev pub IsBefore : Term → ℕ → Type 0
+IsBefore (atom_term u) x = IsBeforeAtom u x
+IsBefore (tag_term bytes) x = Unit {0}
+IsBefore (pair_term a b) x = Unit {0}
+IsBefore (enc_term a k) x = Unit {0}
 
 -- Each binding is of a later variable to an earlier one, or to the inverse of an earlier one, or to another term.
 abbrev pub AreLaterToEarlier : List Binding → Type 0
 AreLaterToEarlier [] = Unit {0}
-AreLaterToEarlier (b ∷ bs) = IsBefore b.term b.number × AreLaterToEarlier bs
+AreLaterToEarlier (b ∷ bs) = IsBefore b.term b.variable.number × AreLaterToEarlier bs
 
 -- Each of these variables is one of those.
 abbrev pub AreVariablesAmong : List Variable → List Variable → Type 0
@@ -39,7 +46,7 @@ AreVariablesAmong xs ys = (x : Variable) → IsIn x xs → IsIn x ys
 -- The substitution makes both sides of each binding equal.
 abbrev pub Solves : Substitution → List Binding → Type 0
 Solves s [] = Unit {0}
-Solves s (b ∷ bs) = (apply_to s (variable_term (variable_of b)) ≡ apply_to s (atom_term b.term)) × Solves s bs
+Solves s (b ∷ bs) = (apply_to s (variable_term b.variable) ≡ apply_to s b.term) × Solves s bs
 
 -- Some assignment meets the bindings.
 pub record IsSolvable (r : List Binding) : Type 0 where

@@ -1,18 +1,19 @@
 // Bindings of variables to terms.
-ghost use Rattle.std.specs.Prelude.{◌≡◌, ◌↔◌, ℕ, IsTrue, IfOk};
-ghost use Rattle.cp_model.specs.Term.{atom_term, variable_term};
+ghost use Rattle.std.specs.Prelude.{◌≡◌, ◌↔◌, true, IsTrue, IfOk};
+ghost use Rattle.cp_model.specs.Term.{variable_term};
+ghost use Rattle.cp_term.specs.Sorts.{is_of_sort};
 ghost use Rattle.cp_term.specs.Variables.{variable_of_sort};
-ghost use Rattle.cp_unify.specs.Atoms.{IsAtom, atom_of};
-ghost use Rattle.cp_unify.specs.Bindings.{sort_of, variable_of};
+ghost use Rattle.cp_unify.specs.Bindings.{HasItsSort};
 
-use cp_term::{Shape, Sort, Term, VarId, var};
+use cp_model::Variable;
+use cp_term::{Sort, Term, VarId, var};
 use std::alloc::{AllocError, Global};
 use std::marker::Model;
 
-/// A variable and the term that it is bound to, which is of an atom sort. The variable has the sort of the term.
+/// A variable and the term that it is bound to, which has the variable's sort.
 #[derive(Drop)]
 pub struct Binding {
-    variable: VarId,
+    variable: Variable,
     term: Term,
 }
 
@@ -21,61 +22,68 @@ impl Model for Binding {
 
     ghost Value = { Plain };
 
-    ghost use Rattle.cp_unify.specs.Atoms.{IsAtom, atom_of};
+    ghost use Rattle.cp_term.specs.Code.{coded_binding};
 
-    ghost view = { λ b. record { number = b.variable; term = atom_of b.term } };
+    ghost coded = { coded_binding };
 
-    ghost invariant = { λ b. IsAtom b.term };
+    ghost use Rattle.cp_unify.specs.Bindings.{HasItsSort};
+
+    ghost view = { λ b. record { variable = b.variable; term = b.term } };
+
+    ghost invariant = { λ b. HasItsSort (record { variable = b.variable; term = b.term }) };
 }
 
 impl Binding {
-    /// The binding of this variable to the term, which is of an atom sort.
-    pub fn new(variable: VarId, term: Term) -> Binding
-        requires { IsAtom term }
-        ensures { result ≡ record { number = variable; term = atom_of term } }
+    /// The binding of this variable to the term, which must have the variable's sort.
+    pub fn new(variable: Variable, term: Term) -> Binding
+        requires { is_of_sort variable.sort term ≡ true }
+        ensures { result ≡ record { variable = variable; term = term } }
     {
         Binding { variable, term }
     }
 
+    /// The binding of the variable of this sort and number to the term, which must have the sort.
+    pub(crate) fn of(sort: Sort, variable: VarId, term: Term) -> Binding
+        requires { is_of_sort sort term ≡ true }
+        ensures { result ≡ record { variable = record { sort = sort; number = variable }; term = term } }
+    {
+        Binding {
+            variable: Variable {
+                sort,
+                number: variable.number(),
+            },
+            term,
+        }
+    }
+
     /// The variable.
-    pub fn variable(&self) -> VarId
-        ensures { result ≡ self.now.number }
+    pub fn variable(&self) -> Variable
+        ensures { result ≡ self.now.variable }
     {
         self.variable
     }
 
-    /// The term.
+    /// The term. It has the variable's sort.
     pub fn term(&self) -> &Term
-        ensures { result.now ≡ atom_term self.now.term }
+        ensures term { result.now ≡ self.now.term }
+        ensures sort { HasItsSort self.now }
     {
         &self.term
     }
 
-    /// The sort of the variable and of its term.
-    pub fn sort(&self) -> Sort
-        ensures sort { (n : ℕ) → variable_of_sort result n
-            ≡ variable_term (record { sort = sort_of self.now.term; number = n }) }
-    {
-        match self.term.shape() {
-            Shape::Variable(_, sort) => sort,
-            Shape::Inverse(_) | Shape::Pubk(..) => Sort::Akey,
-            Shape::Ltk(..) => Sort::Skey,
-            _ => unreachable!(),
-        }
-    }
-
     /// Whether this variable of this sort is the one that is bound.
     pub(crate) fn binds(&self, sort: Sort, variable: VarId) -> bool
-        ensures { IsTrue result ↔ (variable_of_sort sort variable ≡ variable_term (variable_of self.now)) }
+        ensures { IsTrue result ↔ (variable_of_sort sort variable ≡ variable_term self.now.variable) }
     {
-        self.variable == variable && self.sort() == sort
+        self.variable.sort == sort && self.variable.number == variable.number()
     }
 
     /// The variable as a term.
     pub(crate) fn left(&self, alloc: Global) -> Result<Term, AllocError>
-        ensures { IfOk result (λ t. t ≡ variable_term (variable_of self.now)) }
+        ensures { IfOk result (λ t. t ≡ variable_term self.now.variable) }
     {
-        var(alloc, self.variable, self.sort())
+        let variable = VarId::numbered(self.variable.number);
+        var(alloc, variable, self.variable.sort)
     }
 
     /// Another handle to the same binding.

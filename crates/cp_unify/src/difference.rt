@@ -2,11 +2,12 @@
 ghost use Rattle.std.specs.Prelude.{◌≡◌, true, nat_eq, IfOk};
 ghost use Rattle.std.specs.Cmp.Lexicographic.{pointwise};
 ghost use Rattle.std.specs.Option.{option_map, option_eq};
-ghost use Rattle.cp_model.specs.Term.{atom_term, akey_variable, pubk_term, symmetric_term, ltk_term, tag_term, asymmetric_term, KeyTerm, key_term, inverse_term};
-ghost use Rattle.cp_term.specs.Keys.{key_as_term, IsKey};
+ghost use Rattle.cp_model.specs.Term.{atom_term, pubk_term, symmetric_term, ltk_term, tag_term, asymmetric_term, KeyTerm, inverse_term};
+ghost use Rattle.cp_model.specs.declared.sort.Sort.TheVariants.{Akey as akey_sort};
+ghost use Rattle.cp_term.specs.Keys.{key_as_term};
 ghost use Rattle.cp_term.specs.Variables.{variable_of_sort};
-ghost use Rattle.cp_unify.specs.Atoms.{IsAtom, atom_of};
-ghost use Rattle.cp_unify.specs.Differences.{akey_atom, between, between_names, between_akeys, between_opposites, difference_of_symmetric, difference_of_pairs, difference_of};
+ghost use Rattle.cp_term.specs.Sorts.{is_of_sort};
+ghost use Rattle.cp_unify.specs.Differences.{akey_atom, binds, between, between_opposites, difference_of_symmetric, difference_of};
 ghost use Rattle.cp_term.specs.Spines.{HasTail};
 
 use crate::binding::Binding;
@@ -23,34 +24,34 @@ pub(crate) enum Difference {
     Bind(Binding),
 }
 
-/// Binds the later of two variables: x to b, or y to a.
-fn bind_later(x: VarId, a: &Term, y: VarId, b: &Term) -> Result<Difference, AllocError>
-    requires first { IsAtom a.now }
-    requires second { IsAtom b.now }
-    ensures { IfOk result (λ d. d ≡ between x (atom_of a.now) y (atom_of b.now)) }
+/// Binds the later of two variables of this sort: x to b, or y to a.
+fn bind_later(sort: Sort, x: VarId, a: &Term, y: VarId, b: &Term) -> Result<Difference, AllocError>
+    requires first { is_of_sort sort a.now ≡ true }
+    requires second { is_of_sort sort b.now ≡ true }
+    ensures { IfOk result (λ d. d ≡ between sort x a.now y b.now) }
 {
     if x == y {
         return Ok(Difference::Same);
     }
     if x.number() < y.number() {
         let term = a.copy()?;
-        Ok(Difference::Bind(Binding::new(y, term)))
+        Ok(Difference::Bind(Binding::of(sort, y, term)))
     } else {
         let term = b.copy()?;
-        Ok(Difference::Bind(Binding::new(x, term)))
+        Ok(Difference::Bind(Binding::of(sort, x, term)))
     }
 }
 
 /// The difference of two variables of this sort that must be equal.
 fn alike_difference(alloc: Global, sort: Sort, x: VarId, y: VarId) -> Result<Difference, AllocError>
-    ensures { IfOk result (λ d. d ≡ between x (atom_of (variable_of_sort sort x)) y (atom_of (variable_of_sort sort y))) }
+    ensures { IfOk result (λ d. d ≡ between sort x (variable_of_sort sort x) y (variable_of_sort sort y)) }
 {
     if x == y {
         return Ok(Difference::Same);
     }
     let a = var(alloc, x, sort)?;
     let b = var(alloc, y, sort)?;
-    bind_later(x, &a, y, &b)
+    bind_later(sort, x, &a, y, &b)
 }
 
 /// The inverse of a variable of sort akey.
@@ -71,7 +72,7 @@ fn opposite_difference(alloc: Global, x: VarId, y: VarId) -> Result<Difference, 
     }
     let a = inverse_of(alloc, x)?;
     let b = inverse_of(alloc, y)?;
-    bind_later(x, &a, y, &b)
+    bind_later(Sort::Akey, x, &a, y, &b)
 }
 
 fn two_names_difference(
@@ -99,23 +100,22 @@ pub(crate) fn is_same_purpose(p: Option<&str>, q: Option<&str>) -> bool
     }
 }
 
-/// A variable bound to a term.
-fn bind(x: VarId, term: &Term) -> Result<Difference, AllocError>
-    requires { IsAtom term.now }
-    ensures { IfOk result (λ d. d ≡ Difference.Bind (record { number = x; term = atom_of term.now })) }
+/// A variable of this sort bound to a term.
+fn bind(sort: Sort, x: VarId, term: &Term) -> Result<Difference, AllocError>
+    requires { is_of_sort sort term.now ≡ true }
+    ensures { IfOk result (λ d. d ≡ binds sort x term.now) }
 {
     let copy = term.copy()?;
-    Ok(Difference::Bind(Binding::new(x, copy)))
+    Ok(Difference::Bind(Binding::of(sort, x, copy)))
 }
 
 /// Binds a variable of sort akey whose inverse must be a key of a name.
 fn bind_inverse(alloc: Global, x: VarId, key: &Term) -> Result<Difference, AllocError>
-    requires { IsKey key.now }
-    ensures { IfOk result (λ d. (k : KeyTerm) → key.now ≡ key_as_term k
-        → d ≡ Difference.Bind (record { number = x; term = key_term (inverse_term k) })) }
+    requires { is_of_sort akey_sort key.now ≡ true }
+    ensures { IfOk result (λ d. (k : KeyTerm) → key.now ≡ key_as_term k → d ≡ binds akey_sort x (key_as_term (inverse_term k))) }
 {
     let inverse = invert(alloc, key)?;
-    Ok(Difference::Bind(Binding::new(x, inverse)))
+    Ok(Difference::Bind(Binding::of(Sort::Akey, x, inverse)))
 }
 
 /// The difference of a tag and a term.
@@ -148,7 +148,7 @@ fn variable_difference(
     match b.shape() {
         Shape::Variable(y, other) => {
             if sort == other {
-                bind_later(x, a, y, b)
+                bind_later(sort, x, a, y, b)
             } else {
                 Ok(Difference::Clash)
             }
@@ -162,14 +162,14 @@ fn variable_difference(
         }
         Shape::Ltk(..) => {
             if sort == Sort::Skey {
-                bind(x, b)
+                bind(sort, x, b)
             } else {
                 Ok(Difference::Clash)
             }
         }
         Shape::Pubk(..) => {
             if sort == Sort::Akey {
-                bind(x, b)
+                bind(sort, x, b)
             } else {
                 Ok(Difference::Clash)
             }
@@ -210,7 +210,7 @@ fn ltk_difference(
     match b.shape() {
         Shape::Variable(y, sort) => {
             if sort == Sort::Skey {
-                bind(y, a)
+                bind(sort, y, a)
             } else {
                 Ok(Difference::Clash)
             }
@@ -235,7 +235,7 @@ fn pubk_difference(
     match b.shape() {
         Shape::Variable(y, sort) => {
             if sort == Sort::Akey {
-                bind(y, a)
+                bind(sort, y, a)
             } else {
                 Ok(Difference::Clash)
             }

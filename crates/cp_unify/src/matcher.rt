@@ -1,11 +1,10 @@
 // Matching: values of local variables that make a pattern a term.
 ghost use Rattle.std.specs.Prelude.{◌≡◌, ◌↔◌, ◌==◌, [], true, IsTrue, IfSome, IfNone, IfOk};
 ghost use Rattle.std.specs.Option.{option_map};
-ghost use Rattle.cp_model.specs.Term.{AtomTerm, atom_term, ltk_term, pubk_term, symmetric_term, asymmetric_term, tag_term, variables_of};
+ghost use Rattle.cp_model.specs.Term.{atom_term, ltk_term, pubk_term, symmetric_term, asymmetric_term, tag_term, variables_of};
 ghost use Rattle.cp_term.specs.Keys.{key_as_term};
-ghost use Rattle.cp_model.specs.Same.{same_atom};
+ghost use Rattle.cp_model.specs.Same.{same_term};
 ghost use Rattle.cp_term.specs.Variables.{variable_of_sort};
-ghost use Rattle.cp_unify.specs.Atoms.{IsAtom, atom_of};
 ghost use Rattle.cp_unify.specs.Differences.{akey_atom};
 ghost use Rattle.cp_unify.specs.Beside.{MatchesBeside, NeverMatchesBeside};
 ghost use Rattle.cp_unify.specs.Matched.{is_listed, bound_term, matched, matched_names};
@@ -48,8 +47,7 @@ pub(crate) fn is_variable(term: &Term, sort: Sort, variable: VarId) -> bool
 
 /// Whether a variable of this sort is bound to the term, if it is bound.
 pub(crate) fn is_bound_to(given: &Subst, sort: Sort, variable: VarId, term: &Term) -> Option<bool>
-    requires { IsAtom term.now }
-    ensures { result ≡ option_map (λ t. same_atom t (atom_of term.now))
+    ensures { result ≡ option_map (λ t. same_term t term.now)
         (bound_term given.now (variable_of_sort sort variable)) }
 {
     match given.bound(sort, variable) {
@@ -83,7 +81,7 @@ fn variable_match(
         Some(false) => Ok(None),
         None => {
             let copy = term.copy()?;
-            let more = given.with(Binding::new(variable, copy))?;
+            let more = given.with(Binding::of(sort, variable, copy))?;
             Ok(Some(more))
         }
     }

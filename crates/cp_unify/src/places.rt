@@ -42,7 +42,7 @@ fn places_of(alloc: Global, bindings: &[Binding]) -> Result<Vec<usize>, AllocErr
     let mut start = bindings.len();
     while start > 0 {
         start -= 1;
-        let number = bindings[start].variable().number();
+        let number = bindings[start].variable().number;
         put(&mut places, number, bindings.len() - start)?;
     }
     Ok(places)
@@ -57,7 +57,7 @@ fn is_worth(number: usize, count: usize) -> bool {
 fn greatest(bindings: &[Binding]) -> usize {
     let mut greatest = 0;
     for binding in bindings {
-        greatest = greatest.max(binding.variable().number());
+        greatest = greatest.max(binding.variable().number);
     }
     greatest
 }
@@ -80,7 +80,7 @@ pub(crate) fn places_with(
     bindings: &[Binding],
     number: usize,
 ) -> Result<Vec<usize>, AllocError>
-    ensures { IfOk result (λ found. (b : Plain) (bs : List Plain) → bindings.now ≡ b ∷ bs → number ≡ b.number
+    ensures { IfOk result (λ found. (b : Plain) (bs : List Plain) → bindings.now ≡ b ∷ bs → number ≡ b.variable.number
         → ArePlacesIfAny places.items bs → ArePlacesIfAny found.items bindings.now) }
 {
     if places.is_empty() {

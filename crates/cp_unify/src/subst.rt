@@ -34,6 +34,11 @@ impl Model for Subst {
 
     ghost Value = { List Plain };
 
+    ghost use Rattle.std.specs.Coded.{coded_list};
+    ghost use Rattle.cp_term.specs.Code.{coded_binding};
+
+    ghost coded = { coded_list coded_binding };
+
     ghost view = { λ s. s.bindings.items };
 
     ghost use Rattle.std.specs.Prelude.{◌≡◌, true};
@@ -95,7 +100,7 @@ impl Subst {
     pub fn with(self, binding: Binding) -> Result<Subst, AllocError>
         ensures { IfOk result (λ s. s ≡ binding ∷ self) }
     {
-        let number = binding.variable().number();
+        let number = binding.variable().number;
         let Subst {
             mut bindings,
             is_solved: _,

@@ -1,7 +1,7 @@
 // Terms under substitutions. Unchanged parts are shared.
 ghost use Rattle.std.specs.Prelude.{◌≡◌, MatchOption, IfOk};
 ghost use Rattle.std.specs.Option.{option_map};
-ghost use Rattle.cp_model.specs.Term.{Assignment, after, apply_to, value_of, atom_term};
+ghost use Rattle.cp_model.specs.Term.{Assignment, after, apply_to, value_of};
 ghost use Rattle.cp_term.specs.Variables.{variable_of_sort};
 ghost use Rattle.cp_unify.specs.Bindings.{as_substitution};
 ghost use Rattle.cp_unify.specs.Matched.{bound_term};
@@ -17,7 +17,7 @@ fn first_bound<'a>(bindings: &'a [Binding], sort: Sort, variable: VarId) -> Opti
         (apply_to (as_substitution bindings.now) (variable_of_sort sort variable) ≡ variable_of_sort sort variable)
         (λ t. apply_to (as_substitution bindings.now) (variable_of_sort sort variable) ≡ t.now) }
     ensures exact { option_map (λ t. t.now) result
-        ≡ option_map (λ u. atom_term u) (bound_term bindings.now (variable_of_sort sort variable)) }
+        ≡ bound_term bindings.now (variable_of_sort sort variable) }
 {
     for binding in bindings {
         if binding.binds(sort, variable) {
@@ -34,7 +34,7 @@ impl Subst {
             (apply_to (as_substitution self.now) (variable_of_sort sort variable) ≡ variable_of_sort sort variable)
             (λ t. apply_to (as_substitution self.now) (variable_of_sort sort variable) ≡ t.now) }
         ensures exact { option_map (λ t. t.now) result
-            ≡ option_map (λ u. atom_term u) (bound_term self.now (variable_of_sort sort variable)) }
+            ≡ bound_term self.now (variable_of_sort sort variable) }
     {
         first_bound(self.from_number(variable.number()), sort, variable)
     }

@@ -1,16 +1,16 @@
 // The input in a report, and the trees that the search makes of its problems.
 use crate::stopped::Stopped;
-use cp_load::load;
+use cp_load::{Entry, load};
 use cp_search::search;
 use cp_sexpr::{Form, write_top};
 use cp_skel::{Limits, Tree};
 use std::alloc::{AllocError, Global};
 
-/// The text of these forms.
-pub(crate) fn written(alloc: Global, forms: &[&Form]) -> Result<Vec<u8>, AllocError> {
+/// The text of the forms of these entries.
+pub(crate) fn written(alloc: Global, entries: &[Entry<'_>]) -> Result<Vec<u8>, AllocError> {
     let mut text = Vec::new(alloc);
-    for form in forms {
-        write_top(form, &mut text)?;
+    for entry in entries {
+        write_top(entry.form(), &mut text)?;
     }
     Ok(text)
 }

@@ -23,7 +23,7 @@ fn limits_in(alloc: Global, words: &[String]) -> Result<Limits, Stopped> {
 fn verdict_on_text(alloc: Global, limits: Limits, text: &[u8]) -> Result<Verdict, Stopped> {
     let forms = forms_in(alloc, text)?;
     let report = read_back(alloc, &forms)?;
-    let input = written(alloc, &report.forms)?;
+    let input = written(alloc, &report.entries)?;
     let input = forms_in(alloc, &input)?;
     let found = searched(alloc, &input, limits)?;
     Ok(compared(alloc, &report.trees, &found)?)

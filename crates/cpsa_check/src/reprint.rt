@@ -12,7 +12,7 @@ use std::io::Read;
 fn printed(alloc: Global, text: &[u8]) -> Result<Vec<u8>, Stopped> {
     let forms = forms_in(alloc, text)?;
     let report = read_back(alloc, &forms)?;
-    let input = written(alloc, &report.forms)?;
+    let input = written(alloc, &report.entries)?;
     let input = forms_in(alloc, &input)?;
     let input = load(alloc, &input)?;
     let mut again = Vec::new(alloc);

@@ -1,5 +1,5 @@
 // The terms of two labels, place by place.
-use cp_skel::{Event, LocatedEvent, TreeNode};
+use cp_skel::{Event, Label, LocatedEvent};
 use cp_term::{Pattern, Term};
 use cp_unify::{Subst, matching_beside};
 use std::alloc::{AllocError, Global};
@@ -23,13 +23,13 @@ fn add_patterns(patterns: &[Pattern], terms: &mut Vec<Term>) -> Result<(), Alloc
 }
 
 /// The messages at a label's nodes, the critical term of its test, and the terms of its patterns.
-fn terms_of(alloc: Global, label: &TreeNode) -> Result<Vec<Term>, AllocError> {
+fn terms_of(alloc: Global, label: &Label) -> Result<Vec<Term>, AllocError> {
     let mut terms = Vec::new(alloc);
     add_messages(&label.skeleton.events(alloc)?, &mut terms)?;
     if let Some(test) = &label.test {
         terms.push(test.critical.copy()?)?;
     }
-    add_patterns(label.patterns.as_slice(), &mut terms)?;
+    add_patterns(label.escape.as_slice(), &mut terms)?;
     Ok(terms)
 }
 
@@ -49,8 +49,8 @@ fn can_become(alloc: Global, terms: &[Term], others: &[Term]) -> Result<bool, Al
 /// and each list can become the other.
 pub(crate) fn have_same_terms(
     alloc: Global,
-    one: &TreeNode,
-    other: &TreeNode,
+    one: &Label,
+    other: &Label,
 ) -> Result<bool, AllocError> {
     let terms = terms_of(alloc, one)?;
     let others = terms_of(alloc, other)?;

@@ -1,15 +1,10 @@
-use Rattle.std.proofs.Common.{◌≡◌, List, ◌∙◌, subst}
+use Rattle.std.proofs.Common.{subst}
 use Rattle.std.proofs.lemmas.Result.{IfOk-weaker}
-use Rattle.cp_model.specs.declared.node.OrderPair.{OrderPair}
-use Rattle.cp_cohort.specs.Cohort.{GuardedTest, IsCohort}
-use Rattle.cp_cohort.specs.Views.{guarded_test_of}
+use Rattle.cp_cohort.specs.Cohort.{GuardedTest, IsCohort, guarded_test_of}
 use Rattle.cp_cohort.proofs.children.cohort.Goals as goal
 
 pub children_of-requires : goal.children_of-requires
-children_of-requires c = record {
-  test = c.requires.test;
-  gathered = subst (λ (ps : List OrderPair). c.in_ok-leading.leading ≡ record { pairs = ps; node = c.args.node }) (c.pairs.ensures ∙ c.order.ensures) c.in_ok-leading.ensures;
-}
+children_of-requires c = record { test = c.requires.test }
 
 pub returns : goal.returns
 returns c =

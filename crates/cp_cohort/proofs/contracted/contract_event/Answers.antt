@@ -1,4 +1,4 @@
-use Rattle.std.proofs.Common.{◌≡◌, List, ap, ◌∙◌, subst}
+use Rattle.std.proofs.Common.{◌≡◌, List, ap, ◌∙◌, subst, sym}
 use Rattle.cp_lists.specs.Lists.{IsIn}
 use Rattle.cp_lists.proofs.Items.{item_of_read}
 use Rattle.cp_lists.proofs.Members.{item_is_in}
@@ -7,39 +7,47 @@ use Rattle.cp_model.specs.Strand.{payload}
 use Rattle.cp_pattern.specs.Candidates.{may_equal}
 use Rattle.cp_model.specs.declared.step.Step.{Step}
 use Rattle.cp_model.specs.Positions.{positions_where}
-use Rattle.cp_cohort.specs.Cohort.{Contracts}
+use Rattle.cp_model.specs.Skeleton.{IsNodeOf}
+use Rattle.cp_cohort.specs.CoveringChildren.{IsTransmissionBefore}
+use Rattle.cp_cohort.specs.Cohort.{Contracts, GuardedTest}
 use Rattle.cp_cohort.specs.Children.{not_before}
-use Rattle.cp_cohort.specs.Views.{guarded_test_view}
 use Rattle.cp_cohort.proofs.ChildLists.{puts_nothing, puts_other, puts_first, puts_next, puts_last}
 use Rattle.cp_cohort.proofs.Positions.{listed_position}
 use Rattle.cp_cohort.proofs.ContractedChildren.{event_contracted}
 use Rattle.cp_cohort.proofs.contracted.contract_event.Goals as goal
 
+pub is_sent_before-requires : goal.is_sent_before-requires
+is_sent_before-requires c = record {
+  there = subst (λ (q : GuardedTest). IsNodeOf q.skeleton.strands q.node) (sym c.guarded_test.view_is) c.requires.there;
+  gathered = c.guarded_test.invariant;
+}
+
 pub returns-then-not-is_sent_before : goal.returns-then-not-is_sent_before
-returns-then-not-is_sent_before c = puts_nothing c.args.children.now.items (not_before (λ b. not_both c.if-not-is_sent_before.true (c.is_sent_before.ensures.1 b)))
+returns-then-not-is_sent_before c = puts_nothing c.args.children.now.items (not_before (λ b. not_both c.if-not-is_sent_before.true
+    (c.is_sent_before.ensures.1 (subst (λ (q : GuardedTest). IsTransmissionBefore q.skeleton q.node c.args.occurrence.now) (sym c.guarded_test.view_is) b))))
 
 pub loop-path-init : goal.loop-path-init
-loop-path-init c = puts_first (Contracts (guarded_test_view c.args.guarded_test.now) c.args.occurrence.now) c.deref-path-items.result.now c.args.children.now.items
+loop-path-init c = puts_first (Contracts c.args.guarded_test.now c.args.occurrence.now) c.deref-path-items.result.now c.args.children.now.items
 
 pub contract_at-requires : goal.contract_at-requires
 contract_at-requires c =
-    let q = guarded_test_view c.args.guarded_test.now in
+    let q = c.args.guarded_test.now in
     let o = c.args.occurrence.now in
     let all : c.deref-path-items.result.now ≡ positions_where (may_equal q.critical) (payload o.event) =
-    c.deref-path-items.ensures.value ∙ c.in_ok-paths.ensures ∙ ap (positions_where (may_equal q.critical)) c.payload.ensures in
+    c.deref-path-items.ensures.value ∙ c.in_ok-paths.ensures ∙ ap (λ (z : GuardedTest). positions_where (may_equal z.critical) c.payload.result.now) c.guarded_test.view_is ∙ ap (positions_where (may_equal q.critical)) c.payload.ensures in
     listed_position (may_equal q.critical) (payload o.event) c.path-item.result
     (subst (λ (ps : List (List Step)). IsIn c.path-item.result ps) all (item_is_in c.deref-path-items.result.now c.loop-path.path-index c.path-item.result c.loop-path-test.true c.path-item.is))
 
 pub loop-path-preserved : goal.loop-path-preserved
 loop-path-preserved c =
-    puts_next (Contracts (guarded_test_view c.args.guarded_test.now) c.args.occurrence.now) c.deref-path-items.result.now c.loop-path.path-index c.path-item.result
+    puts_next (Contracts c.args.guarded_test.now c.args.occurrence.now) c.deref-path-items.result.now c.loop-path.path-index c.path-item.result
     (item_of_read c.deref-path-items.result.now c.loop-path.path-index c.path-item.result c.loop-path-test.true c.path-item.is) _ _ _ c.loop-path.invariant c.in_ok-contract_at.ensures
 
 pub returns : goal.returns
 returns c =
-    let q = guarded_test_view c.args.guarded_test.now in
+    let q = c.args.guarded_test.now in
     let o = c.args.occurrence.now in
     let all : c.deref-path-items.result.now ≡ positions_where (may_equal q.critical) (payload o.event) =
-    c.deref-path-items.ensures.value ∙ c.in_ok-paths.ensures ∙ ap (positions_where (may_equal q.critical)) c.payload.ensures in
-    puts_other c.args.children.now.items c.loop-path.children.items (event_contracted q o c.deref-path-items.result.now all (c.is_sent_before.ensures.0 c.if-not-is_sent_before.false))
+    c.deref-path-items.ensures.value ∙ c.in_ok-paths.ensures ∙ ap (λ (z : GuardedTest). positions_where (may_equal z.critical) c.payload.result.now) c.guarded_test.view_is ∙ ap (positions_where (may_equal q.critical)) c.payload.ensures in
+    puts_other c.args.children.now.items c.loop-path.children.items (event_contracted q o c.deref-path-items.result.now all (subst (λ (z : GuardedTest). IsTransmissionBefore z.skeleton z.node o) c.guarded_test.view_is (c.is_sent_before.ensures.0 c.if-not-is_sent_before.false)))
     (puts_last (Contracts q o) c.deref-path-items.result.now c.loop-path.path-index c.loop-path-test.false c.args.children.now.items c.loop-path.children.items c.loop-path.invariant)

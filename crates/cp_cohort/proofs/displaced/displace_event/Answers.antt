@@ -2,13 +2,12 @@ use Rattle.std.proofs.Common.{add-one, ◌≡◌, ◌<◌, length, Some, sym, su
 use Rattle.std.proofs.lemmas.Result.{on_ok_weaker}
 use Rattle.cp_lists.specs.Lists.{item_at}
 use Rattle.cp_model.proofs.CarriedParts.{not_both}
-use Rattle.cp_model.specs.Homomorphism.{substitution_by}
+use Rattle.cp_model.specs.Bindings.{bindings_of}
 use Rattle.cp_model.specs.Strand.{Role}
 use Rattle.cp_model.specs.declared.strand.Event.TheVariants.{Send as send, Receive as recv}
 use Rattle.cp_model.specs.Term.{Term}
-use Rattle.cp_skel.specs.View.{skeleton_view}
-use Rattle.cp_cohort.specs.Cohort.{is_reception, is_before}
-use Rattle.cp_cohort.specs.Views.{guarded_test_view}
+use Rattle.cp_model.specs.Skeleton.{Before, IsNodeOf}
+use Rattle.cp_cohort.specs.Cohort.{is_reception, is_before, GuardedTest}
 use Rattle.cp_cohort.proofs.ChildLists.{puts_nothing, puts_other}
 use Rattle.cp_cohort.proofs.GrownReleases.{grown_pair, displaced_each}
 use Rattle.cp_cohort.proofs.displaced.displace_event.Goals as goal
@@ -22,10 +21,14 @@ returns-then-not-is_sent c =
     puts_nothing c.args.children.now.items (is_reception heard.1)
 
 pub comes_before-requires : goal.comes_before-requires
-comes_before-requires c = record { there = (recv c.requires.test.message, c.requires.test.reception); gathered = c.requires.gathered }
+comes_before-requires c = record {
+  there = subst (λ (q : GuardedTest). IsNodeOf q.skeleton.strands q.node) (sym c.guarded_test.view_is) (recv c.requires.test.message, c.requires.test.reception);
+  gathered = c.guarded_test.invariant;
+}
 
 pub returns-then-comes_before : goal.returns-then-comes_before
-returns-then-comes_before c = puts_nothing c.args.children.now.items (is_before (c.comes_before.ensures.0 c.if-comes_before.true))
+returns-then-comes_before c = puts_nothing c.args.children.now.items
+    (is_before (subst (λ (q : GuardedTest). Before q.skeleton (record { strand = c.args.strand; index = c.args.index }) q.node) c.guarded_test.view_is (c.comes_before.ensures.0 c.if-comes_before.true)))
 
 pub with_events-requires : goal.with_events-requires
 with_events-requires c = record { there = c.requires.there; reached = omega (arith, c.requires.reached) }
@@ -33,14 +36,15 @@ with_events-requires c = record { there = c.requires.there; reached = omega (ari
 pub release-requires : goal.release-requires
 release-requires c =
     let sent = subst (λ (r : Role). (t : Term) × (item_at r.trace c.args.index ≡ Some (send t))) c.role.ensures (c.is_sent.ensures.sent c.if-not-is_sent.false) in
-    grown_pair (guarded_test_view c.args.guarded_test.now) c.args.strand c.args.instance.now.role c.args.instance.now.height c.args.index (substitution_by c.args.instance.now.values) sent.0 c.requires.there sent.1
-    c.in_ok-grown.grown.variables (skeleton_view c.in_ok-grown.grown) (c.in_ok-grown.ensures c.args.index (add-one c.args.index)).grows c.requires.other c.requires.test
+    grown_pair c.args.guarded_test.now c.args.strand c.args.instance.now.role c.args.instance.now.height c.args.index (bindings_of c.args.instance.now.values) sent.0 c.requires.there sent.1
+    c.in_ok-grown.grown (c.in_ok-grown.ensures c.args.index (add-one c.args.index)).grows c.requires.other c.requires.test
 
 pub returns : goal.returns
 returns c =
     let sent = subst (λ (r : Role). (t : Term) × (item_at r.trace c.args.index ≡ Some (send t))) c.role.ensures (c.is_sent.ensures.sent c.if-not-is_sent.false) in
     on_ok_weaker c.release.result
     (λ p. puts_other c.args.children.now.items c.release.new.children.items
-    (displaced_each (guarded_test_view c.args.guarded_test.now) c.args.strand c.args.instance.now.role c.args.instance.now.height c.args.index (substitution_by c.args.instance.now.values) sent.0 c.requires.there sent.1
-    c.in_ok-grown.grown.variables (skeleton_view c.in_ok-grown.grown) (c.in_ok-grown.ensures c.args.index (add-one c.args.index)).grows (λ b. not_both c.if-comes_before.false (c.comes_before.ensures.1 b))) p)
+    (displaced_each c.args.guarded_test.now c.args.strand c.args.instance.now.role c.args.instance.now.height c.args.index (bindings_of c.args.instance.now.values) sent.0 c.requires.there sent.1
+    c.in_ok-grown.grown (c.in_ok-grown.ensures c.args.index (add-one c.args.index)).grows (λ b. not_both c.if-comes_before.false
+    (c.comes_before.ensures.1 (subst (λ (q : GuardedTest). Before q.skeleton (record { strand = c.args.strand; index = c.args.index }) q.node) (sym c.guarded_test.view_is) b)))) p)
     c.release.ensures

@@ -3,10 +3,7 @@ use Rattle.cp_lists.specs.Lists.{item_at}
 use Rattle.cp_model.specs.Problem.{numbers_from}
 use Rattle.cp_model.specs.Skeleton.{SkeletonStrand, listener}
 use Rattle.cp_model.specs.Strand.{Role}
-use Rattle.cp_model.specs.Data.{StrandData}
-use Rattle.cp_strand.specs.View.{strand_view}
-use Rattle.cp_cohort.specs.Cohort.{DisplacesEvent, of_listener, of_node, of_role}
-use Rattle.cp_cohort.specs.Views.{guarded_test_view}
+use Rattle.cp_cohort.specs.Cohort.{DisplacesEvent, of_listener, of_node, of_role, GuardedTest}
 use Rattle.cp_cohort.proofs.ChildLists.{puts_nothing, puts_other, puts_first, puts_next, puts_last, number_there, numbers_past}
 use Rattle.cp_cohort.proofs.GrownReleases.{listens}
 use Rattle.cp_cohort.proofs.displaced.displace_strand.Goals.{After-trace-events}
@@ -19,26 +16,26 @@ as_many c = ap length (c.trace-events.ensures ∙ ap (λ (r : Role). r.trace) (c
 pub returns-in_default : goal.returns-in_default
 returns-in_default c =
     let heard = listens c.shape.result c.args.strand.now c.shape.ensures c.in_default.not-Instance in
-    let there : item_at (guarded_test_view c.args.guarded_test.now).skeleton.strands c.args.number ≡ Some (listener heard.0) = c.requires.there ∙ ap (λ (x : SkeletonStrand). Some x) heard.1 in
+    let there : item_at c.args.guarded_test.now.skeleton.strands c.args.number ≡ Some (listener heard.0) = c.requires.there ∙ ap (λ (x : SkeletonStrand). Some x) heard.1 in
     puts_nothing c.args.children.now.items (of_listener there)
 
 pub returns-then-number-guarded_test : goal.returns-then-number-guarded_test
-returns-then-number-guarded_test c = puts_nothing c.args.children.now.items (of_node c.if-number-guarded_test.true)
+returns-then-number-guarded_test c = puts_nothing c.args.children.now.items (of_node (c.if-number-guarded_test.true ∙ ap (λ (q : GuardedTest). q.node.strand) c.guarded_test.view_is))
 
 pub loop-index-init : goal.loop-index-init
-loop-index-init c = puts_first (DisplacesEvent (guarded_test_view c.args.guarded_test.now) c.args.number c.in-Instance.instance.now.role c.in-Instance.instance.now.height) (numbers_from 0 c.in-Instance.instance.now.role.trace) c.args.children.now.items
+loop-index-init c = puts_first (DisplacesEvent c.args.guarded_test.now c.args.number c.in-Instance.instance.now.role c.in-Instance.instance.now.height) (numbers_from 0 c.in-Instance.instance.now.role.trace) c.args.children.now.items
 
 pub displace_event-requires : goal.displace_event-requires
 displace_event-requires c =
     let same = as_many (goal.at.displace_event-requires c).After-trace-events in
-    record { test = c.requires.test; gathered = c.requires.gathered; there = c.requires.there ∙ ap (λ (d : StrandData). Some (strand_view d)) (sym c.in-Instance.ensures); other = c.if-number-guarded_test.false; reached = omega (arith, same, c.loop-index-test.true) }
+    record { test = c.requires.test; there = c.requires.there ∙ ap (λ (d : SkeletonStrand). Some d) (sym c.in-Instance.ensures); other = λ e. c.if-number-guarded_test.false (e ∙ ap (λ (q : GuardedTest). q.node.strand) (sym c.guarded_test.view_is)); reached = omega (arith, same, c.loop-index-test.true) }
 
 pub loop-index-preserved : goal.loop-index-preserved
 loop-index-preserved c =
     let role = c.in-Instance.instance.now.role in
     let same = as_many (goal.at.loop-index-preserved c).After-trace-events in
     let lt : c.loop-index.index < length role.trace = omega (arith, same, c.loop-index-test.true) in
-    puts_next (DisplacesEvent (guarded_test_view c.args.guarded_test.now) c.args.number role c.in-Instance.instance.now.height) (numbers_from 0 role.trace) c.loop-index.index c.loop-index.index (number_there role.trace c.loop-index.index lt) _ _ _ c.loop-index.invariant c.in_ok-displace_event.ensures
+    puts_next (DisplacesEvent c.args.guarded_test.now c.args.number role c.in-Instance.instance.now.height) (numbers_from 0 role.trace) c.loop-index.index c.loop-index.index (number_there role.trace c.loop-index.index lt) _ _ _ c.loop-index.invariant c.in_ok-displace_event.ensures
 
 pub returns : goal.returns
 returns c =
@@ -46,5 +43,5 @@ returns c =
     let same = as_many (goal.at.returns c).After-trace-events in
     let past : length role.trace ≤ c.loop-index.index = omega (arith, same, c.loop-index-test.false) in
     puts_other c.args.children.now.items c.loop-index.children.items
-    (λ cs e. of_role (c.requires.there ∙ ap (λ (d : StrandData). Some (strand_view d)) (sym c.in-Instance.ensures)) c.if-number-guarded_test.false e)
-    (puts_last (DisplacesEvent (guarded_test_view c.args.guarded_test.now) c.args.number role c.in-Instance.instance.now.height) (numbers_from 0 role.trace) c.loop-index.index (numbers_past role.trace c.loop-index.index past) _ _ c.loop-index.invariant)
+    (λ cs e. of_role (c.requires.there ∙ ap (λ (d : SkeletonStrand). Some d) (sym c.in-Instance.ensures)) (λ n. c.if-number-guarded_test.false (n ∙ ap (λ (q : GuardedTest). q.node.strand) (sym c.guarded_test.view_is))) e)
+    (puts_last (DisplacesEvent c.args.guarded_test.now c.args.number role c.in-Instance.instance.now.height) (numbers_from 0 role.trace) c.loop-index.index (numbers_past role.trace c.loop-index.index past) _ _ c.loop-index.invariant)

@@ -1,4 +1,6 @@
+use Rattle.std.proofs.Common.{ap, ◌∙◌}
 use Rattle.std.proofs.lemmas.Result.{IfOk-weaker}
+use Rattle.cp_cohort.specs.Cohort.{GuardedTest}
 use Rattle.cp_cohort.proofs.FitValues.{added_in_copy}
 use Rattle.cp_cohort.proofs.grown_skeletons.with_strand.Goals as goal
 
@@ -9,6 +11,5 @@ pub returns : goal.returns
 returns c =
     IfOk-weaker c.with_instance.result _ _
     (λ k adds j is.
-    added_in_copy c.args.guarded_test.now.skeleton.now c.args.guarded_test.now.node c.args.guarded_test.now.critical.now c.args.guarded_test.now.patterns.now c.in_ok-copied.copied c.in_ok-copied.ensures.same k c.args.role.now.value c.args.height j is
-    adds.0 adds.1)
+    added_in_copy c.args.guarded_test.now c.in_ok-copied.copied (c.in_ok-copied.ensures.same ∙ ap (λ (q : GuardedTest). q.skeleton) c.guarded_test.view_is) k c.args.role.now.value c.args.height j is adds.0 adds.1)
     c.with_instance.ensures

@@ -1,7 +1,5 @@
 use Rattle.std.proofs.Common.{refl}
 use Rattle.std.proofs.lemmas.Result.{on_ok_weaker}
-use Rattle.cp_skel.specs.View.{skeleton_view}
-use Rattle.cp_cohort.specs.Views.{guarded_test_view}
 use Rattle.cp_cohort.proofs.ChildLists.{puts_other}
 use Rattle.cp_cohort.proofs.AddedListener.{listened_at}
 use Rattle.cp_cohort.proofs.listeners.listen_in.Goals as goal
@@ -13,6 +11,5 @@ pub returns : goal.returns
 returns c =
     on_ok_weaker c.put_forms.result
     (λ p. puts_other _ _
-    (listened_at (guarded_test_view c.args.guarded_test.now) c.args.term.now c.requires.test c.in_ok-strand.strand c.in_ok-strand.ensures.number _ refl c.new-path.result c.new-path.ensures (skeleton_view c.add_before.new.k) c.add_before.new.k.variables
-    c.in_ok-strand.ensures.put c.in_ok-strand.ensures.variables) p)
+    (listened_at c.args.guarded_test.now c.args.term.now c.requires.test c.in_ok-strand.strand c.in_ok-strand.ensures.number _ refl c.new-path.result c.new-path.ensures c.add_before.new.k c.in_ok-strand.ensures.put) p)
     c.put_forms.ensures

@@ -1,7 +1,6 @@
 use Rattle.std.proofs.Common.{List, ap, subst, ◌∙◌, ◌∷◌, [], ◌++◌}
 use Rattle.std.proofs.lemmas.Result.{IfOk-weaker}
 use Rattle.cp_collapse.specs.Property.{Has}
-use Rattle.cp_cohort.specs.ReleaseViews.{release_view}
 use Rattle.cp_cohort.specs.Candidates.{IsUnsolved}
 use Rattle.cp_cohort.specs.declared.candidates.Candidate.{Candidate}
 use Rattle.cp_cohort.specs.declared.candidates.Candidate.TheVariants.{OnTheWay}
@@ -18,11 +17,11 @@ loop-candidates-preserved c = reached_next _ c.args.tried _ _ c.loop-candidates.
 
 pub loop-candidates-smaller : goal.loop-candidates-smaller
 loop-candidates-smaller c =
-    round_falls (release_view c.args.release.now) c.loop-candidates.candidates.items c.in_ok-candidates.candidates.items (subst (λ (cs : List Candidate). Has IsUnsolved cs) c.deref.ensures.value (c.some_is_open.ensures.0 c.loop-candidates-test.true))
+    round_falls c.args.release.now c.loop-candidates.candidates.items c.in_ok-candidates.candidates.items (subst (λ (cs : List Candidate). Has IsUnsolved cs) c.deref.ensures.value (c.some_is_open.ensures.0 c.loop-candidates-test.true))
     c.in_ok-candidates.ensures
 
 pub returns : goal.returns
 returns c =
     IfOk-weaker c.all_tried.result _ _
-    (λ all e. reached_at_last (release_view c.args.release.now) c.args.tried c.loop-candidates.candidates.items all.items c.loop-candidates.invariant (none_open _ _ _ c.loop-candidates-test.false c.some_is_open.ensures.1 c.deref.ensures.value) e)
+    (λ all e. reached_at_last c.args.release.now c.args.tried c.loop-candidates.candidates.items all.items c.loop-candidates.invariant (none_open _ _ _ c.loop-candidates-test.false c.some_is_open.ensures.1 c.deref.ensures.value) e)
     c.all_tried.ensures

@@ -1,7 +1,4 @@
-use Rattle.std.proofs.Common.{rules, ◌≡◌, ◌≤◌, ◌<◌, ◌++◌, ◌∷◌, [], ◌∙◌, ℕ, length, map, arith, ap, subst}
-use Rattle.std.proofs.lemmas.List.{length-map}
-use Rattle.cp_strand.specs.View.{strand_view}
-use Rattle.cp_skel.specs.View.{skeleton_view}
+use Rattle.std.proofs.Common.{rules, ◌≡◌, ◌≤◌, ◌<◌, ◌++◌, ◌∷◌, [], ◌∙◌, ℕ, length, arith, ap, subst}
 use Rattle.cp_collapse.specs.Partials.{ArePartials}
 use Rattle.cp_collapse.proofs.PartialLists.{first_partials}
 use Rattle.cp_collapse.proofs.partitions.partitions.Goals as goal
@@ -10,7 +7,7 @@ pub loop-number-init : goal.loop-number-init
 loop-number-init c =
     let nothing : c.in_ok-new.field-0.value ≡ [] = search rules in (
       omega arith,
-      first_partials (skeleton_view c.args.k.now) (record { lowest = c.new.result; bindings = c.in_ok-new.field-0 }) _ c.new.ensures.items nothing
+      first_partials c.args.k.now (record { lowest = c.new.result; bindings = c.in_ok-new.field-0 }) _ c.new.ensures.items nothing
           (c.in_ok-push.ensures.items ∙ ap (λ xs. xs ++ (record { lowest = c.new.result; bindings = c.in_ok-new.field-0 } ∷ [])) c.new-partials.ensures.items),
     )
 
@@ -22,5 +19,5 @@ loop-number-preserved c =
 pub returns : goal.returns
 returns c =
     let done : length c.args.k.now.strands ≤ c.loop-number.number = search rules in
-    let all : c.loop-number.number ≡ length (map strand_view c.args.k.now.strands) = (let e = length-map c.args.k.now.strands strand_view in let le = c.loop-number.invariant.0 in omega (arith, done, le, e)) in
-    subst (λ (m : ℕ). ArePartials (skeleton_view c.args.k.now) m c.loop-number.partials.items) all c.loop-number.invariant.1
+    let all : c.loop-number.number ≡ length c.args.k.now.strands = (let le = c.loop-number.invariant.0 in omega (arith, done, le)) in
+    subst (λ (m : ℕ). ArePartials c.args.k.now m c.loop-number.partials.items) all c.loop-number.invariant.1

@@ -1,6 +1,5 @@
 use Rattle.cp_model.proofs.CarriedParts.{not_both}
 use Rattle.cp_model.specs.declared.strand.Event.TheVariants.{Receive as recv}
-use Rattle.cp_skel.specs.View.{skeleton_view}
 use Rattle.cp_derive.proofs.GivenAtNode.{unrealised_at, realised_at, passed, taken, event_at, all_passed, other_realised, reception_at}
 use Rattle.cp_derive.proofs.receptions.unrealised_among.Goals as goal
 
@@ -8,10 +7,10 @@ pub loop-occurrence-preserved-in_default : goal.loop-occurrence-preserved-in_def
 loop-occurrence-preserved-in_default c = record {
   given = c.loop-occurrence.invariant.given;
   picks =
-      passed (skeleton_view c.args.k.now) c.args.occurrences.now c.loop-occurrence.occurrence-index c.occurrence-item.result c.loop-occurrence.nodes.items c.loop-occurrence-test.true
+      passed c.args.k.now c.args.occurrences.now c.loop-occurrence.occurrence-index c.occurrence-item.result c.loop-occurrence.nodes.items c.loop-occurrence-test.true
       c.occurrence-item.is c.loop-occurrence.invariant.picks
-      (other_realised (skeleton_view c.args.k.now) c.occurrence-item.result.node c.occurrence-item.result.event
-      (event_at (skeleton_view c.args.k.now) c.args.occurrences.now c.loop-occurrence.occurrence-index c.occurrence-item.result c.loop-occurrence.nodes.items c.loop-occurrence-test.true
+      (other_realised c.args.k.now c.occurrence-item.result.node c.occurrence-item.result.event
+      (event_at c.args.k.now c.args.occurrences.now c.loop-occurrence.occurrence-index c.occurrence-item.result c.loop-occurrence.nodes.items c.loop-occurrence-test.true
       c.occurrence-item.is c.loop-occurrence.invariant.picks c.requires.among)
       c.in_default.not-Receive);
 }
@@ -19,8 +18,8 @@ loop-occurrence-preserved-in_default c = record {
 pub known_before_at-requires-clause-there : goal.known_before_at-requires-clause-there
 known_before_at-requires-clause-there c = (
   recv c.in-Receive.message,
-  reception_at (skeleton_view c.args.k.now) c.occurrence-item.result.node c.occurrence-item.result.event c.in-Receive.message
-      (event_at (skeleton_view c.args.k.now) c.args.occurrences.now c.loop-occurrence.occurrence-index c.occurrence-item.result c.loop-occurrence.nodes.items c.loop-occurrence-test.true
+  reception_at c.args.k.now c.occurrence-item.result.node c.occurrence-item.result.event c.in-Receive.message
+      (event_at c.args.k.now c.args.occurrences.now c.loop-occurrence.occurrence-index c.occurrence-item.result c.loop-occurrence.nodes.items c.loop-occurrence-test.true
       c.occurrence-item.is c.loop-occurrence.invariant.picks c.requires.among)
       c.in-Receive.is,
 )
@@ -29,11 +28,11 @@ pub loop-occurrence-preserved-then-buildable : goal.loop-occurrence-preserved-th
 loop-occurrence-preserved-then-buildable c = record {
   given = c.in_ok-known_before.ensures.given;
   picks =
-      passed (skeleton_view c.args.k.now) c.args.occurrences.now c.loop-occurrence.occurrence-index c.occurrence-item.result c.loop-occurrence.nodes.items c.loop-occurrence-test.true
+      passed c.args.k.now c.args.occurrences.now c.loop-occurrence.occurrence-index c.occurrence-item.result c.loop-occurrence.nodes.items c.loop-occurrence-test.true
       c.occurrence-item.is c.loop-occurrence.invariant.picks
-      (realised_at (skeleton_view c.args.k.now) c.occurrence-item.result.node c.in-Receive.message
-      (reception_at (skeleton_view c.args.k.now) c.occurrence-item.result.node c.occurrence-item.result.event c.in-Receive.message
-      (event_at (skeleton_view c.args.k.now) c.args.occurrences.now c.loop-occurrence.occurrence-index c.occurrence-item.result c.loop-occurrence.nodes.items c.loop-occurrence-test.true
+      (realised_at c.args.k.now c.occurrence-item.result.node c.in-Receive.message
+      (reception_at c.args.k.now c.occurrence-item.result.node c.occurrence-item.result.event c.in-Receive.message
+      (event_at c.args.k.now c.args.occurrences.now c.loop-occurrence.occurrence-index c.occurrence-item.result c.loop-occurrence.nodes.items c.loop-occurrence-test.true
       c.occurrence-item.is c.loop-occurrence.invariant.picks c.requires.among)
       c.in-Receive.is)
       ((c.in_ok-known_before.ensures.at_node c.in-Receive.message).1 (c.buildable.ensures.exact.0 c.if-buildable.true)));
@@ -43,11 +42,11 @@ pub loop-occurrence-preserved : goal.loop-occurrence-preserved
 loop-occurrence-preserved c = record {
   given = c.in_ok-known_before.ensures.given;
   picks =
-      taken (skeleton_view c.args.k.now) c.args.occurrences.now c.loop-occurrence.occurrence-index c.occurrence-item.result c.loop-occurrence.nodes.items c.loop-occurrence-test.true
+      taken c.args.k.now c.args.occurrences.now c.loop-occurrence.occurrence-index c.occurrence-item.result c.loop-occurrence.nodes.items c.loop-occurrence-test.true
       c.occurrence-item.is c.loop-occurrence.invariant.picks c.push.new.self.items c.in_ok-push.ensures.items
-      (unrealised_at (skeleton_view c.args.k.now) c.occurrence-item.result.node c.in-Receive.message
-      (reception_at (skeleton_view c.args.k.now) c.occurrence-item.result.node c.occurrence-item.result.event c.in-Receive.message
-      (event_at (skeleton_view c.args.k.now) c.args.occurrences.now c.loop-occurrence.occurrence-index c.occurrence-item.result c.loop-occurrence.nodes.items c.loop-occurrence-test.true
+      (unrealised_at c.args.k.now c.occurrence-item.result.node c.in-Receive.message
+      (reception_at c.args.k.now c.occurrence-item.result.node c.occurrence-item.result.event c.in-Receive.message
+      (event_at c.args.k.now c.args.occurrences.now c.loop-occurrence.occurrence-index c.occurrence-item.result c.loop-occurrence.nodes.items c.loop-occurrence-test.true
       c.occurrence-item.is c.loop-occurrence.invariant.picks c.requires.among)
       c.in-Receive.is)
       (λ d. not_both c.if-buildable.false (c.buildable.ensures.exact.1 ((c.in_ok-known_before.ensures.at_node c.in-Receive.message).0 d))));
@@ -55,7 +54,7 @@ loop-occurrence-preserved c = record {
 
 pub returns : goal.returns
 returns c = record {
-  picks = all_passed (skeleton_view c.args.k.now) c.args.occurrences.now c.loop-occurrence.occurrence-index c.loop-occurrence.nodes.items c.loop-occurrence-test.false
+  picks = all_passed c.args.k.now c.args.occurrences.now c.loop-occurrence.occurrence-index c.loop-occurrence.nodes.items c.loop-occurrence-test.false
       c.loop-occurrence.invariant.picks;
   given = c.loop-occurrence.invariant.given;
 }

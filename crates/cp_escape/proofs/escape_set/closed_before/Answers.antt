@@ -4,7 +4,6 @@ use Rattle.cp_model.proofs.CarriedParts.{not_both}
 use Rattle.cp_model.specs.Strand.{payload}
 use Rattle.cp_model.specs.declared.node.OrderPair.{OrderPair}
 use Rattle.cp_skel.specs.Events.{events_of}
-use Rattle.cp_skel.specs.View.{skeleton_view}
 use Rattle.cp_derive.specs.Given.{IsDerivable}
 use Rattle.cp_escape.specs.ClosedEncryptions.{without_it}
 use Rattle.cp_escape.proofs.Before.{GivesEvent, listed_among, event_given, sent_is_derivable, all_closed}
@@ -17,12 +16,12 @@ is_sent_before-requires-clause-gathered c =
 
 pub loop-occurrence-preserved-then-not-is_sent_before : goal.loop-occurrence-preserved-then-not-is_sent_before
 loop-occurrence-preserved-then-not-is_sent_before c =
-    puts_none (GivesEvent (skeleton_view c.args.k.now) c.args.node c.args.known.now c.args.critical.now) c.deref-occurrence-items.result.now c.loop-occurrence.occurrence-index c.occurrence-item.result
+    puts_none (GivesEvent c.args.k.now c.args.node c.args.known.now c.args.critical.now) c.deref-occurrence-items.result.now c.loop-occurrence.occurrence-index c.occurrence-item.result
     c.loop-occurrence-test.true c.occurrence-item.is _ _ c.loop-occurrence.invariant (without_it (λ b. not_both c.if-not-is_sent_before.true (c.is_sent_before.ensures.1 b)))
 
 pub add_closed-requires-clause-derivable : goal.add_closed-requires-clause-derivable
 add_closed-requires-clause-derivable c =
-    let k = skeleton_view c.args.k.now in
+    let k = c.args.k.now in
     let o = c.occurrence-item.result in
     let listed : IsIn o (events_of k) =
     listed_among k c.deref-occurrence-items.result.now c.loop-occurrence.occurrence-index c.occurrence-item.result c.loop-occurrence-test.true c.occurrence-item.is
@@ -31,14 +30,14 @@ add_closed-requires-clause-derivable c =
 
 pub loop-occurrence-preserved : goal.loop-occurrence-preserved
 loop-occurrence-preserved c =
-    puts_next (GivesEvent (skeleton_view c.args.k.now) c.args.node c.args.known.now c.args.critical.now) c.deref-occurrence-items.result.now c.loop-occurrence.occurrence-index c.occurrence-item.result
+    puts_next (GivesEvent c.args.k.now c.args.node c.args.known.now c.args.critical.now) c.deref-occurrence-items.result.now c.loop-occurrence.occurrence-index c.occurrence-item.result
     c.loop-occurrence-test.true c.occurrence-item.is _ _ c.loop-occurrence.invariant _
-    (event_given (skeleton_view c.args.k.now) c.args.node c.args.known.now c.args.critical.now c.occurrence-item.result c.payload-message.result.now c.payload-message.ensures
+    (event_given c.args.k.now c.args.node c.args.known.now c.args.critical.now c.occurrence-item.result c.payload-message.result.now c.payload-message.ensures
     (c.is_sent_before.ensures.0 c.if-not-is_sent_before.false) _ _ c.in_ok-add_closed.ensures)
 
 pub returns : goal.returns
 returns c =
-    all_closed (skeleton_view c.args.k.now) c.args.node c.args.known.now c.requires.given c.args.critical.now c.deref-occurrence-items.result.now
+    all_closed c.args.k.now c.args.node c.args.known.now c.requires.given c.args.critical.now c.deref-occurrence-items.result.now
     (c.deref-occurrence-items.ensures.value ∙ c.in_ok-occurrences.ensures.listed) _
-    (puts_last (GivesEvent (skeleton_view c.args.k.now) c.args.node c.args.known.now c.args.critical.now) c.deref-occurrence-items.result.now c.loop-occurrence.occurrence-index
+    (puts_last (GivesEvent c.args.k.now c.args.node c.args.known.now c.args.critical.now) c.deref-occurrence-items.result.now c.loop-occurrence.occurrence-index
     c.loop-occurrence-test.false _ _ c.loop-occurrence.invariant)

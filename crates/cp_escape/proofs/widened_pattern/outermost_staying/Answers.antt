@@ -1,7 +1,6 @@
 use Rattle.std.proofs.Common.{◌≡◌, map, List, sym, ap, ◌∙◌, subst}
 use Rattle.cp_model.proofs.CarriedParts.{not_both}
 use Rattle.cp_model.specs.Term.{Term}
-use Rattle.cp_skel.specs.View.{skeleton_view}
 use Rattle.cp_theory.specs.Above.{encryptions_above}
 use Rattle.cp_escape.specs.Escape.{IsFirstWith}
 use Rattle.cp_escape.specs.WidenedPattern.{StaysClosed}
@@ -13,13 +12,13 @@ returns-then-branch-clause-some c =
     let es : List Term = encryptions_above c.args.message.now c.args.path.now in
     let all : map (λ e. e.now) c.deref-encryption-items.result.now ≡ es =
     ap (map (λ e. e.now)) c.deref-encryption-items.ensures.value ∙ c.in_ok-encryptions.ensures ∙ ap (encryptions_above c.args.message.now) c.as_slice.ensures in
-    subst (IsFirstWith (StaysClosed (skeleton_view c.args.k.now)) es) (sym c.in_ok-first.ensures)
-    (item_stays (λ e. e.now) (skeleton_view c.args.k.now) c.deref-encryption-items.result.now c.loop-encryption.encryption-index c.encryption-item.result c.loop-encryption-test.true c.encryption-item.is c.loop-encryption.invariant es all
+    subst (IsFirstWith (StaysClosed c.args.k.now) es) (sym c.in_ok-first.ensures)
+    (item_stays (λ e. e.now) c.args.k.now c.deref-encryption-items.result.now c.loop-encryption.encryption-index c.encryption-item.result c.loop-encryption-test.true c.encryption-item.is c.loop-encryption.invariant es all
     (c.in_ok-stays_closed.ensures.0 c.if-branch.true))
 
 pub loop-encryption-preserved : goal.loop-encryption-preserved
 loop-encryption-preserved c =
-    item_passed (λ e. e.now) (skeleton_view c.args.k.now) c.deref-encryption-items.result.now c.loop-encryption.encryption-index c.encryption-item.result c.loop-encryption-test.true c.encryption-item.is c.loop-encryption.invariant
+    item_passed (λ e. e.now) c.args.k.now c.deref-encryption-items.result.now c.loop-encryption.encryption-index c.encryption-item.result c.loop-encryption-test.true c.encryption-item.is c.loop-encryption.invariant
     (λ s. not_both c.if-branch.false (c.in_ok-stays_closed.ensures.1 s))
 
 pub returns-clause-none : goal.returns-clause-none
@@ -27,4 +26,4 @@ returns-clause-none c =
     let es : List Term = encryptions_above c.args.message.now c.args.path.now in
     let all : map (λ e. e.now) c.deref-encryption-items.result.now ≡ es =
     ap (map (λ e. e.now)) c.deref-encryption-items.ensures.value ∙ c.in_ok-encryptions.ensures ∙ ap (encryptions_above c.args.message.now) c.as_slice.ensures in
-    none_past (λ e. e.now) (skeleton_view c.args.k.now) c.deref-encryption-items.result.now c.loop-encryption.encryption-index c.loop-encryption-test.false c.loop-encryption.invariant es all
+    none_past (λ e. e.now) c.args.k.now c.deref-encryption-items.result.now c.loop-encryption.encryption-index c.loop-encryption-test.false c.loop-encryption.invariant es all

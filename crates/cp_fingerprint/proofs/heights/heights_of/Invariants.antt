@@ -1,7 +1,6 @@
-use Rattle.std.proofs.Common.{◌≡◌, ◌++◌, drop, map}
-use Rattle.cp_strand.specs.View.{strand_view}
+use Rattle.std.proofs.Common.{◌≡◌, ◌++◌, drop}
 use Rattle.cp_fingerprint.specs.Heights.{heights_of}
 use Rattle.cp_fingerprint.proofs.heights.heights_of.Given as goal
 
 abbrev pub invariant-loop-strand : goal.invariant-loop-strand
-invariant-loop-strand l = l.heights.items ++ heights_of (map strand_view (drop l.strand-index l.strands)) ≡ heights_of (map strand_view l.strands)
+invariant-loop-strand l = l.heights.items ++ heights_of (drop l.strand-index l.strands) ≡ heights_of l.strands

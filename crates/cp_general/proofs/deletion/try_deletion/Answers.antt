@@ -1,4 +1,3 @@
-use Rattle.cp_skel.specs.View.{skeleton_view}
 use Rattle.cp_general.proofs.Deleted.{deleted_alike}
 use Rattle.cp_general.proofs.FitTests.{some_if, none_if}
 use Rattle.cp_model.proofs.CarriedParts.{not_both}
@@ -10,7 +9,7 @@ returns-clause-some c = some_if c.in_ok-fit.fit c.in_ok-left.left _ _ c.then_som
 pub returns-clause-none : goal.returns-clause-none
 returns-clause-none c =
     none_if c.in_ok-fit.fit c.in_ok-left.left _ _ c.then_some.ensures
-    (λ e h d f. not_both e (c.in_ok-fit.ensures.1 (deleted_alike c.args.strand (skeleton_view c.args.k.now) h (skeleton_view c.in_ok-left.left) c.is_sound.ensures.skeleton.no_cycle d c.in_ok-left.ensures.deletes f)))
+    (λ e h d f. not_both e (c.in_ok-fit.ensures.1 (deleted_alike c.args.strand c.args.k.now h c.in_ok-left.left c.is_sound.ensures.skeleton.no_cycle d c.in_ok-left.ensures.deletes f)))
 
 pub returns-clause-variables : goal.returns-clause-variables
 returns-clause-variables c = some_if c.in_ok-fit.fit c.in_ok-left.left _ _ c.then_some.ensures (λ _. c.in_ok-left.ensures.variables)

@@ -1,7 +1,6 @@
 use Rattle.std.proofs.Common.{drop}
-use Rattle.cp_skel.specs.View.{skeleton_view}
 use Rattle.cp_general.proofs.Stepped.{PassedOrLeft}
 use Rattle.cp_general.proofs.dropped_pair.first_drop.Given as goal
 
 abbrev pub invariant-loop-pair : goal.invariant-loop-pair
-invariant-loop-pair l = PassedOrLeft (skeleton_view l.k) (drop l.pair-index l.pair-items)
+invariant-loop-pair l = PassedOrLeft l.k (drop l.pair-index l.pair-items)

@@ -5,14 +5,13 @@ use Rattle.cp_model.specs.declared.node.OrderPair.{OrderPair}
 use Rattle.cp_model.specs.Order.{ReachesAlong}
 use Rattle.cp_model.specs.Skeleton.{FromProblem}
 use Rattle.cp_model.proofs.CarriedParts.{not_both}
-use Rattle.cp_skel.specs.View.{skeleton_view}
 use Rattle.cp_general.specs.ListedPairs.{is_other_pair}
 use Rattle.cp_general.proofs.FitTests.{some_if, none_if}
 use Rattle.cp_general.proofs.dropped_pair.order_without.Goals.{After-of-order}
 use Rattle.cp_general.proofs.dropped_pair.order_without.Goals as goal
 
 -- the new order is that of the pairs that are kept
-order_is : (c : After-of-order) → c.of-order.result ≡ filter (is_other_pair c.args.pair) (skeleton_view c.args.k.now).pairs
+order_is : (c : After-of-order) → c.of-order.result ≡ filter (is_other_pair c.args.pair) c.args.k.now.pairs
 order_is c = c.of-order.ensures ∙ c.in_ok-pairs.ensures ∙ ap (filter (is_other_pair c.args.pair)) (c.pairs.ensures ∙ c.order.ensures)
 
 pub returns-clause-order : goal.returns-clause-order

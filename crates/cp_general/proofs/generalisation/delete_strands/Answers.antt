@@ -1,5 +1,4 @@
 use Rattle.std.proofs.Common.{refl, ◌∙◌}
-use Rattle.cp_skel.specs.View.{skeleton_view}
 use Rattle.cp_general.proofs.Stepped.{comes_next}
 use Rattle.cp_general.proofs.generalisation.delete_strands.Goals as goal
 
@@ -8,7 +7,7 @@ loop-next-init c = (λ first comes. comes, refl)
 
 pub loop-next-preserved : goal.loop-next-preserved
 loop-next-preserved c = (
-  λ first comes. comes_next first (skeleton_view c.loop-next.k) (skeleton_view c.in-Some.next) (c.loop-next.invariant.0 first comes) (rw c.in-Some.is at c.in_ok-next.ensures.some),
+  λ first comes. comes_next first c.loop-next.k c.in-Some.next (c.loop-next.invariant.0 first comes) (rw c.in-Some.is at c.in_ok-next.ensures.some),
   (rw c.in-Some.is at c.in_ok-next.ensures.variables) ∙ c.loop-next.invariant.1,
 )
 

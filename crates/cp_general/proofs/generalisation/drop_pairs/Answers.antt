@@ -1,5 +1,4 @@
 use Rattle.std.proofs.Common.{refl, ◌∙◌}
-use Rattle.cp_skel.specs.View.{skeleton_view}
 use Rattle.cp_general.proofs.Stepped.{way_goes_on, way_ends}
 use Rattle.cp_general.proofs.generalisation.drop_pairs.Goals as goal
 
@@ -12,7 +11,7 @@ loop-next-preserved c =
     record {
       lists = drops.leaves.lists;
       fit = drops.leaves.fit;
-      way = λ first way. way_goes_on first (skeleton_view c.loop-next.k) (skeleton_view c.in-Some.next) (c.loop-next.invariant.way first way) drops;
+      way = λ first way. way_goes_on first c.loop-next.k c.in-Some.next (c.loop-next.invariant.way first way) drops;
       variables = (rw c.in-Some.is at c.in_ok-next.ensures.variables) ∙ c.loop-next.invariant.variables;
     }
 
@@ -20,4 +19,4 @@ pub loop-next-smaller : goal.loop-next-smaller
 loop-next-smaller c = (rw c.in-Some.is at c.in_ok-next.ensures.some).leaves.fewer
 
 pub returns-clause-leads : goal.returns-clause-leads
-returns-clause-leads c = λ first way. way_ends first (skeleton_view c.loop-next.k) (c.loop-next.invariant.way first way) (rw c.in_default.is at c.in_ok-next.ensures.none)
+returns-clause-leads c = λ first way. way_ends first c.loop-next.k (c.loop-next.invariant.way first way) (rw c.in_default.is at c.in_ok-next.ensures.none)

@@ -1,13 +1,12 @@
-use Rattle.cp_skel.specs.View.{skeleton_view}
 use Rattle.cp_general.proofs.FreePairs.{none_free}
 use Rattle.cp_general.proofs.Stepped.{unfit_drops_none}
 use Rattle.cp_general.proofs.generalisation.dropped.Goals as goal
 
 pub returns-then-not-branch-clause-none : goal.returns-then-not-branch-clause-none
-returns-then-not-branch-clause-none c = none_free (skeleton_view c.args.k.now) c.in_ok-some_may_drop.field-0 c.in_ok-some_may_drop.ensures c.if-not-branch.true
+returns-then-not-branch-clause-none c = none_free c.args.k.now c.in_ok-some_may_drop.field-0 c.in_ok-some_may_drop.ensures c.if-not-branch.true
 
 pub returns-then-not-branch-2-clause-none : goal.returns-then-not-branch-2-clause-none
-returns-then-not-branch-2-clause-none c = unfit_drops_none (skeleton_view c.args.k.now) c.in_ok-is_fit.field-0 c.is_sound.ensures.skeleton.no_cycle c.in_ok-is_fit.ensures c.if-not-branch-2.true
+returns-then-not-branch-2-clause-none c = unfit_drops_none c.args.k.now c.in_ok-is_fit.field-0 c.is_sound.ensures.skeleton.no_cycle c.in_ok-is_fit.ensures c.if-not-branch-2.true
 
 pub dropped_where_fit-requires-clause-fit : goal.dropped_where_fit-requires-clause-fit
 dropped_where_fit-requires-clause-fit c = c.in_ok-is_fit.ensures.0 c.if-not-branch-2.false

@@ -2,8 +2,7 @@ use Rattle.std.proofs.Common.{inr, sym, subst}
 use Rattle.std.proofs.lemmas.Result.{IfOk-weaker}
 use Rattle.cp_model.specs.Homomorphism.{Embeds}
 use Rattle.cp_model.proofs.LawEmbeddings.{embeds_same}
-use Rattle.cp_model.specs.Data.{SkeletonData}
-use Rattle.cp_skel.specs.View.{skeleton_view}
+use Rattle.cp_model.specs.Skeleton.{Skeleton}
 use Rattle.cp_general.proofs.SoundGeneralisations.{is_fit, is_most_general, embeds_back}
 use Rattle.cp_general.proofs.generalisation.generalise.Goals as goal
 
@@ -21,4 +20,4 @@ returns-in-Some-clause-fit c = λ _. is_fit (rw c.in-Some.is at c.in_ok-general.
 
 pub returns-in-None-clause-embeds : goal.returns-in-None-clause-embeds
 returns-in-None-clause-embeds c =
-    IfOk-weaker c.copy.result _ _ (λ g same. subst (λ (d : SkeletonData). Embeds (skeleton_view d) (skeleton_view c.args.k.now)) (sym same) (embeds_same (skeleton_view c.args.k.now))) c.copy.ensures.same
+    IfOk-weaker c.copy.result _ _ (λ g same. subst (λ (d : Skeleton). Embeds d c.args.k.now) (sym same) (embeds_same c.args.k.now)) c.copy.ensures.same

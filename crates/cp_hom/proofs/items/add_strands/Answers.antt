@@ -1,21 +1,20 @@
 use Rattle.std.proofs.Common.{◌≡◌, ◌+◌, ◌<◌, ℕ, arith, subst}
-use Rattle.cp_skel.specs.View.{skeleton_view}
 use Rattle.cp_hom.specs.Counterparts.{item_count, AddsFirst}
 use Rattle.cp_hom.specs.declared.items.Kind.TheVariants.{Strands}
 use Rattle.cp_hom.proofs.Itemised.{first_none, first_next, first_then}
 use Rattle.cp_hom.proofs.items.add_strands.Goals as goal
 
 pub loop-index-init : goal.loop-index-init
-loop-index-init c = first_none Strands (skeleton_view c.args.k.now) c.args.items.now.items
+loop-index-init c = first_none Strands c.args.k.now c.args.items.now.items
 
 pub loop-index-preserved : goal.loop-index-preserved
 loop-index-preserved c =
-    first_then Strands (c.loop-index.index + 1) (skeleton_view c.args.k.now) c.args.items.now.items c.push.new.self.items c.add_uniques_on.new.items.items
-    (first_next Strands c.loop-index.index (skeleton_view c.args.k.now) c.args.items.now.items c.loop-index.items.items c.push.new.self.items c.in_ok-push.ensures.items
+    first_then Strands (c.loop-index.index + 1) c.args.k.now c.args.items.now.items c.push.new.self.items c.add_uniques_on.new.items.items
+    (first_next Strands c.loop-index.index c.args.k.now c.args.items.now.items c.loop-index.items.items c.push.new.self.items c.in_ok-push.ensures.items
     (subst (λ (n : ℕ). c.loop-index.index < n) c.count-index-end.ensures c.loop-index-test.true) c.loop-index.invariant)
     c.in_ok-add_uniques_on.ensures
 
 pub returns : goal.returns
 returns c =
-    let e : c.loop-index.index ≡ item_count Strands (skeleton_view c.args.k.now) = omega (arith, c.loop-index-test.false, c.loop-index.auto.index-end, c.count-index-end.ensures) in
-    subst (λ (n : ℕ). AddsFirst Strands n (skeleton_view c.args.k.now) c.args.items.now.items c.loop-index.items.items) e c.loop-index.invariant
+    let e : c.loop-index.index ≡ item_count Strands c.args.k.now = omega (arith, c.loop-index-test.false, c.loop-index.auto.index-end, c.count-index-end.ensures) in
+    subst (λ (n : ℕ). AddsFirst Strands n c.args.k.now c.args.items.now.items c.loop-index.items.items) e c.loop-index.invariant

@@ -1,17 +1,16 @@
 use Rattle.std.proofs.Common.{◌<◌, length, ap, ◌∙◌, subst}
 use Rattle.cp_model.specs.Skeleton.{Assumptions}
-use Rattle.cp_skel.specs.View.{skeleton_view}
 use Rattle.cp_hom.specs.declared.items.Kind.TheVariants.{Uniques}
 use Rattle.cp_hom.specs.declared.items.Item.{Item}
 use Rattle.cp_hom.proofs.Itemised.{adds_nothing, adds_one}
 use Rattle.cp_hom.proofs.items.add_uniques_on.Goals as goal
 
 pub loop-index-init : goal.loop-index-init
-loop-index-init c = adds_nothing (skeleton_view c.args.k.now) c.args.items.now.items
+loop-index-init c = adds_nothing c.args.k.now c.args.items.now.items
 
 pub loop-index-preserved : goal.loop-index-preserved
 loop-index-preserved c =
     let x : Item = record { kind = Uniques; index = c.loop-index.index } in
     let l : c.loop-index.index < length c.args.k.now.assumptions.uniquely_originating =
     subst (λ us. c.loop-index.index < length us) (c.uniquely_originating-uniques.ensures ∙ ap (λ (a : Assumptions). a.uniquely_originating) c.assumptions.ensures) c.loop-index-test.true in
-    adds_one (skeleton_view c.args.k.now) c.args.items.now.items c.loop-index.items.items c.push.new.self.items x c.in_ok-push.ensures.items c.loop-index.invariant l
+    adds_one c.args.k.now c.args.items.now.items c.loop-index.items.items c.push.new.self.items x c.in_ok-push.ensures.items c.loop-index.invariant l

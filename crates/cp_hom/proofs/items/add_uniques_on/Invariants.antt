@@ -1,6 +1,5 @@
-use Rattle.cp_skel.specs.View.{skeleton_view}
 use Rattle.cp_hom.specs.Counterparts.{AddsItems}
 use Rattle.cp_hom.proofs.items.add_uniques_on.Given as goal
 
 abbrev pub invariant-loop-index : goal.invariant-loop-index
-invariant-loop-index l = AddsItems (skeleton_view l.k) l.fn.items.items l.items.items
+invariant-loop-index l = AddsItems l.k l.fn.items.items l.items.items

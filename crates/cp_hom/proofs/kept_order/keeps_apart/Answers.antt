@@ -1,7 +1,5 @@
-use Rattle.std.proofs.Common.{map, refl, arith, below_more}
-use Rattle.std.proofs.lemmas.List.{length-map}
+use Rattle.std.proofs.Common.{refl, arith, below_more}
 use Rattle.cp_model.specs.Homomorphism.{strand_in}
-use Rattle.cp_strand.specs.View.{strand_view}
 use Rattle.cp_model.proofs.CarriedParts.{not_both}
 use Rattle.cp_hom.proofs.Counterparts.{apart_all, one_meets}
 use Rattle.cp_hom.proofs.kept_order.keeps_apart.Goals as goal
@@ -9,7 +7,7 @@ use Rattle.cp_hom.proofs.kept_order.keeps_apart.Goals as goal
 pub returns-then-meets_earlier : goal.returns-then-meets_earlier
 returns-then-meets_earlier c = (
   λ r. absurd (not_both refl r),
-  λ apart. absurd (one_meets (map strand_view c.args.strands.now) (strand_in c.args.mapping.now.strands.items) c.loop-strand.strand (c.meets_earlier.ensures.0 c.if-meets_earlier.true) apart),
+  λ apart. absurd (one_meets c.args.strands.now (strand_in c.args.mapping.now.strands.items) c.loop-strand.strand (c.meets_earlier.ensures.0 c.if-meets_earlier.true) apart),
 )
 
 pub loop-strand-preserved : goal.loop-strand-preserved
@@ -17,7 +15,7 @@ loop-strand-preserved c = λ s l m. below_more _ _ c.loop-strand.invariant (λ h
 
 pub returns : goal.returns
 returns c = (
-  λ _. apart_all (map strand_view c.args.strands.now) (strand_in c.args.mapping.now.strands.items)
-      (λ s l. c.loop-strand.invariant s (let e = length-map c.args.strands.now strand_view in let h = c.loop-strand-test.false in omega (arith, l, e, h))),
+  λ _. apart_all c.args.strands.now (strand_in c.args.mapping.now.strands.items)
+      (λ s l. c.loop-strand.invariant s (let h = c.loop-strand-test.false in omega (arith, l, h))),
   λ _. refl,
 )

@@ -1,8 +1,6 @@
-use Rattle.std.proofs.Common.{List, map, subst, subst₂}
-use Rattle.cp_strand.specs.View.{strand_view}
-use Rattle.cp_skel.specs.View.{skeleton_view}
+use Rattle.std.proofs.Common.{List, subst, subst₂}
 use Rattle.cp_model.specs.Homomorphism.{SkeletonMap}
-use Rattle.cp_model.specs.Data.{StrandData}
+use Rattle.cp_model.specs.Skeleton.{SkeletonStrand}
 use Rattle.cp_hom.specs.PartialMaps.{partial_view, Places}
 use Rattle.cp_hom.specs.Counterparts.{TakesItem, IsBlocked, IsPlacedElsewhere, KeepsPairs, KeepsOrderApart}
 use Rattle.cp_hom.specs.declared.partials.Placement.{Placement}
@@ -11,30 +9,30 @@ use Rattle.cp_hom.proofs.search.try_choice.Goals as goal
 
 pub returns-then-is_blocked : goal.returns-then-is_blocked
 returns-then-is_blocked c =
-    blocked_never (skeleton_view c.args.a.now) (skeleton_view c.args.b.now) c.args.item c.args.choice (partial_view c.args.given.now)
-    (subst₂ (λ (xs : List StrandData) (ps : List Placement). IsBlocked (map strand_view xs) c.args.item c.args.choice ps) c.strands.ensures c.deref.ensures.value
+    blocked_never c.args.a.now c.args.b.now c.args.item c.args.choice (partial_view c.args.given.now)
+    (subst₂ (λ (xs : List SkeletonStrand) (ps : List Placement). IsBlocked xs c.args.item c.args.choice ps) c.strands.ensures c.deref.ensures.value
     (c.is_blocked.ensures.0 c.if-is_blocked.true))
 
 pub returns-then-is_elsewhere : goal.returns-then-is_elsewhere
 returns-then-is_elsewhere c =
-    elsewhere_never (skeleton_view c.args.a.now) (skeleton_view c.args.b.now) c.args.item c.args.choice (partial_view c.args.given.now)
+    elsewhere_never c.args.a.now c.args.b.now c.args.item c.args.choice (partial_view c.args.given.now)
     (subst (λ (ps : List Placement). IsPlacedElsewhere c.args.item c.args.choice ps) c.deref-2.ensures.value (c.is_elsewhere.ensures.0 c.if-is_elsewhere.true))
 
 pub returns-in_default : goal.returns-in_default
 returns-in_default c =
-    none_found (KeepsOrderApart (skeleton_view c.args.a.now) (skeleton_view c.args.b.now)) (TakesItem (skeleton_view c.args.a.now) (skeleton_view c.args.b.now) c.args.item c.args.choice)
+    none_found (KeepsOrderApart c.args.a.now c.args.b.now) (TakesItem c.args.a.now c.args.b.now c.args.item c.args.choice)
     (partial_view c.args.given.now) (partial_view c.in_ok-copy.copy) c.in_ok-found.field-0 c.in_ok-copy.ensures c.in_default.is c.in_ok-found.ensures
 
 pub returns-then-branch : goal.returns-then-branch
 returns-then-branch c =
-    broken_never (skeleton_view c.args.a.now) (skeleton_view c.args.b.now) (TakesItem (skeleton_view c.args.a.now) (skeleton_view c.args.b.now) c.args.item c.args.choice)
+    broken_never c.args.a.now c.args.b.now (TakesItem c.args.a.now c.args.b.now c.args.item c.args.choice)
     (partial_view c.args.given.now) (partial_view c.in-Some.found)
-    (found_extends (TakesItem (skeleton_view c.args.a.now) (skeleton_view c.args.b.now) c.args.item c.args.choice) (partial_view c.args.given.now) (partial_view c.in_ok-copy.copy) c.in_ok-found.field-0
+    (found_extends (TakesItem c.args.a.now c.args.b.now c.args.item c.args.choice) (partial_view c.args.given.now) (partial_view c.in_ok-copy.copy) c.in_ok-found.field-0
     c.in-Some.found c.in_ok-copy.ensures c.in-Some.is c.in_ok-found.ensures)
-    (subst (λ (ps : List Placement). (f : SkeletonMap) → Places f.strands ps → KeepsPairs (skeleton_view c.args.a.now).pairs (skeleton_view c.args.b.now).pairs f → ⊥) c.deref-3.ensures.value
+    (subst (λ (ps : List Placement). (f : SkeletonMap) → Places f.strands ps → KeepsPairs c.args.a.now.pairs c.args.b.now.pairs f → ⊥) c.deref-3.ensures.value
     (c.in_ok-breaks_order.ensures c.if-branch.true))
 
 pub returns : goal.returns
 returns c =
-    found_extends (TakesItem (skeleton_view c.args.a.now) (skeleton_view c.args.b.now) c.args.item c.args.choice) (partial_view c.args.given.now) (partial_view c.in_ok-copy.copy) c.in_ok-found.field-0
+    found_extends (TakesItem c.args.a.now c.args.b.now c.args.item c.args.choice) (partial_view c.args.given.now) (partial_view c.in_ok-copy.copy) c.in_ok-found.field-0
     c.in-Some.found c.in_ok-copy.ensures c.in-Some.is c.in_ok-found.ensures

@@ -2,7 +2,6 @@ use Rattle.std.proofs.Common.{ℕ, List, ◌∷◌, map, sym, ap, ◌∙◌}
 use Rattle.cp_sexpr.specs.View.{view}
 use Rattle.cp_sexpr.specs.declared.form.Form as program
 use Rattle.cp_language.specs.Problems.{number_of}
-use Rattle.cp_strand.specs.View.{strand_view}
 use Rattle.cp_report.specs.Skeletons.{strand_number_misfits}
 use Rattle.cp_report.specs.Labels.{index_misfits}
 use Rattle.cp_spelled.specs.FirstMisfit.{first_onto}
@@ -13,7 +12,7 @@ use Rattle.cp_items.proofs.places.node_place_misfits.Goals as goal
 
 pub returns : goal.returns
 returns c =
-    let ks = map strand_view c.args.strands.now in
+    let ks = c.args.strands.now in
     let strand = c.in-Some.strand.now in
     let index = c.in-Some-split_first.index.now in
     let p = c.strand_number_misfits.new.first in

@@ -1,6 +1,6 @@
 use Rattle.std.proofs.Common.{[]}
 use Rattle.cp_roles.specs.Above.{protocols_view, turned}
-use Rattle.cp_load.proofs.TopForms.{faults-taken, entries-taken, faults-done, entries-done, counted}
+use Rattle.cp_load.proofs.TopForms.{faults-taken, entries-taken, faults-done, entries-done}
 use Rattle.cp_load.proofs.loader.read_forms.Goals as goal
 
 pub loop-form-preserved : goal.loop-form-preserved
@@ -20,6 +20,3 @@ returns-clause-faults c = faults-done c.args.forms.now c.loop-form.form-index c.
 
 pub returns-clause-entries : goal.returns-clause-entries
 returns-clause-entries c = entries-done c.args.forms.now c.loop-form.form-index c.loop-form-test.false (turned (protocols_view c.loop-form.protocols.items) []) c.loop-form.unchecked_entries.items _ c.loop-form.invariant.1
-
-pub returns-clause-counted : goal.returns-clause-counted
-returns-clause-counted c = counted c.args.forms.now c.loop-form.form-index c.loop-form-test.false (turned (protocols_view c.loop-form.protocols.items) []) c.loop-form.unchecked_entries.items c.loop-form.invariant.1

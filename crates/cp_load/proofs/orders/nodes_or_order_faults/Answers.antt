@@ -1,15 +1,14 @@
-use Rattle.std.proofs.Common.{map, ap, ◌∙◌}
+use Rattle.std.proofs.Common.{ap, ◌∙◌}
 use Rattle.std.proofs.lemmas.Result.{on_ok_weaker}
 use Rattle.cp_sexpr.specs.View.{view}
 use Rattle.cp_language.specs.Problems.{node_of, node_faults, pair_of_nodes, order_faults}
-use Rattle.cp_strand.specs.View.{strand_view}
 use Rattle.cp_scope.specs.FirstFault.{first_onto}
 use Rattle.cp_load.proofs.Cycles.{nodes-there, nodes-faulty}
 use Rattle.cp_load.proofs.orders.nodes_or_order_faults.Goals as goal
 
 pub returns-then-is_none : goal.returns-then-is_none
 returns-then-is_none c =
-    let strands = map strand_view c.args.before.strands.now in
+    let strands = c.args.before.strands.now in
     let f = view c.args.earlier.now in
     let g = view c.args.later.now in
     let others = order_faults strands c.args.before.pairs.now c.args.place f g (pair_of_nodes (node_of f) (node_of g)) in
@@ -21,7 +20,7 @@ returns-then-is_none c =
 
 pub returns : goal.returns
 returns c =
-    let strands = map strand_view c.args.before.strands.now in
+    let strands = c.args.before.strands.now in
     let f = view c.args.earlier.now in
     let g = view c.args.later.now in
     let others = order_faults strands c.args.before.pairs.now c.args.place f g (pair_of_nodes (node_of f) (node_of g)) in

@@ -1,7 +1,6 @@
-use Rattle.std.proofs.Common.{◌++◌, map, sym, ap, ◌∙◌, subst}
+use Rattle.std.proofs.Common.{◌++◌, sym, ap, ◌∙◌, subst}
 use Rattle.cp_sexpr.specs.View.{view}
 use Rattle.cp_language.specs.Problems.{node_of, pair_of_nodes, between_strands}
-use Rattle.cp_strand.specs.View.{strand_view}
 use Rattle.cp_load.specs.Acyclic.{IsAcyclicIf}
 use Rattle.cp_load.proofs.Cycles.{behind-fault}
 use Rattle.cp_load.proofs.orders.order_faults.Goals as goal
@@ -17,5 +16,5 @@ pub returns-then-is_behind_fault : goal.returns-then-is_behind_fault
 returns-then-is_behind_fault c =
     let f = view c.args.stated.earlier.now in
     let g = view c.args.stated.later.now in
-    behind-fault c.args.first.now (map strand_view c.args.before.strands.now) c.args.before.pairs.now c.args.stated.place f g (pair_of_nodes (node_of f) (node_of g))
+    behind-fault c.args.first.now c.args.before.strands.now c.args.before.pairs.now c.args.stated.place f g (pair_of_nodes (node_of f) (node_of g))
     (sym c.is_behind_fault.ensures ∙ c.if-is_behind_fault.true)

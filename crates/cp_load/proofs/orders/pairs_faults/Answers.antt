@@ -1,8 +1,7 @@
-use Rattle.std.proofs.Common.{◌++◌, List, map, sym, ap, ◌∙◌, subst}
+use Rattle.std.proofs.Common.{◌++◌, List, sym, ap, ◌∙◌, subst}
 use Rattle.std.specs.Prelude.{nat_lt}
 use Rattle.cp_sexpr.specs.View.{view}
 use Rattle.cp_language.specs.Problems.{pair_of, pair_faults}
-use Rattle.cp_strand.specs.View.{strand_view}
 use Rattle.cp_model.specs.declared.node.OrderPair.{OrderPair}
 use Rattle.cp_scope.specs.FirstFault.{first_onto}
 use Rattle.cp_load.proofs.Cycles.{pair-behind}
@@ -12,7 +11,7 @@ use Rattle.cp_load.proofs.orders.pairs_faults.Goals as goal
 
 pub loop-form-preserved : goal.loop-form-preserved
 loop-form-preserved c =
-    let strands = map strand_view c.args.strands.now in
+    let strands = c.args.strands.now in
     let before = c.loop-form.before.items in
     pair-behind strands c.args.items.now c.loop-form.form-index c.form-item.result c.loop-form-test.true c.form-item.is before c.add_pair.new.pairs.items (c.in_ok-add_pair.ensures ∙ ap (λ ps. before ++ ps) c.pair_of.ensures)
     c.loop-form.first c.pair_faults.new.first _ _

@@ -1,10 +1,9 @@
-use Rattle.std.proofs.Common.{◌≡◌, map, sym, ap, ◌∙◌}
+use Rattle.std.proofs.Common.{◌≡◌, sym, ap, ◌∙◌}
 use Rattle.cp_base.specs.declared.place.Code.TheVariants.{UniqNowhere}
 use Rattle.cp_sexpr.specs.View.{view}
 use Rattle.cp_language.specs.Faults.{fault_unless, place_of}
 use Rattle.cp_language.specs.Terms.{atom_faults, term_of, as_atom}
 use Rattle.cp_language.specs.Problems.{is_not_empty, origins_from}
-use Rattle.cp_strand.specs.View.{strand_view}
 use Rattle.cp_scope.specs.FirstFault.{first_onto, onto_none}
 use Rattle.cp_load.specs.Originations.{originates}
 use Rattle.cp_load.proofs.UniqueOrigins.{not-nowhere}
@@ -14,7 +13,7 @@ use Rattle.cp_load.proofs.values.unique_faults.Goals as goal
 pub returns : goal.returns
 returns c =
     let ds = c.args.variables.now in
-    let ks = map strand_view c.args.strands.now in
+    let ks = c.args.strands.now in
     let f = view c.args.form.now in
     let i = c.atom_faults.new.first in
     let v = as_atom (term_of ds f) in

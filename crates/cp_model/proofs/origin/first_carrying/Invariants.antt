@@ -1,4 +1,3 @@
-use Rattle.std.proofs.Common.{map}
 use Rattle.cp_model.specs.FirstCarriers.{NoneCarriesBefore}
 use Rattle.cp_model.proofs.origin.first_carrying.Given as goal
 

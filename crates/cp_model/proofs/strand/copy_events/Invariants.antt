@@ -1,4 +1,4 @@
-use Rattle.std.proofs.Common.{◌≡◌, ◌++◌, drop, map}
+use Rattle.std.proofs.Common.{◌≡◌, ◌++◌, drop}
 use Rattle.cp_model.proofs.strand.copy_events.Given as goal
 
 abbrev pub invariant-loop-event : goal.invariant-loop-event

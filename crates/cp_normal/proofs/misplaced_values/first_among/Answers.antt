@@ -1,23 +1,22 @@
-use Rattle.cp_skel.specs.View.{skeleton_view}
 use Rattle.cp_normal.specs.MisplacedValues.{OriginatesMisplaced}
 use Rattle.cp_normal.proofs.MisplacedOriginations.{none_next, none_is_misplaced, event_listed, first_misplaced_found, none_of_entries}
 use Rattle.cp_normal.proofs.misplaced_values.first_among.Goals as goal
 
 pub first_at-requires-clause-is_there : goal.first_at-requires-clause-is_there
 first_at-requires-clause-is_there c =
-    event_listed (skeleton_view c.args.k.now) c.args.occurrences.now c.requires.listed c.loop-occurrence.occurrence-index c.occurrence-item.result c.loop-occurrence-test.true c.occurrence-item.is
+    event_listed c.args.k.now c.args.occurrences.now c.requires.listed c.loop-occurrence.occurrence-index c.occurrence-item.result c.loop-occurrence-test.true c.occurrence-item.is
 
 pub returns-in-Some : goal.returns-in-Some
 returns-in-Some c =
-    first_misplaced_found (skeleton_view c.args.k.now) c.args.occurrences.now c.requires.listed c.loop-occurrence.occurrence-index c.occurrence-item.result c.occurrence-item.result c.in-Some.value _
+    first_misplaced_found c.args.k.now c.args.occurrences.now c.requires.listed c.loop-occurrence.occurrence-index c.occurrence-item.result c.occurrence-item.result c.in-Some.value _
     c.requires.in_order c.loop-occurrence-test.true c.occurrence-item.is c.loop-occurrence.invariant (rw c.in-Some.is at c.in_ok-value.ensures)
 
 pub loop-occurrence-preserved : goal.loop-occurrence-preserved
 loop-occurrence-preserved c =
-    none_next (OriginatesMisplaced (skeleton_view c.args.k.now)) c.args.occurrences.now c.loop-occurrence.occurrence-index c.occurrence-item.result c.occurrence-item.result c.loop-occurrence-test.true c.occurrence-item.is
-    (none_of_entries (skeleton_view c.args.k.now) c.occurrence-item.result _ c.requires.in_order (rw c.in-None.is at c.in_ok-value.ensures))
+    none_next (OriginatesMisplaced c.args.k.now) c.args.occurrences.now c.loop-occurrence.occurrence-index c.occurrence-item.result c.occurrence-item.result c.loop-occurrence-test.true c.occurrence-item.is
+    (none_of_entries c.args.k.now c.occurrence-item.result _ c.requires.in_order (rw c.in-None.is at c.in_ok-value.ensures))
     c.loop-occurrence.invariant
 
 pub returns : goal.returns
 returns c =
-    none_is_misplaced (skeleton_view c.args.k.now) c.args.occurrences.now c.requires.listed c.loop-occurrence.occurrence-index c.loop-occurrence-test.false c.loop-occurrence.invariant
+    none_is_misplaced c.args.k.now c.args.occurrences.now c.requires.listed c.loop-occurrence.occurrence-index c.loop-occurrence-test.false c.loop-occurrence.invariant

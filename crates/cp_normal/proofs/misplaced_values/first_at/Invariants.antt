@@ -1,6 +1,5 @@
-use Rattle.cp_skel.specs.View.{skeleton_view}
 use Rattle.cp_normal.specs.MisplacedValues.{OriginatesElsewhere, NoneBefore}
 use Rattle.cp_normal.proofs.misplaced_values.first_at.Given as goal
 
 abbrev pub invariant-loop-unique : goal.invariant-loop-unique
-invariant-loop-unique l = NoneBefore (OriginatesElsewhere (skeleton_view l.k) l.occurrence.node) l.uniques l.unique-index
+invariant-loop-unique l = NoneBefore (OriginatesElsewhere l.k l.occurrence.node) l.uniques l.unique-index

@@ -1,24 +1,23 @@
 use Rattle.std.proofs.Common.{sym, ap, ◌∙◌, subst}
 use Rattle.cp_lists.specs.Lists.{IsIn}
 use Rattle.cp_lists.proofs.Items.{at_place}
-use Rattle.cp_skel.specs.View.{skeleton_view}
 use Rattle.cp_normal.specs.MisplacedValues.{OriginatesMisplaced}
 use Rattle.cp_normal.proofs.MisplacedOriginations.{none_next, none_is_misplaced, event_listed}
 use Rattle.cp_normal.proofs.misplaced_values.some_is_misplaced.Goals as goal
 
 pub first_at-requires-clause-is_there : goal.first_at-requires-clause-is_there
 first_at-requires-clause-is_there c =
-    event_listed (skeleton_view c.args.k.now) c.args.occurrences.now c.requires.listed c.loop-occurrence.occurrence-index c.occurrence-item.result c.loop-occurrence-test.true c.occurrence-item.is
+    event_listed c.args.k.now c.args.occurrences.now c.requires.listed c.loop-occurrence.occurrence-index c.occurrence-item.result c.loop-occurrence-test.true c.occurrence-item.is
 
 pub loop-occurrence-preserved : goal.loop-occurrence-preserved
 loop-occurrence-preserved c =
     let own = c.uniquely_originating-uniques.ensures ∙ ap (λ a. a.uniquely_originating) c.assumptions.ensures in
-    none_next (OriginatesMisplaced (skeleton_view c.args.k.now)) c.args.occurrences.now c.loop-occurrence.occurrence-index c.occurrence-item.result c.occurrence-item.result c.loop-occurrence-test.true c.occurrence-item.is
+    none_next (OriginatesMisplaced c.args.k.now) c.args.occurrences.now c.loop-occurrence.occurrence-index c.occurrence-item.result c.occurrence-item.result c.loop-occurrence-test.true c.occurrence-item.is
     (λ s. (rw c.in-None.is at c.in_ok-first_at.ensures) s.0 (subst (IsIn s.0) (sym own) s.1) s.2)
     c.loop-occurrence.invariant
 
 pub returns-clause-none : goal.returns-clause-none
-returns-clause-none c = λ e. none_is_misplaced (skeleton_view c.args.k.now) c.args.occurrences.now c.requires.listed c.loop-occurrence.occurrence-index c.loop-occurrence-test.false c.loop-occurrence.invariant
+returns-clause-none c = λ e. none_is_misplaced c.args.k.now c.args.occurrences.now c.requires.listed c.loop-occurrence.occurrence-index c.loop-occurrence-test.false c.loop-occurrence.invariant
 
 pub returns-in-Some-clause-some : goal.returns-in-Some-clause-some
 returns-in-Some-clause-some c = λ t settled.

@@ -1,22 +1,21 @@
 use Rattle.std.proofs.Common.{refl}
 use Rattle.cp_model.specs.Realisation.{OriginatesAtTerm}
-use Rattle.cp_skel.specs.View.{skeleton_view}
 use Rattle.cp_model.proofs.CarriedParts.{not_both}
 use Rattle.cp_collapse.proofs.ItemsWithProperty.{found, next, none}
 use Rattle.cp_normal.proofs.origins.one_loses_origin.Goals as goal
 
 pub returns-then-not-originates : goal.returns-then-not-originates
 returns-then-not-originates c = (
-  λ _. found (λ u. OriginatesAtTerm (skeleton_view c.args.k.now) u.value u.origin → ⊥) _ _ _ c.loop-unique-test.true c.unique-item.is (λ p. not_both c.if-not-originates.true (c.originates.ensures.1 p)),
+  λ _. found (λ u. OriginatesAtTerm c.args.k.now u.value u.origin → ⊥) _ _ _ c.loop-unique-test.true c.unique-item.is (λ p. not_both c.if-not-originates.true (c.originates.ensures.1 p)),
   λ _. refl,
 )
 
 pub loop-unique-preserved : goal.loop-unique-preserved
 loop-unique-preserved c =
-    λ h. next (λ u. OriginatesAtTerm (skeleton_view c.args.k.now) u.value u.origin → ⊥) _ _ _ c.loop-unique-test.true c.unique-item.is (λ p. p (c.originates.ensures.0 c.if-not-originates.false)) (c.loop-unique.invariant h)
+    λ h. next (λ u. OriginatesAtTerm c.args.k.now u.value u.origin → ⊥) _ _ _ c.loop-unique-test.true c.unique-item.is (λ p. p (c.originates.ensures.0 c.if-not-originates.false)) (c.loop-unique.invariant h)
 
 pub returns : goal.returns
 returns c = (
   λ r. absurd (not_both refl r),
-  λ h. absurd (none (λ u. OriginatesAtTerm (skeleton_view c.args.k.now) u.value u.origin → ⊥) _ _ c.loop-unique-test.false (c.loop-unique.invariant h)),
+  λ h. absurd (none (λ u. OriginatesAtTerm c.args.k.now u.value u.origin → ⊥) _ _ c.loop-unique-test.false (c.loop-unique.invariant h)),
 )

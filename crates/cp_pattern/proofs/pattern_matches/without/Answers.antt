@@ -1,5 +1,4 @@
 use Rattle.std.proofs.Common.{◌∷◌, sym, ap, ap₂, ◌∙◌}
-use Rattle.cp_unify.specs.Atoms.{atom_of}
 use Rattle.cp_unify.specs.Bindings.{Binding}
 use Rattle.cp_pattern.proofs.AgreedBindings.{none_kept, left_out, kept_too, all_kept}
 use Rattle.cp_pattern.proofs.pattern_matches.without.Goals as goal
@@ -17,7 +16,7 @@ loop-binding-preserved c =
     kept_too c.args.locals.now c.args.bindings.now c.loop-binding.kept c.loop-binding.binding-index c.binding-item.result c.loop-binding.invariant c.loop-binding-test.true c.binding-item.is
     (sym c.is_of_local.ensures ∙ c.if-is_of_local.false)
     c.in_ok-kept.kept
-    (c.in_ok-kept.ensures ∙ ap (λ (b : Binding). b ∷ c.loop-binding.kept) (c.new.ensures ∙ ap₂ (λ n t. record { number = n; term = atom_of t }) c.variable.ensures (c.in_ok-term.ensures ∙ c.term.ensures)))
+    (c.in_ok-kept.ensures ∙ ap (λ (b : Binding). b ∷ c.loop-binding.kept) (c.new.ensures ∙ ap₂ (λ x t. record { variable = x; term = t }) c.variable.ensures (c.in_ok-term.ensures ∙ c.term.ensures.term)))
 
 pub returns : goal.returns
 returns c = all_kept c.args.locals.now c.args.bindings.now c.loop-binding.kept c.loop-binding.binding-index c.loop-binding-test.false c.loop-binding.invariant

@@ -2,14 +2,13 @@ use Rattle.std.proofs.Common.{◌++◌, ap, ◌∙◌}
 use Rattle.cp_theory.specs.Normal.{variables_of_terms}
 use Rattle.cp_model.specs.Problem.{variables_of_atoms, variables_of_uniques}
 use Rattle.cp_model.specs.Strand.{variables_of_trace}
-use Rattle.cp_skel.specs.View.{skeleton_view}
 use Rattle.cp_pattern.specs.Within.{variables_of_occurrences}
 use Rattle.cp_pattern.proofs.VariablesOfLists.{of_events, all_gathered}
 use Rattle.cp_pattern.proofs.used.used_in.Goals as goal
 
 pub returns : goal.returns
 returns c =
-    let k = skeleton_view c.args.k.now in
+    let k = c.args.k.now in
     all_gathered k (variables_of_trace c.new-events.result.items) (variables_of_trace c.add_messages.new.events.items) (variables_of_trace c.add_atoms.new.events.items)
     (variables_of_trace c.add_atoms-2.new.events.items) (variables_of_trace c.add_uniques.new.events.items) (variables_of_trace c.add_terms.new.events.items)
     (ap variables_of_trace c.new-events.ensures.items)

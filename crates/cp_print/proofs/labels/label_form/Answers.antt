@@ -4,7 +4,6 @@ use Rattle.cp_model.specs.declared.variable.Declaration.{Declaration}
 use Rattle.cp_language.specs.Report.{occurring, vars_from}
 use Rattle.cp_language.specs.Names.{label_names}
 use Rattle.cp_sexpr.specs.View.{view}
-use Rattle.cp_skel.specs.Trees.{label_view}
 use Rattle.cp_print.specs.MarkedForms.{vars_by}
 use Rattle.cp_print.proofs.ByFlags.{vars-by}
 use Rattle.cp_print.proofs.LabelForms.{label_whole}
@@ -12,10 +11,10 @@ use Rattle.cp_print.proofs.labels.label_form.Goals as goal
 
 pub returns : goal.returns
 returns c =
-    let l = label_view c.args.label.now in
+    let l = c.args.label.now in
     let of_problem = c.args.of_problem.now in
     let xs = occurring l in
-    let ds = l.variables in
+    let ds = l.skeleton.variables in
     let known = c.in_ok-variables.ensures in
     let flags = c.in_ok-variables.variables.flags.items in
     let names = label_names of_problem xs ds in

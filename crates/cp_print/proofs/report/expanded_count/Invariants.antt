@@ -1,7 +1,6 @@
-use Rattle.std.proofs.Common.{◌≡◌, ◌≤◌, ◌+◌, map, drop}
+use Rattle.std.proofs.Common.{◌≡◌, ◌≤◌, ◌+◌, drop}
 use Rattle.cp_model.specs.Tree.{expanded_count}
-use Rattle.cp_skel.specs.Trees.{label_view}
 use Rattle.cp_print.proofs.report.expanded_count.Given as goal
 
 abbrev pub invariant-loop-label : goal.invariant-loop-label
-invariant-loop-label l = (l.count + expanded_count (map label_view (drop l.label-index l.labels)) ≡ expanded_count (map label_view l.labels)) × (l.count ≤ l.label-index)
+invariant-loop-label l = (l.count + expanded_count (drop l.label-index l.labels) ≡ expanded_count l.labels) × (l.count ≤ l.label-index)

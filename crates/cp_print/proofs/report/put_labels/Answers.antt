@@ -1,7 +1,6 @@
-use Rattle.std.proofs.Common.{◌≡◌, true, false, ◌+◌, [], ◌∷◌, map, sym, ◌∙◌}
+use Rattle.std.proofs.Common.{◌≡◌, true, false, ◌+◌, [], ◌∷◌, sym, ◌∙◌}
 use Rattle.cp_language.specs.ShapesText.{chosen_from}
 use Rattle.cp_sexpr.specs.View.{view}
-use Rattle.cp_skel.specs.Trees.{label_view}
 use Rattle.cp_print.specs.Chosen.{chosen_by}
 use Rattle.cp_print.proofs.Writings.{leaves_all, leaves_more, leaves_same, leaves_front, leaves_stop, leaves_none}
 use Rattle.cp_sexpr.proofs.Spelled.{OnErr-from}
@@ -9,7 +8,7 @@ use Rattle.cp_print.proofs.Entries.{labels_left, labels_put, labels_skipped, lab
 use Rattle.cp_print.proofs.report.put_labels.Goals as goal
 
 pub loop-number-init : goal.loop-number-init
-loop-number-init c = leaves_all c.args.out.now.items c.args.ends.now.items (chosen_from (chosen_by c.args.chosen) c.args.of_problem.now 0 (map label_view c.args.labels.now))
+loop-number-init c = leaves_all c.args.out.now.items c.args.ends.now.items (chosen_from (chosen_by c.args.chosen) c.args.of_problem.now 0 c.args.labels.now)
 
 pub loop-number-preserved-then-not-is_chosen : goal.loop-number-preserved-then-not-is_chosen
 loop-number-preserved-then-not-is_chosen c =
@@ -17,8 +16,8 @@ loop-number-preserved-then-not-is_chosen c =
     let chosen = chosen_by c.args.chosen in
     let labels = c.args.labels.now in
     let l = c.loop-number in
-    let not_chosen : chosen (label_view c.index-labels-number.result) ≡ false = sym c.is_chosen.ensures ∙ c.if-not-is_chosen.true in
-    leaves_same c.args.out.now.items c.args.ends.now.items l.out.items l.ends.items (chosen_from chosen names 0 (map label_view labels)) (labels_left chosen names l.number labels) (labels_left chosen names (l.number + 1) labels)
+    let not_chosen : chosen c.index-labels-number.result ≡ false = sym c.is_chosen.ensures ∙ c.if-not-is_chosen.true in
+    leaves_same c.args.out.now.items c.args.ends.now.items l.out.items l.ends.items (chosen_from chosen names 0 labels) (labels_left chosen names l.number labels) (labels_left chosen names (l.number + 1) labels)
     l.invariant (labels_skipped chosen names l.number labels c.index-labels-number.result c.loop-number-test.true c.index-labels-number.is not_chosen)
 
 pub loop-number-preserved : goal.loop-number-preserved
@@ -27,7 +26,7 @@ loop-number-preserved c =
     let chosen = chosen_by c.args.chosen in
     let labels = c.args.labels.now in
     let l = c.loop-number in
-    leaves_more c.args.out.now.items c.args.ends.now.items l.out.items l.ends.items c.put.new.out.items c.put.new.ends.items (chosen_from chosen names 0 (map label_view labels)) (view c.in_ok-form.form ∷ [])
+    leaves_more c.args.out.now.items c.args.ends.now.items l.out.items l.ends.items c.put.new.out.items c.put.new.ends.items (chosen_from chosen names 0 labels) (view c.in_ok-form.form ∷ [])
     (labels_left chosen names l.number labels) (labels_left chosen names (l.number + 1) labels)
     l.invariant (labels_put chosen names l.number labels c.index-labels-number.result c.is_chosen.result (view c.in_ok-form.form) c.loop-number-test.true c.index-labels-number.is c.is_chosen.ensures c.if-not-is_chosen.false c.in_ok-form.ensures)
     c.in_ok-put.ensures.ok
@@ -37,7 +36,7 @@ returns-in_err-form-clause-err c =
     let names = c.args.of_problem.now in
     let chosen = chosen_by c.args.chosen in
     let l = c.loop-number in
-    OnErr-from c.from_residual.result (leaves_stop c.args.out.now.items c.args.ends.now.items l.out.items l.ends.items (chosen_from chosen names 0 (map label_view c.args.labels.now)) (labels_left chosen names l.number c.args.labels.now) l.invariant)
+    OnErr-from c.from_residual.result (leaves_stop c.args.out.now.items c.args.ends.now.items l.out.items l.ends.items (chosen_from chosen names 0 c.args.labels.now) (labels_left chosen names l.number c.args.labels.now) l.invariant)
 
 pub returns-in_err-put-clause-err : goal.returns-in_err-put-clause-err
 returns-in_err-put-clause-err c =
@@ -46,7 +45,7 @@ returns-in_err-put-clause-err c =
     let labels = c.args.labels.now in
     let l = c.loop-number in
     let next = labels_put chosen names l.number labels c.index-labels-number.result c.is_chosen.result (view c.in_ok-form.form) c.loop-number-test.true c.index-labels-number.is c.is_chosen.ensures c.if-not-is_chosen.false c.in_ok-form.ensures in
-    OnErr-from c.from_residual-in_err-put.result (leaves_front c.args.out.now.items c.args.ends.now.items l.out.items l.ends.items c.put.new.out.items (chosen_from chosen names 0 (map label_view labels)) (view c.in_ok-form.form ∷ [])
+    OnErr-from c.from_residual-in_err-put.result (leaves_front c.args.out.now.items c.args.ends.now.items l.out.items l.ends.items c.put.new.out.items (chosen_from chosen names 0 labels) (view c.in_ok-form.form ∷ [])
     (labels_left chosen names l.number labels) (labels_left chosen names (l.number + 1) labels) l.invariant next c.in_err-put.ensures.err)
 
 pub returns-clause-ok : goal.returns-clause-ok
@@ -54,5 +53,5 @@ returns-clause-ok c =
     let names = c.args.of_problem.now in
     let chosen = chosen_by c.args.chosen in
     let l = c.loop-number in
-    leaves_none c.args.out.now.items c.args.ends.now.items l.out.items l.ends.items (chosen_from chosen names 0 (map label_view c.args.labels.now)) (labels_left chosen names l.number c.args.labels.now)
+    leaves_none c.args.out.now.items c.args.ends.now.items l.out.items l.ends.items (chosen_from chosen names 0 c.args.labels.now) (labels_left chosen names l.number c.args.labels.now)
     l.invariant (labels_done chosen names l.number c.args.labels.now c.loop-number-test.false)

@@ -4,7 +4,6 @@ use Rattle.cp_model.specs.Strand.{Role}
 use Rattle.cp_model.specs.Skeleton.{SkeletonStrand}
 use Rattle.cp_sexpr.specs.View.{view}
 use Rattle.cp_load.specs.UncheckedProblems.{unchecked_view}
-use Rattle.cp_strand.specs.View.{strand_view}
 use Rattle.cp_report.specs.Heads.{items_with, strand_heads, lines_of_label, order_misfits}
 use Rattle.cp_report.specs.Spelled.{Scope}
 use Rattle.cp_report.specs.Skeletons.{strand_of, around_strands_misfits}
@@ -27,5 +26,5 @@ returns c =
     let about = about_strands_misfits p its in
     first_then place_before c.args.first.now c.around_strands_misfits.new.first c.about_strands_misfits.new.first around about
     (c.in_ok-around_strands_misfits.ensures ∙ ap (λ (q : Place). first_onto c.args.first.now (around_strands_misfits p q its)) c.place_of_lack-lack.ensures)
-    (c.about_strands_misfits.ensures ∙ ap (λ (ks : List SkeletonStrand). first_onto c.around_strands_misfits.new.first (about_these_misfits ks its)) (ap (map strand_view) c.deref-3.ensures.value ∙ made))
+    (c.about_strands_misfits.ensures ∙ ap (λ (ks : List SkeletonStrand). first_onto c.around_strands_misfits.new.first (about_these_misfits ks its)) (c.deref-3.ensures.value ∙ made))
     ∙ sym (ap (λ b. first_onto c.args.first.now (if b then around ++ about else [])) c.if-not-is_asked.false)

@@ -1,5 +1,5 @@
 use Rattle.std.proofs.Common.{[], map, ap, ◌∙◌}
-use Rattle.cp_load.specs.UncheckedProblems.{stated_from}
+use Rattle.cp_language.specs.Input.{entries_from}
 use Rattle.cp_report.specs.ReadBack.{Sections}
 use Rattle.cp_readback.specs.Sections.{section_view, sections_view}
 use Rattle.cp_readback.specs.Reports.{forms_in}
@@ -11,7 +11,7 @@ returns-clause-sections c = ap (λ (t : Sections). t.sections) c.in_ok-front.ens
 
 pub returns-clause-entries : goal.returns-clause-entries
 returns-clause-entries c =
-    c.in_ok-unchecked_entries.ensures.entries ∙ ap (λ ss. stated_from [] (forms_in (map section_view ss))) c.deref.ensures.value ∙ ap (λ (t : Sections). stated_from [] (forms_in t.sections)) c.in_ok-front.ensures
+    c.in_ok-unchecked_entries.ensures.entries ∙ ap (λ ss. entries_from [] (forms_in (map section_view ss))) c.deref.ensures.value ∙ ap (λ (t : Sections). entries_from [] (forms_in t.sections)) c.in_ok-front.ensures
 
 pub returns-clause-misfit : goal.returns-clause-misfit
 returns-clause-misfit c =

@@ -1,11 +1,9 @@
-use Rattle.std.proofs.Common.{◌≡◌, Some, [], map, ap, ◌∙◌}
-use Rattle.std.proofs.lemmas.List.{length-map}
+use Rattle.std.proofs.Common.{◌≡◌, Some, map, ap, ◌∙◌}
 use Rattle.cp_sexpr.specs.View.{view}
-use Rattle.cp_skel.specs.Trees.{tree_view}
 use Rattle.cp_report.specs.ReadBack.{sections_of}
 use Rattle.cp_readback.specs.Sections.{section_view}
 use Rattle.cp_readback.specs.Reports.{forms_in, all_unchecked_view}
-use Rattle.cp_readback.proofs.Reported.{read-refused, problems-listed, trees-fit, unchecked_problems-fit, report-read, trees-are, entries-are, protocols-are, as-many}
+use Rattle.cp_readback.proofs.Reported.{read-refused, problems-listed, trees-fit, unchecked_problems-fit, report-read, trees-are, protocols-are}
 use Rattle.cp_readback.proofs.report.read_back.Goals as goal
 
 pub returns-in-Some-clause-refused : goal.returns-in-Some-clause-refused
@@ -16,7 +14,7 @@ returns-in-Some-clause-refused c = λ p e.
 pub trees_of-requires : goal.trees_of-requires
 trees_of-requires c =
     let ss = (sections_of (map view c.args.forms.now)).sections in
-    let listed = problems-listed [] c.in_ok-sections.field-0.unchecked_entries.items (forms_in ss) c.in_ok-sections.ensures.entries in
+    let listed = problems-listed c.in_ok-sections.field-0.unchecked_entries.items ss c.in_ok-sections.ensures.entries in
     record {
       trees = trees-fit c.args.forms.now c.in_ok-sections.field-0.misfit c.in_ok-sections.ensures.misfit c.in_default.is (all_unchecked_view c.deref-2.result.now) (map section_view c.deref.result.now)
           (ap all_unchecked_view c.deref-2.ensures.value ∙ listed) (ap (map section_view) c.deref.ensures.value ∙ c.in_ok-sections.ensures.sections);
@@ -31,21 +29,9 @@ pub returns-clause-read : goal.returns-clause-read
 returns-clause-read c =
     let ss = (sections_of (map view c.args.forms.now)).sections in
     let us = c.in_ok-sections.field-0.unchecked_entries.items in
-    report-read c.args.forms.now c.in_ok-sections.field-0.misfit c.in_ok-sections.ensures.misfit c.in_default.is _ (map tree_view c.in_ok-trees.trees.items)
-    (entries-are (forms_in ss) (map (λ f. view f.now) c.in_ok-forms.forms.items) us c.in_ok-entries.entries.items
-    (c.in_ok-forms.ensures ∙ ap (λ ts. forms_in (map section_view ts)) c.deref-3.ensures.value ∙ ap forms_in c.in_ok-sections.ensures.sections) c.in_ok-sections.ensures.entries c.in_ok-entries.ensures)
-    (trees-are ss (all_unchecked_view c.deref-2.result.now) (map section_view c.deref.result.now) (map tree_view c.in_ok-trees.trees.items)
-    (ap all_unchecked_view c.deref-2.ensures.value ∙ problems-listed [] us (forms_in ss) c.in_ok-sections.ensures.entries) (ap (map section_view) c.deref.ensures.value ∙ c.in_ok-sections.ensures.sections) c.in_ok-trees.ensures)
-
-pub returns-clause-entries : goal.returns-clause-entries
-returns-clause-entries c =
-    let ss = (sections_of (map view c.args.forms.now)).sections in
-    as-many (forms_in ss) (map (λ f. view f.now) c.in_ok-forms.forms.items) c.in_ok-sections.field-0.unchecked_entries.items c.in_ok-entries.entries.items
-    (c.in_ok-forms.ensures ∙ ap (λ ts. forms_in (map section_view ts)) c.deref-3.ensures.value ∙ ap forms_in c.in_ok-sections.ensures.sections) c.in_ok-sections.ensures.entries c.in_ok-entries.ensures
-    ∙ length-map c.in_ok-forms.forms.items (λ f. view f.now)
+    report-read c.args.forms.now c.in_ok-sections.field-0.misfit c.in_ok-sections.ensures.misfit c.in_default.is _ c.in_ok-trees.trees.items (c.in_ok-entries.ensures ∙ c.in_ok-sections.ensures.entries)
+    (trees-are ss (all_unchecked_view c.deref-2.result.now) (map section_view c.deref.result.now) c.in_ok-trees.trees.items
+    (ap all_unchecked_view c.deref-2.ensures.value ∙ problems-listed us ss c.in_ok-sections.ensures.entries) (ap (map section_view) c.deref.ensures.value ∙ c.in_ok-sections.ensures.sections) c.in_ok-trees.ensures)
 
 pub returns-clause-protocols : goal.returns-clause-protocols
-returns-clause-protocols c =
-    let ss = (sections_of (map view c.args.forms.now)).sections in
-    protocols-are (forms_in ss) (map (λ f. view f.now) c.in_ok-forms.forms.items) c.in_ok-sections.field-0.unchecked_entries.items c.in_ok-entries.entries.items
-    (c.in_ok-forms.ensures ∙ ap (λ ts. forms_in (map section_view ts)) c.deref-3.ensures.value ∙ ap forms_in c.in_ok-sections.ensures.sections) c.in_ok-sections.ensures.entries c.in_ok-entries.ensures
+returns-clause-protocols c = protocols-are (forms_in (sections_of (map view c.args.forms.now)).sections) _ (c.in_ok-entries.ensures ∙ c.in_ok-sections.ensures.entries)

@@ -1,6 +1,5 @@
-use Rattle.std.proofs.Common.{Bor, List, [], map, sym, ap, ◌∙◌}
+use Rattle.std.proofs.Common.{Bor, List, [], map, ap, ◌∙◌}
 use Rattle.std.specs.Prelude.{option_map}
-use Rattle.cp_sexpr.specs.View.{view}
 use Rattle.cp_language.specs.Input.{stated}
 use Rattle.cp_roles.specs.Above.{protocols_view, turned}
 use Rattle.cp_load.specs.UncheckedProblems.{unchecked_view}
@@ -8,8 +7,6 @@ use Rattle.cp_load.specs.declared.unchecked_problems.UncheckedProblem.{Unchecked
 use Rattle.cp_report.specs.ReadBack.{next_place}
 use Rattle.cp_readback.specs.Sections.{section_view}
 use Rattle.cp_readback.specs.declared.sections.Section.{Section}
-use Rattle.cp_load.proofs.Entries.{unchecked_viewed}
-use Rattle.cp_readback.proofs.InTree.{through}
 use Rattle.cp_readback.proofs.InSections.{faults-taken, misfits-taken, entries-taken, faults-done, misfits-done, entries-done}
 use Rattle.cp_readback.proofs.report.stated_in.Goals as goal
 
@@ -22,7 +19,7 @@ loop-place-preserved c =
     let qs = protocols_view c.top_form.new.above.items in
     let u = c.in_ok-unchecked.unchecked in
     let entry = c.in_ok-unchecked.ensures.entry in
-    let asked = through (λ (d : Bor UncheckedProblem). d.now) unchecked_view c.problem.result ∙ ap (option_map unchecked_view) c.problem.ensures ∙ sym (unchecked_viewed u (view s.form.now)) ∙ ap stated entry in
+    let asked = c.problem.ensures ∙ ap stated entry in
     let follows = c.next_place-next.ensures ∙ ap (λ (ts : List Section). next_place c.args.start (map section_view ts)) c.split_at.ensures.back in (
       faults-taken ss k s c.loop-place-test.true c.index-sections-place.is ps qs c.in_ok-unchecked.ensures.protocols c.loop-place.faults c.top_form.new.first _ c.in_ok-unchecked.ensures.faults c.loop-place.invariant.0,
       misfits-taken ss k s c.loop-place-test.true c.index-sections-place.is ps qs c.in_ok-unchecked.ensures.protocols c.args.start (option_map (λ (d : Bor UncheckedProblem). unchecked_view d.now) c.problem.result) c.next_place-next.result

@@ -1,15 +1,11 @@
-use Rattle.std.proofs.Common.{Bor, sym, ap, ◌∙◌}
-use Rattle.std.specs.Prelude.{option_map}
+use Rattle.std.proofs.Common.{sym, ◌∙◌}
 use Rattle.cp_lists.proofs.Items.{item_of_read, item_past}
-use Rattle.cp_load.specs.UncheckedProblems.{unchecked_view}
-use Rattle.cp_load.specs.declared.unchecked_problems.UncheckedProblem.{UncheckedProblem}
-use Rattle.cp_readback.proofs.InTree.{through}
 use Rattle.cp_readback.proofs.Reported.{unchecked-read, unchecked-none}
 use Rattle.cp_readback.proofs.report.unchecked_at.Goals as goal
 
 pub returns-in-Some : goal.returns-in-Some
 returns-in-Some c =
-    through (λ (d : Bor UncheckedProblem). d.now) unchecked_view c.problem.result ∙ ap (option_map unchecked_view) c.problem.ensures
+    c.problem.ensures
     ∙ unchecked-read c.args.unchecked_entries.now c.args.place c.in-Some.unchecked.now (sym (item_of_read c.args.unchecked_entries.now c.args.place c.in-Some.unchecked.now c.in-Some.ensures.lookup.3.0 c.in-Some.ensures.lookup.1))
 
 pub returns-in-None : goal.returns-in-None

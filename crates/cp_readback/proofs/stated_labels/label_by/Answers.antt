@@ -1,8 +1,6 @@
 use Rattle.std.proofs.Common.{[], ◌∷◌, map, ap, ◌∙◌}
 use Rattle.std.specs.Prelude.{codes}
 use Rattle.cp_sexpr.specs.View.{view}
-use Rattle.cp_model.specs.Data.{SkeletonData}
-use Rattle.cp_skel.specs.View.{skeleton_view}
 use Rattle.cp_load.specs.UncheckedProblems.{unchecked_view}
 use Rattle.cp_report.specs.Heads.{item_with, entries_under}
 use Rattle.cp_report.specs.Spelled.{Scope, pattern_of}
@@ -18,10 +16,9 @@ returns c =
     label-is (unchecked_view c.args.problem.now) its its _ (λ i. its)
     with.parent
     (with.operation ∙ c.in_ok-operation.ensures)
-    (ap (λ (k : SkeletonData). k.variables) with.skeleton ∙ c.in_ok-skeleton.ensures.variables)
-    (ap skeleton_view with.skeleton ∙ c.in_ok-skeleton.ensures.skeleton)
+    (with.skeleton ∙ c.in_ok-skeleton.ensures.skeleton)
     (with.unrealised ∙ how.unrealised)
     (with.test ∙ how.test ∙ ap (λ (s : Scope). test_of s (item_with (codes "test" ∷ []) its)) c.requires.scope)
-    (with.patterns ∙ how.patterns ∙ ap (λ (s : Scope). map (pattern_of s.variables) (entries_under (codes "escape") its)) c.requires.scope)
+    (with.escape ∙ how.patterns ∙ ap (λ (s : Scope). map (pattern_of s.variables) (entries_under (codes "escape") its)) c.requires.scope)
     (with.children ∙ how.children)
     with.mark

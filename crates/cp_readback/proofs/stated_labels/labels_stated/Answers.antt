@@ -1,11 +1,9 @@
-use Rattle.std.proofs.Common.{◌++◌, ◌∷◌, [], map, ap, ◌∙◌}
-use Rattle.std.proofs.lemmas.List.{map-append}
+use Rattle.std.proofs.Common.{◌++◌, ◌∷◌, [], ap, ◌∙◌}
 use Rattle.cp_lists.proofs.Members.{into_map, item_is_in}
 use Rattle.cp_model.specs.Tree.{Label}
 use Rattle.cp_sexpr.specs.View.{view}
 use Rattle.cp_load.specs.UncheckedProblems.{unchecked_view}
 use Rattle.cp_report.specs.Labels.{label_of}
-use Rattle.cp_skel.specs.Trees.{label_view}
 use Rattle.cp_spelled.proofs.Declared.{each-made, all-made}
 use Rattle.cp_readback.proofs.stated_labels.labels_stated.Goals as goal
 
@@ -15,10 +13,10 @@ label_of-requires-clause-fits c =
 
 pub loop-label-preserved : goal.loop-label-preserved
 loop-label-preserved c =
-    let made = map label_view c.loop-label.nodes.items in
-    each-made c.args.labels.now c.loop-label.label-index (label_of (unchecked_view c.args.problem.now)) c.label-item.result c.loop-label-test.true c.label-item.is made (map label_view c.push.new.self.items) _
-    (ap (map label_view) c.in_ok-push.ensures.items ∙ map-append label_view c.loop-label.nodes.items _ ∙ ap (λ (l : Label). made ++ l ∷ []) c.in_ok-node.ensures) c.loop-label.invariant
+    let made = c.loop-label.nodes.items in
+    each-made c.args.labels.now c.loop-label.label-index (label_of (unchecked_view c.args.problem.now)) c.label-item.result c.loop-label-test.true c.label-item.is made c.push.new.self.items _
+    (c.in_ok-push.ensures.items ∙ ap (λ (l : Label). made ++ l ∷ []) c.in_ok-node.ensures) c.loop-label.invariant
 
 pub returns : goal.returns
 returns c =
-    all-made c.args.labels.now c.loop-label.label-index (label_of (unchecked_view c.args.problem.now)) c.loop-label-test.false (map label_view c.loop-label.nodes.items) _ c.loop-label.invariant
+    all-made c.args.labels.now c.loop-label.label-index (label_of (unchecked_view c.args.problem.now)) c.loop-label-test.false c.loop-label.nodes.items _ c.loop-label.invariant

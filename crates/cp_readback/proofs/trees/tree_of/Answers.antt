@@ -1,7 +1,6 @@
-use Rattle.std.proofs.Common.{map}
+use Rattle.std.proofs.Common.{map, ◌∙◌}
 use Rattle.cp_sexpr.specs.View.{view}
 use Rattle.cp_load.specs.UncheckedProblems.{unchecked_view}
-use Rattle.cp_skel.specs.Trees.{label_view}
 use Rattle.cp_readback.proofs.LabelsFit.{each-fits, tree-is}
 use Rattle.cp_readback.proofs.trees.tree_of.Goals as goal
 
@@ -12,5 +11,5 @@ labels_stated-requires-clause-fit c =
 pub returns : goal.returns
 returns c =
     tree-is (unchecked_view c.args.problem.now) (map view c.args.behind.now) (map view c.split_at_labels.result.0.now) (map view c.split_at_labels.result.1.now)
-    (map label_view c.in_ok-nodes.nodes.items) c.outcome_in-outcome.result
-    c.split_at_labels.ensures.labels c.split_at_labels.ensures.behind c.in_ok-nodes.ensures c.outcome_in-outcome.ensures
+    c.of.result c.outcome_in-outcome.result
+    c.split_at_labels.ensures.labels c.split_at_labels.ensures.behind (c.of.ensures ∙ c.in_ok-nodes.ensures) c.outcome_in-outcome.ensures

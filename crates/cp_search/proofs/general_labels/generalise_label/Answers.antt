@@ -1,5 +1,3 @@
-use Rattle.std.proofs.Common.{◌≡◌}
-use Rattle.cp_skel.specs.View.{skeleton_view}
 use Rattle.cp_general.specs.Generalisation.{GeneralisesTo}
 use Rattle.cp_search.proofs.LabelGeneralised.{ends_most_general, of_some, known_own, found_own, found_other}
 use Rattle.cp_search.proofs.general_labels.generalise_label.Goals as goal
@@ -20,7 +18,7 @@ make-requires c =
     record {
       found = c.requires.found;
       parent = c.requires.there;
-      general = λ _. ends_most_general (of_some c.in_ok-skeleton.field-0 c.in-Some.skeleton (λ g. GeneralisesTo (skeleton_view label.skeleton) (skeleton_view g)) c.in_ok-skeleton.ensures.some c.in-Some.is);
+      general = λ _. ends_most_general (of_some c.in_ok-skeleton.field-0 c.in-Some.skeleton (λ g. GeneralisesTo label.skeleton g) c.in_ok-skeleton.ensures.some c.in-Some.is);
     }
 
 pub returns : goal.returns
@@ -28,6 +26,5 @@ returns c =
     let label = c.label-label.result.now in
     let g = c.in-Some.skeleton in
     found_other c.args.number c.len-child.result c.args.made.now c.make.new.made label g c.label-label.ensures c.if-label.false
-    (of_some c.in_ok-skeleton.field-0 g (λ g. GeneralisesTo (skeleton_view label.skeleton) (skeleton_view g)) c.in_ok-skeleton.ensures.some c.in-Some.is)
-    (of_some c.in_ok-skeleton.field-0 g (λ g. g.variables ≡ label.skeleton.variables) c.in_ok-skeleton.ensures.variables c.in-Some.is)
+    (of_some c.in_ok-skeleton.field-0 g (λ g. GeneralisesTo label.skeleton g) c.in_ok-skeleton.ensures.some c.in-Some.is)
     c.in_ok-make.ensures.made c.in_ok-make.ensures.general c.generalised_labels_are_sound.ensures c.len-child.ensures

@@ -15,6 +15,6 @@ returns c =
     let lives = c.requires.unrealised label c.label-label.ensures in
     IfOk-weaker c.expand_to.result _ _
     (λ e h. label_expanded c.args.protocol.now c.args.number c.args.made.now c.expand_to.new.made label c.in_ok-test.test c.in_ok-test.expansion e c.requires.sound c.label-label.ensures lives
-    ((c.requires.found.each c.args.number label c.label-label.ensures).listed lives.0) (λ vs k own. c.expansions_are_sound.ensures c.args.protocol.now vs k c.is_sound.ensures own) c.in_ok-test.ensures.exact c.in_ok-test.ensures.same
+    ((c.requires.found.each c.args.number label c.label-label.ensures).listed lives.0) (λ vs k own. c.expansions_are_sound.ensures c.args.protocol.now vs k c.is_sound.ensures own) c.in_ok-test.ensures
     h.0 h.1 h.2 h.3 h.4)
     c.expand_to.ensures

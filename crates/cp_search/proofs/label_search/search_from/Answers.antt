@@ -1,5 +1,5 @@
 use Rattle.std.proofs.Common.{map}
-use Rattle.cp_search.specs.Roots.{root_made}
+use Rattle.cp_tree.specs.Made.{made_of_root}
 use Rattle.cp_search.specs.ResolvedLabels.{IsSearched}
 use Rattle.cp_search.proofs.SearchedFrom.{searched_first}
 use Rattle.cp_search.proofs.label_search.search_from.Goals as goal
@@ -9,7 +9,7 @@ loop-search-init c = searched_first c.args.protocol.now c.args.limits c.args.roo
 
 pub resolve_leaves-requires : goal.resolve_leaves-requires
 resolve_leaves-requires c =
-    let r : IsSearched c.args.protocol.now c.args.limits (map root_made c.args.roots.items) c.loop-search.search.made c.loop-search.search.settled.items c.loop-search.search.expanded = c.loop-search.invariant in
+    let r : IsSearched c.args.protocol.now c.args.limits (map made_of_root c.args.roots.items) c.loop-search.search.made c.loop-search.search.settled.items c.loop-search.search.expanded = c.loop-search.invariant in
     record { found = r.found }
 
 pub expand_next-requires-clause-next : goal.expand_next-requires-clause-next
@@ -17,10 +17,10 @@ expand_next-requires-clause-next c = c.in_ok-resolve_leaves.ensures.next c.if-br
 
 pub expand_next-requires-clause-found : goal.expand_next-requires-clause-found
 expand_next-requires-clause-found c =
-    let r : IsSearched c.args.protocol.now c.args.limits (map root_made c.args.roots.items) c.resolve_leaves.new.search.made c.resolve_leaves.new.search.settled.items c.resolve_leaves.new.search.expanded = c.in_ok-resolve_leaves.ensures.searched c.args.protocol.now (map root_made c.args.roots.items) c.loop-search.invariant in
+    let r : IsSearched c.args.protocol.now c.args.limits (map made_of_root c.args.roots.items) c.resolve_leaves.new.search.made c.resolve_leaves.new.search.settled.items c.resolve_leaves.new.search.expanded = c.in_ok-resolve_leaves.ensures.searched c.args.protocol.now (map made_of_root c.args.roots.items) c.loop-search.invariant in
     r.found
 
 pub expand_next-requires-clause-sound : goal.expand_next-requires-clause-sound
 expand_next-requires-clause-sound c =
-    let r : IsSearched c.args.protocol.now c.args.limits (map root_made c.args.roots.items) c.resolve_leaves.new.search.made c.resolve_leaves.new.search.settled.items c.resolve_leaves.new.search.expanded = c.in_ok-resolve_leaves.ensures.searched c.args.protocol.now (map root_made c.args.roots.items) c.loop-search.invariant in
+    let r : IsSearched c.args.protocol.now c.args.limits (map made_of_root c.args.roots.items) c.resolve_leaves.new.search.made c.resolve_leaves.new.search.settled.items c.resolve_leaves.new.search.expanded = c.in_ok-resolve_leaves.ensures.searched c.args.protocol.now (map made_of_root c.args.roots.items) c.loop-search.invariant in
     r.sound

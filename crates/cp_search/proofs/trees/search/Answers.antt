@@ -1,4 +1,4 @@
-use Rattle.std.proofs.Common.{◌≡◌, ◌↔◌, ℕ, List, Some, IfOk, map}
+use Rattle.std.proofs.Common.{◌≡◌, ◌↔◌, ℕ, List, Some, IfOk}
 use Rattle.cp_lists.specs.Lists.{item_at}
 use Rattle.cp_model.specs.declared.variable.Declaration.{Declaration}
 use Rattle.cp_model.specs.Skeleton.{Skeleton}
@@ -9,11 +9,8 @@ use Rattle.cp_model.specs.Tree.{Label, Tree, ReachedSteps, ReachedStrands, IsTru
 use Rattle.cp_model.specs.declared.tree.Mark.TheVariants.{Dead as dead}
 use Rattle.cp_model.specs.declared.tree.Outcome.TheVariants.{LimitSteps as at_step_limit, LimitStrands as at_strand_limit}
 use Rattle.cp_model.specs.declared.tree.Limits.{Limits}
-use Rattle.cp_skel.specs.View.{skeleton_view}
-use Rattle.cp_skel.specs.Trees.{tree_view}
 use Rattle.cp_theory.specs.Lawful.{IsLawful}
-use Rattle.cp_roots.specs.Roots.{Root}
-use Rattle.cp_roots.specs.RootView.{root_view}
+use Rattle.cp_roots.specs.declared.root.Root.{Root}
 use Rattle.cp_roots.proofs.Over.{skeleton_over}
 use Rattle.cp_tree.specs.Declared.{DeclaresItsOwn}
 use Rattle.cp_tree.specs.Searched.{IsTreeFrom, IsTreeOf}
@@ -25,12 +22,12 @@ use Rattle.cp_search.proofs.trees.search.Goals as goal
 
 pub search_from-requires : goal.search_from-requires
 search_from-requires c =
-    let k = skeleton_view c.args.problem.now in
+    let k = c.args.problem.now in
     let variables = c.args.problem.now.variables in
     let roots = c.in_ok-roots.roots.items in
     record {
       sound = sound_roots c.args.protocol.now variables k roots (skeleton_over c.args.protocol.now k c.is_sound.ensures c.requires.over) c.requires.own c.in_ok-roots.ensures.sound c.in_ok-roots.ensures.variables
-          (c.roots_have_declared_variables.ensures variables k (map root_view roots) (own_declared variables k c.requires.own) c.in_ok-roots.ensures.exact);
+          (c.roots_have_declared_variables.ensures variables k roots (own_declared variables k c.requires.own) c.in_ok-roots.ensures.exact);
     }
 
 -- ---- the tree that is made
@@ -39,7 +36,7 @@ abbrev Here : Type 0
 Here = goal.After-tree_of
 
 abbrev problem : Here → Skeleton
-problem c = skeleton_view c.args.problem.now
+problem c = c.args.problem.now
 
 abbrev variables : Here → List Declaration
 variables c = c.args.problem.now.variables
@@ -48,13 +45,13 @@ abbrev limits : Here → Limits
 limits c = c.args.limits
 
 abbrev found_roots : Here → List Root
-found_roots c = map root_view c.in_ok-roots.roots.items
+found_roots c = c.in_ok-roots.roots.items
 
 declared : (c : Here) (i : ℕ) (root : Root) → item_at (found_roots c) i ≡ Some root → HasDeclaredVariables (variables c) root.skeleton
 declared c = c.roots_have_declared_variables.ensures (variables c) (problem c) (found_roots c) (own_declared (variables c) (problem c) c.requires.own) c.in_ok-roots.ensures.exact
 
 -- What holds of each tree from these roots holds of the one that is made.
-each_tree : (c : Here) (is : Tree → Type 0) → ((t : Tree) → IsTreeFrom c.args.protocol.now (variables c) (limits c) (found_roots c) t → is t) → IfOk c.tree_of.result (λ t. is (tree_view t))
+each_tree : (c : Here) (is : Tree → Type 0) → ((t : Tree) → IsTreeFrom c.args.protocol.now (variables c) (limits c) (found_roots c) t → is t) → IfOk c.tree_of.result (λ t. is t)
 each_tree c is law =
     let roots = c.in_ok-roots.roots.items in
     if_made c.args.protocol.now (variables c) (limits c) roots c.in_ok-search.search c.in_ok-search.ensures.searched c.in_ok-search.ensures.all c.in_ok-roots.ensures.variables

@@ -1,7 +1,6 @@
 use Rattle.std.proofs.Common.{map}
-use Rattle.cp_skel.specs.View.{skeleton_view}
 use Rattle.cp_shapes.proofs.RisingRows.{IsRowTo}
 use Rattle.cp_shapes.proofs.rows.row_of.Given as goal
 
 abbrev pub invariant-loop-shape : goal.invariant-loop-shape
-invariant-loop-shape l = IsRowTo (map (λ k. skeleton_view k.now) l.candidates) l.instance l.row.items l.shape
+invariant-loop-shape l = IsRowTo (map (λ k. k.now) l.candidates) l.instance l.row.items l.shape

@@ -1,7 +1,6 @@
 use Rattle.std.proofs.Common.{◌++◌, ◌∷◌, [], ap, ◌∙◌}
 use Rattle.cp_model.specs.Bundle.{node_at}
 use Rattle.cp_model.specs.Skeleton.{skeleton_trace}
-use Rattle.cp_strand.specs.View.{strand_view}
 use Rattle.cp_skel.specs.Events.{is_role_strand}
 use Rattle.cp_skel.proofs.EventLists.{event_added, event_there}
 use Rattle.cp_skel.proofs.events.add_events.Goals as goal
@@ -11,11 +10,11 @@ pub loop-index-preserved : goal.loop-index-preserved
 loop-index-preserved c =
     elim c.match-branch-2.branch [
       | in-Some+in_ok-push w ↦
-          event_added c.args.number c.loop-index.index (is_role_strand (strand_view c.args.strand.now)) (skeleton_trace (strand_view c.args.strand.now)) _ w.in-Some.event
+          event_added c.args.number c.loop-index.index (is_role_strand c.args.strand.now) (skeleton_trace c.args.strand.now) _ w.in-Some.event
           c.loop-index.occurrences.items _ _ c.in_ok-event.ensures w.in-Some.is
           (ap (λ os. os.items) w.occurrences-is
           ∙ w.in_ok-push.ensures.items
           ∙ ap (λ r. c.loop-index.occurrences.items ++ (record { node = node_at c.args.number c.loop-index.index; event = w.in-Some.event; by_role = r } ∷ [])) c.is_role_strand-by_role.ensures)
           c.loop-index.invariant
-      | in_default w ↦ absurd (event_there _ _ (skeleton_trace (strand_view c.args.strand.now)) _ c.in_ok-event.ensures c.loop-index-test.true c.event_count-index-end.ensures w.in_default.not-Some)
+      | in_default w ↦ absurd (event_there _ _ (skeleton_trace c.args.strand.now) _ c.in_ok-event.ensures c.loop-index-test.true c.event_count-index-end.ensures w.in_default.not-Some)
     ]

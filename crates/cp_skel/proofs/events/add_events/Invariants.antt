@@ -1,11 +1,10 @@
 use Rattle.std.proofs.Common.{◌≡◌, ◌++◌, drop}
 use Rattle.cp_model.specs.Skeleton.{skeleton_trace}
-use Rattle.cp_strand.specs.View.{strand_view}
 use Rattle.cp_skel.specs.Events.{is_role_strand, located_events_on}
 use Rattle.cp_skel.proofs.events.add_events.Given as goal
 
 -- with the events that are left, all is there
 abbrev pub invariant-loop-index : goal.invariant-loop-index
 invariant-loop-index l =
-    l.occurrences.items ++ located_events_on l.number l.index (is_role_strand (strand_view l.strand)) (drop l.index (skeleton_trace (strand_view l.strand)))
-    ≡ l.initial.occurrences.items ++ located_events_on l.number 0 (is_role_strand (strand_view l.strand)) (skeleton_trace (strand_view l.strand))
+    l.occurrences.items ++ located_events_on l.number l.index (is_role_strand l.strand) (drop l.index (skeleton_trace l.strand))
+    ≡ l.initial.occurrences.items ++ located_events_on l.number 0 (is_role_strand l.strand) (skeleton_trace l.strand)

@@ -1,7 +1,9 @@
 use Rattle.std.proofs.Common.{◌≡◌, ◌++◌, ◌∷◌, [], ◌<◌, ◌≤◌, sym, ap, ◌∙◌, subst}
 use Rattle.std.proofs.lemmas.List.{drop_all}
-use Rattle.cp_model.specs.Term.{apply_to_atom}
-use Rattle.cp_model.specs.Homomorphism.{substitution_by}
+use Rattle.cp_model.specs.Term.{Substitution, apply_to_atom}
+use Rattle.cp_model.specs.Bindings.{as_substitution, bindings_of}
+use Rattle.cp_model.specs.Values.{substitution_by}
+use Rattle.cp_model.proofs.DeclaredTerms.{bindings_are}
 use Rattle.cp_model.specs.Given.{applying_uniques, uniques_onto}
 use Rattle.cp_strand.proofs.FirstOrigins.{origin-moved}
 use Rattle.cp_skel.proofs.StrandsGive.{none-originates, late-originates, one-originates}
@@ -28,7 +30,8 @@ loop-atom-preserved c =
     let k = c.args.instance.now in
     let old = c.args.old.now in
     let trace : c.trace.result.now ≡ k.role.trace = c.trace.ensures ∙ ap (λ r. r.trace) (c.deref.ensures ∙ c.role.ensures) in
-    let value : c.in_ok-value.value ≡ apply_to_atom (substitution_by k.values) c.atom-item.result = c.in_ok-value.ensures ∙ ap (λ ts. apply_to_atom (substitution_by ts) c.atom-item.result) c.values.ensures in
+    let value : c.in_ok-value.value ≡ apply_to_atom (as_substitution (bindings_of k.values)) c.atom-item.result =
+    c.in_ok-value.ensures ∙ ap (λ ts. apply_to_atom (substitution_by ts) c.atom-item.result) c.values.ensures ∙ ap (λ (s : Substitution). apply_to_atom s c.atom-item.result) (sym (bindings_are k.values)) in
     one-originates k c.args.strand c.args.stated.now c.loop-atom.atom-index (old ++ c.loop-atom.more.items) _
     c.atom-item.result c.loop-atom-test.true c.atom-item.is c.loop-atom.invariant
     c.in-Some.index (origin-moved _ _ _ _ _ trace c.as_term.ensures c.in-Some.ensures.some) (subst (λ h. c.in-Some.index < h) c.height.ensures c.if-index-height.false)
@@ -37,5 +40,5 @@ loop-atom-preserved c =
 pub returns : goal.returns
 returns c =
     let k = c.args.instance.now in
-    sym (ap (λ xs. uniques_onto (c.args.old.now ++ c.loop-atom.more.items) (applying_uniques k.role k.height (substitution_by k.values) c.args.strand xs))
+    sym (ap (λ xs. uniques_onto (c.args.old.now ++ c.loop-atom.more.items) (applying_uniques k.role k.height (bindings_of k.values) c.args.strand xs))
     (drop_all c.loop-atom.atom-index c.args.stated.now c.loop-atom-test.false)) ∙ c.loop-atom.invariant

@@ -1,8 +1,7 @@
-use Rattle.std.proofs.Common.{length, map, sym, ◌∙◌}
+use Rattle.std.proofs.Common.{length, sym, ◌∙◌}
 use Rattle.cp_model.specs.Skeleton.{term_event_at}
 use Rattle.cp_model.specs.OrderTests.{reaches_within}
 use Rattle.cp_language.specs.Problems.{is_known, on_one_strand}
-use Rattle.cp_strand.specs.View.{strand_view}
 use Rattle.cp_load.proofs.Cycles.{order-searched}
 use Rattle.cp_stated.proofs.Among.{on-one-strand, not-there, led-to}
 use Rattle.cp_stated.proofs.images.is_in_order.Goals as goal
@@ -10,20 +9,20 @@ use Rattle.cp_stated.proofs.images.is_in_order.Goals as goal
 pub returns-then-is_on_one_strand : goal.returns-then-is_on_one_strand
 returns-then-is_on_one_strand c =
     let p = c.args.pair in
-    on-one-strand (on_one_strand p) (is_known (term_event_at (map strand_view c.args.strands.now) p.later)) (reaches_within (length c.args.pairs.now) c.args.pairs.now p.earlier p.later)
+    on-one-strand (on_one_strand p) (is_known (term_event_at c.args.strands.now p.later)) (reaches_within (length c.args.pairs.now) c.args.pairs.now p.earlier p.later)
     (sym c.is_on_one_strand.ensures ∙ c.if-is_on_one_strand.true)
 
 pub returns-then-not-is_there : goal.returns-then-not-is_there
 returns-then-not-is_there c =
     let p = c.args.pair in
-    not-there (on_one_strand p) (is_known (term_event_at (map strand_view c.args.strands.now) p.later)) (reaches_within (length c.args.pairs.now) c.args.pairs.now p.earlier p.later)
+    not-there (on_one_strand p) (is_known (term_event_at c.args.strands.now p.later)) (reaches_within (length c.args.pairs.now) c.args.pairs.now p.earlier p.later)
     (sym c.is_there.ensures ∙ c.if-not-is_there.true)
 
 pub returns : goal.returns
 returns c =
     let p = c.args.pair in
     let a = on_one_strand p in
-    let b = is_known (term_event_at (map strand_view c.args.strands.now) p.later) in
+    let b = is_known (term_event_at c.args.strands.now p.later) in
     let r = reaches_within (length c.args.pairs.now) c.args.pairs.now p.earlier p.later in
     order-searched c.args.pairs.now p.earlier p.later c.in_ok-leading.leading c.has.result c.in_ok-leading.ensures c.has.ensures
     ∙ led-to a b r (sym c.is_on_one_strand.ensures ∙ c.if-is_on_one_strand.false) (sym c.is_there.ensures ∙ c.if-not-is_there.false)

@@ -1,10 +1,9 @@
-use Rattle.std.proofs.Common.{[], ◌∷◌, ◌++◌, map, sym, ap, ◌∙◌, subst}
+use Rattle.std.proofs.Common.{[], ◌∷◌, ◌++◌, sym, ap, ◌∙◌, subst}
 use Rattle.std.specs.Prelude.{None}
 use Rattle.cp_sexpr.specs.View.{view}
 use Rattle.cp_language.specs.Faults.{place_of}
 use Rattle.cp_language.specs.Problems.{between_strands}
 use Rattle.cp_load.specs.Acyclic.{IsAcyclicIf}
-use Rattle.cp_strand.specs.View.{strand_view}
 use Rattle.cp_report.specs.Misfits.{misfit_unless, entries_misfits, list_misfits}
 use Rattle.cp_report.specs.Skeletons.{node_misfits, is_further_pair, pair_stated}
 use Rattle.cp_spelled.specs.FirstMisfit.{first_onto, onto_none}
@@ -14,7 +13,7 @@ use Rattle.cp_stated.proofs.order.pair_misfits.Goals as goal
 
 pub returns : goal.returns
 returns c =
-    let ks = map strand_view c.args.before.strands.now in
+    let ks = c.args.before.strands.now in
     let f = view c.args.form.now in
     let shape = list_misfits (entries_misfits (node_misfits ks ∷ node_misfits ks ∷ [])) f in
     let i = c.nodes_misfits.new.first in

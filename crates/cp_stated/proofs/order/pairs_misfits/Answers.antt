@@ -3,7 +3,6 @@ use Rattle.std.specs.Prelude.{None}
 use Rattle.cp_model.specs.declared.node.OrderPair.{OrderPair}
 use Rattle.cp_sexpr.specs.View.{view}
 use Rattle.cp_language.specs.Problems.{pair_of, pairs_in}
-use Rattle.cp_strand.specs.View.{strand_view}
 use Rattle.cp_load.specs.Acyclic.{IsAcyclicIf}
 use Rattle.cp_load.proofs.Cycles.{pairs-taken}
 use Rattle.cp_load.proofs.NoCycles.{first-pair}
@@ -18,13 +17,13 @@ use Rattle.cp_stated.proofs.order.pairs_misfits.Goals as goal
 pub loop-form-init : goal.loop-form-init
 loop-form-init c =
     let fs = map view c.args.items.now in (
-      ap (λ (ps : List OrderPair). first_onto c.args.first.now (pairs_misfits (map strand_view c.args.strands.now) ps fs)) c.new-before.ensures.items,
+      ap (λ (ps : List OrderPair). first_onto c.args.first.now (pairs_misfits c.args.strands.now ps fs)) c.new-before.ensures.items,
       ap (λ (ps : List OrderPair). ps ++ pairs_in fs) c.new-before.ensures.items,
     )
 
 pub loop-form-preserved : goal.loop-form-preserved
 loop-form-preserved c =
-    let strands = map strand_view c.args.strands.now in
+    let strands = c.args.strands.now in
     let before = c.loop-form.before.items in
     let misfits = pair_misfits strands before (view c.form-item.result) in
     let added = c.in_ok-add_pair.ensures ∙ ap (λ ps. before ++ ps) c.pair_of.ensures in

@@ -1,7 +1,6 @@
 use Rattle.std.proofs.Common.{List, map, sym, ap, ◌∙◌}
 use Rattle.cp_sexpr.specs.View.{view}
 use Rattle.cp_sexpr.specs.declared.form.Form as program
-use Rattle.cp_strand.specs.View.{strand_view}
 use Rattle.cp_report.specs.Misfits.{place_before, list_misfits}
 use Rattle.cp_report.specs.Skeletons.{mapping_misfits}
 use Rattle.cp_spelled.specs.FirstMisfit.{first_onto}
@@ -14,10 +13,10 @@ use Rattle.cp_stated.proofs.problem_map.map_entries_misfits.Goals as goal
 pub returns : goal.returns
 returns c =
     let e = c.args.ends in
-    let problem = map strand_view e.problem.now in
+    let problem = e.problem.now in
     let names = e.names.now in
     let s = scope_view e.scope in
-    let ks = map strand_view e.strands.now in
+    let ks = e.strands.now in
     let at = c.args.place in
     when_ok c.mapping_misfits.result
     (λ h. first_then place_before c.args.first.now c.strands_mapped_misfits.new.first c.mapping_misfits.new.first (list_misfits (strands_of_problem_misfits problem ks) (view c.in-Some.numbers.now))

@@ -1,5 +1,4 @@
-use Rattle.std.proofs.Common.{map, ap, ◌∙◌}
-use Rattle.cp_strand.specs.View.{strand_view}
+use Rattle.std.proofs.Common.{ap, ◌∙◌}
 use Rattle.cp_spelled.specs.FirstMisfit.{first_onto}
 use Rattle.cp_spelled.proofs.InOrder.{list-read}
 use Rattle.cp_stated.specs.ProblemMap.{strands_of_problem_misfits}
@@ -8,5 +7,5 @@ use Rattle.cp_stated.proofs.problem_map.strands_mapped_misfits.Goals as goal
 pub returns : goal.returns
 returns c =
     c.strand_numbers_misfits.ensures
-    ∙ ap (first_onto c.args.first.now) (list-read (strands_of_problem_misfits (map strand_view c.args.problem.now) (map strand_view c.args.strands.now)) c.args.form.now c.in-List.place c.in-List.items
+    ∙ ap (first_onto c.args.first.now) (list-read (strands_of_problem_misfits c.args.problem.now c.args.strands.now) c.args.form.now c.in-List.place c.in-List.items
     c.as_slice.result.now c.in-List.is c.as_slice.ensures.value)

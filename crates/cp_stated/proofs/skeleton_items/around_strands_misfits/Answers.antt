@@ -3,7 +3,6 @@ use Rattle.std.specs.Prelude.{codes}
 use Rattle.cp_model.specs.Skeleton.{Assumptions}
 use Rattle.cp_model.specs.Given.{given_non, given_penetrator_non}
 use Rattle.cp_sexpr.specs.View.{view}
-use Rattle.cp_strand.specs.View.{strand_view}
 use Rattle.cp_load.specs.UncheckedProblems.{unchecked_view}
 use Rattle.cp_report.specs.Heads.{item_with}
 use Rattle.cp_report.specs.Skeletons.{scope_of, strands_of_label, values_misfits, all_uniques_misfits}
@@ -17,13 +16,13 @@ pub returns : goal.returns
 returns c =
     let p = unchecked_view c.args.problem.now in
     let items = map view c.args.items.now in
-    let ks = map strand_view c.args.strands.now in
+    let ks = c.args.strands.now in
     let at = c.args.place in
     let non = c.non_originating-non.result.now in
     let penetrator_non = c.penetrator_non_originating-penetrator_non.result.now in
     let uniques = c.uniquely_originating-uniques.result.now in
-    let way = way-same p (map strand_view c.deref.result.now) c.args.names.now (scope_view c.args.scope) (scope_of items) ks (strands_of_label p items) (item_with (codes "map" ∷ []) items)
-    (ap (map strand_view) c.deref.ensures.value) c.requires.names c.requires.scope c.requires.strands in
+    let way = way-same p c.deref.result.now c.args.names.now (scope_view c.args.scope) (scope_of items) ks (strands_of_label p items) (item_with (codes "map" ∷ []) items)
+    c.deref.ensures.value c.requires.names c.requires.scope c.requires.strands in
     let assumed =
     three-parts c.order_misfits.new.first c.values_misfits.new.first c.values_misfits-2.new.first c.all_uniques_misfits.new.first
     (values_misfits at (codes "non-orig") non items) (values_misfits at (codes "pen-non-orig") penetrator_non items) (uniques_item_misfits at ks uniques items)

@@ -2,7 +2,6 @@ use Rattle.std.proofs.Common.{ℕ, List, map, ap, ◌∙◌}
 use Rattle.std.specs.List.{filter}
 use Rattle.cp_model.specs.Term.{Term}
 use Rattle.cp_model.specs.Stated.{pair_image}
-use Rattle.cp_strand.specs.View.{strand_view}
 use Rattle.cp_report.specs.Skeletons.{map_by, images_among, is_in_order}
 use Rattle.cp_stated.proofs.skeletons.from_problem_by.Goals as goal
 
@@ -11,7 +10,7 @@ returns c =
     let ts = c.args.to_strands.items in
     let vs = c.args.values.items in
     let listed = c.args.assumptions.now in
-    let keep = is_in_order (map strand_view c.args.strands.now) c.args.pairs.now in
+    let keep = is_in_order c.args.strands.now c.args.pairs.now in
     let images =
     c.in_ok-images.ensures ∙ ap (λ (x : List ℕ). images_among listed (map_by x c.deref-2.result.now) c.assumptions.result.now) c.deref.ensures.value
     ∙ ap (λ (x : List Term). images_among listed (map_by ts x) c.assumptions.result.now) c.deref-2.ensures.value ∙ ap (images_among listed (map_by ts vs)) c.assumptions.ensures in

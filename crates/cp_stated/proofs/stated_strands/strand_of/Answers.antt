@@ -5,7 +5,6 @@ use Rattle.cp_model.specs.Skeleton.{listener}
 use Rattle.cp_sexpr.specs.View.{view}
 use Rattle.cp_language.specs.Problems.{first_form}
 use Rattle.cp_roles.specs.Named.{shared_roles_view}
-use Rattle.cp_strand.specs.View.{strand_view}
 use Rattle.cp_report.specs.Heads.{forms_after_head}
 use Rattle.cp_report.specs.Skeletons.{term_or_tag, instance_of_entries}
 use Rattle.cp_spelled.specs.Views.{scope_view}
@@ -28,5 +27,5 @@ returns c =
     let f = view c.args.form.now in
     let message = c.in_ok-message.ensures ∙ ap (term_or_tag s) (c.item_at.ensures ∙ ap (λ fs. item_at fs 0) c.items_behind-items.ensures ∙ first-item (forms_after_head f)) in
     IfOk-weaker c.listener.result _ _
-    (λ k h. ap strand_view h ∙ ap listener message
+    (λ k h. h ∙ ap listener message
     ∙ ap (λ b. if b then instance_of_entries roles s (forms_after_head f) else listener (term_or_tag s (first_form (forms_after_head f)))) (sym (sym c.has_head.ensures ∙ c.if-has_head.false))) c.listener.ensures

@@ -3,7 +3,6 @@ use Rattle.std.specs.Prelude.{Option, None, option_map, codes}
 use Rattle.cp_model.specs.Skeleton.{UniqueAt}
 use Rattle.cp_sexpr.specs.Syntax.{Form}
 use Rattle.cp_sexpr.specs.View.{view}
-use Rattle.cp_strand.specs.View.{strand_view}
 use Rattle.cp_report.specs.Misfits.{lacking}
 use Rattle.cp_report.specs.Heads.{entries_or_none, item_with, optional_misfits, place_or}
 use Rattle.cp_report.specs.Spelled.{Scope}
@@ -16,7 +15,7 @@ use Rattle.cp_stated.proofs.uniques.all_uniques_misfits.Goals as goal
 pub returns : goal.returns
 returns c =
     let items = map view c.args.items.now in
-    let ks = map strand_view c.args.strands.now in
+    let ks = c.args.strands.now in
     let given = c.args.given.now in
     let item = item_with (codes "uniq-orig" ∷ []) items in
     let s = scope_of items in

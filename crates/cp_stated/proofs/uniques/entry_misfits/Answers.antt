@@ -1,5 +1,4 @@
-use Rattle.std.proofs.Common.{[], ◌∷◌, map, ap, ◌∙◌}
-use Rattle.cp_strand.specs.View.{strand_view}
+use Rattle.std.proofs.Common.{[], ◌∷◌, ap, ◌∙◌}
 use Rattle.cp_report.specs.Misfits.{entries_misfits}
 use Rattle.cp_report.specs.Spelled.{atom_misfits}
 use Rattle.cp_report.specs.Skeletons.{node_misfits}
@@ -11,5 +10,5 @@ use Rattle.cp_stated.proofs.uniques.entry_misfits.Goals as goal
 pub returns : goal.returns
 returns c =
     c.value_and_node_misfits.ensures
-    ∙ ap (first_onto c.args.first.now) (list-read (entries_misfits (atom_misfits (scope_view c.args.scope) ∷ node_misfits (map strand_view c.args.strands.now) ∷ [])) c.args.form.now c.in-List.place c.in-List.items
+    ∙ ap (first_onto c.args.first.now) (list-read (entries_misfits (atom_misfits (scope_view c.args.scope) ∷ node_misfits c.args.strands.now ∷ [])) c.args.form.now c.in-List.place c.in-List.items
     c.as_slice.result.now c.in-List.is c.as_slice.ensures.value)

@@ -2,7 +2,6 @@ use Rattle.std.proofs.Common.{[], map, sym, ap, ◌∙◌}
 use Rattle.std.specs.Prelude.{option_map}
 use Rattle.std.proofs.lemmas.Result.{IfOk-weaker}
 use Rattle.cp_sexpr.specs.View.{view}
-use Rattle.cp_strand.specs.View.{strand_view}
 use Rattle.cp_report.specs.Heads.{entries_or_none}
 use Rattle.cp_report.specs.Skeletons.{unique_of, uniques_misfits}
 use Rattle.cp_spelled.specs.Views.{scope_view}
@@ -13,7 +12,7 @@ use Rattle.cp_stated.proofs.uniques.optional_uniques_misfits.Goals as goal
 pub returns-clause-misfits : goal.returns-clause-misfits
 returns-clause-misfits c =
     when_ok c.uniques_misfits.result
-    (λ h. all-asked (uniques_misfits (scope_view c.args.scope) (map strand_view c.args.strands.now) []) (view c.in-Some.item.now) (option_map (λ f. view f.now) c.args.item) c.place_of.result
+    (λ h. all-asked (uniques_misfits (scope_view c.args.scope) c.args.strands.now []) (view c.in-Some.item.now) (option_map (λ f. view f.now) c.args.item) c.place_of.result
     (map view c.items_behind-entries.result.now) c.args.first.now c.lacking.new.first c.uniques_misfits.new.first (sym (ap (option_map (λ f. view f.now)) c.in-Some.is)) c.place_of.ensures c.items_behind-entries.ensures
     c.lacking.ensures h) c.uniques_misfits.ensures.misfits
 

@@ -1,11 +1,10 @@
-use Rattle.std.proofs.Common.{[], ◌∷◌, ◌≡◌, map, ap, ◌∙◌}
+use Rattle.std.proofs.Common.{[], ◌∷◌, ◌≡◌, ap, ◌∙◌}
 use Rattle.std.specs.Prelude.{not}
 use Rattle.cp_model.specs.Given.{has_unique}
 use Rattle.cp_sexpr.specs.View.{view}
 use Rattle.cp_language.specs.Faults.{place_of}
 use Rattle.cp_language.specs.Roles.{list_items}
 use Rattle.cp_language.specs.Problems.{second_form}
-use Rattle.cp_strand.specs.View.{strand_view}
 use Rattle.cp_report.specs.Misfits.{misfit_unless, entries_misfits, list_misfits}
 use Rattle.cp_report.specs.Spelled.{atom_misfits}
 use Rattle.cp_report.specs.Skeletons.{node_misfits, may_be_origin, unique_of, second_place}
@@ -17,7 +16,7 @@ use Rattle.cp_stated.proofs.uniques.unique_misfits.Goals as goal
 pub returns : goal.returns
 returns c =
     let s = scope_view c.args.scope in
-    let ks = map strand_view c.args.strands.now in
+    let ks = c.args.strands.now in
     let f = view c.args.form.now in
     let u = unique_of s f in
     let before = c.args.before.now in

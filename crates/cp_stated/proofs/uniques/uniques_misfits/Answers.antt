@@ -1,7 +1,6 @@
-use Rattle.std.proofs.Common.{List, [], ◌∷◌, ◌++◌, ◌≡◌, map, refl, ap, ◌∙◌}
+use Rattle.std.proofs.Common.{List, [], ◌∷◌, ◌++◌, ◌≡◌, refl, ap, ◌∙◌}
 use Rattle.cp_model.specs.Skeleton.{UniqueAt}
 use Rattle.cp_sexpr.specs.View.{view}
-use Rattle.cp_strand.specs.View.{strand_view}
 use Rattle.cp_report.specs.Skeletons.{unique_of, unique_misfits, uniques_misfits}
 use Rattle.cp_spelled.specs.FirstMisfit.{first_onto}
 use Rattle.cp_spelled.specs.Views.{scope_view}
@@ -12,7 +11,7 @@ use Rattle.cp_stated.proofs.uniques.uniques_misfits.Goals as goal
 pub loop-item-preserved : goal.loop-item-preserved
 loop-item-preserved c =
     let s = scope_view c.args.scope in
-    let ks = map strand_view c.args.strands.now in
+    let ks = c.args.strands.now in
     let f = view c.item-item.result in
     let uniques = c.loop-item.uniques.items in
     let pushed : c.push.new.self.items ≡ uniques ++ unique_of s f ∷ [] = c.in_ok-push.ensures.items ∙ ap (λ (u : UniqueAt). uniques ++ u ∷ []) c.in_ok-unique.ensures in

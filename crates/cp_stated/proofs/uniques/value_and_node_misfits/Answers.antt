@@ -1,5 +1,4 @@
-use Rattle.std.proofs.Common.{[], ◌∷◌, map}
-use Rattle.cp_strand.specs.View.{strand_view}
+use Rattle.std.proofs.Common.{[], ◌∷◌}
 use Rattle.cp_report.specs.Spelled.{atom_misfits}
 use Rattle.cp_report.specs.Skeletons.{node_misfits}
 use Rattle.cp_spelled.specs.Views.{scope_view}
@@ -8,5 +7,5 @@ use Rattle.cp_stated.proofs.uniques.value_and_node_misfits.Goals as goal
 
 pub returns : goal.returns
 returns c =
-    entry-taken (atom_misfits (scope_view c.args.scope)) (node_misfits (map strand_view c.args.strands.now) ∷ []) c.args.place c.args.items.now c.in-Some.rest.now c.in-Some.value.now
+    entry-taken (atom_misfits (scope_view c.args.scope)) (node_misfits c.args.strands.now ∷ []) c.args.place c.args.items.now c.in-Some.rest.now c.in-Some.value.now
     c.args.first.now c.atom_misfits.new.first c.one_node_misfits.new.first c.in-Some.ensures.cases.0 c.atom_misfits.ensures c.one_node_misfits.ensures

@@ -1,5 +1,10 @@
-use Rattle.cp_model.specs.Term.{key_term, inverse_term}
+use Rattle.std.proofs.Common.{refl}
+use Rattle.cp_unify.proofs.DifferenceSteps.{inverse_sorted}
+use Rattle.cp_unify.proofs.MatchedTerms.{asymmetric_of, asymmetric_is_key}
 use Rattle.cp_unify.proofs.difference.bind_inverse.Goals as goal
 
-pub new-requires : goal.new-requires
-new-requires c = record { atom = key_term (inverse_term c.requires.key); is_atom = c.in_ok-inverse.ensures.plain c.requires.key c.requires.is_key }
+pub invert-requires : goal.invert-requires
+invert-requires c = asymmetric_is_key _ (asymmetric_of _ _ refl c.requires)
+
+pub of-requires : goal.of-requires
+of-requires c = inverse_sorted _ _ c.requires c.in_ok-inverse.ensures.plain

@@ -1,7 +1,6 @@
 use Rattle.std.proofs.Common.{◌≡◌, ◌++◌, drop}
-use Rattle.cp_skel.specs.View.{skeleton_view}
 use Rattle.cp_fingerprint.specs.Partition.{partition_entries_from, partition_of}
 use Rattle.cp_fingerprint.proofs.partition.Partition.of.Given as goal
 
 abbrev pub invariant-loop-strand : goal.invariant-loop-strand
-invariant-loop-strand l = l.entries.items ++ partition_entries_from (skeleton_view l.k) l.strand (drop l.strand l.k.from_problem.strands) ≡ partition_of (skeleton_view l.k)
+invariant-loop-strand l = l.entries.items ++ partition_entries_from l.k l.strand (drop l.strand l.k.from_problem.strands) ≡ partition_of l.k

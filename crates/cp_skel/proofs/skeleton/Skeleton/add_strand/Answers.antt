@@ -1,20 +1,17 @@
-use Rattle.std.proofs.Common.{◌++◌, ◌∷◌, [], map, sym, ap, ◌∙◌, subst}
+use Rattle.std.proofs.Common.{◌++◌, ◌∷◌, [], ap, ◌∙◌, subst}
 use Rattle.cp_model.specs.Skeleton.{Skeleton}
 use Rattle.cp_model.specs.Extensions.{AddsStrand}
 use Rattle.cp_skel.specs.Parts.{skeleton_of_parts}
-use Rattle.cp_strand.specs.Declares.{DeclaresItsVariables}
-use Rattle.cp_strand.specs.View.{strand_view}
-use Rattle.cp_skel.specs.View.{skeleton_view}
-use Rattle.std.proofs.lemmas.List.{map_push, length-map}
+use Rattle.cp_model.specs.Declares.{DeclaresItsVariables}
 use Rattle.cp_skel.proofs.Changed.{strand-added}
 use Rattle.cp_skel.proofs.SoundSkeletons.{strand_sound}
 use Rattle.cp_skel.proofs.skeleton.Skeleton.add_strand.Goals as goal
 
 abbrev before : goal.After-drop-self-inside → Skeleton
-before c = skeleton_view (skeleton_of_parts c.self.inside)
+before c = (skeleton_of_parts c.self.inside)
 
 abbrev behind : goal.After-drop-self-inside → Skeleton
-behind c = record { strands = map strand_view c.push.new.self.items; pairs = (before c).pairs; assumptions = c.append.new.self; from_problem = (before c).from_problem }
+behind c = record { variables = (before c).variables; strands = c.push.new.self.items; pairs = (before c).pairs; assumptions = c.append.new.self; from_problem = (before c).from_problem }
 
 adds : (c : goal.After-drop-self-inside) → AddsStrand c.args.role.now.value c.args.height c.args.values.now (before c) (behind c)
 adds c =
@@ -23,13 +20,13 @@ adds c =
     strand-added (before c) c.args.role.now.value i.role c.args.height i.height c.args.values.now i.values
     c.in_ok-more.more c.in_ok-assumptions.assumptions c.append.new.self
     c.in_ok-instance.ensures.role c.in_ok-instance.ensures.height c.in_ok-assumptions.ensures c.in_ok-append.ensures.joined
-    (map strand_view c.push.new.self.items) [] c.len-number.result c.in_ok-instance.ensures.terms c.requires.values
-    (ap (map strand_view) c.in_ok-push.ensures.items ∙ map_push strand_view strands.items c.in_ok-strand.strand
-    ∙ ap (λ s. map strand_view strands.items ++ strand_view s ∷ []) c.in_ok-strand.ensures)
-    (c.len-number.ensures ∙ strands.ok.0 ∙ sym (length-map strands.items strand_view)) c.in_ok-more.ensures
+    c.push.new.self.items [] c.len-number.result c.in_ok-instance.ensures.terms c.requires.values
+    (c.in_ok-push.ensures.items
+    ∙ ap (λ s. strands.items ++ s ∷ []) c.in_ok-strand.ensures)
+    (c.len-number.ensures ∙ strands.ok.0) c.in_ok-more.ensures
 
 pub invariant_of-self-2 : goal.invariant_of-self-2
 invariant_of-self-2 c = strand_sound c.args.role.now.value c.args.height c.args.values.now (before c) (behind c) c.requires.height (subst DeclaresItsVariables c.deref.ensures c.is_sound.ensures) c.self.invariant (adds c)
 
 pub returns-clause-changed : goal.returns-clause-changed
-returns-clause-changed c = subst (λ d. AddsStrand c.args.role.now.value c.args.height c.args.values.now (skeleton_view d) (behind c)) c.self.view_is (adds c)
+returns-clause-changed c = subst (λ d. AddsStrand c.args.role.now.value c.args.height c.args.values.now d (behind c)) c.self.view_is (adds c)

@@ -1,6 +1,4 @@
-use Rattle.std.proofs.Common.{sym, ap, subst, ◌∙◌}
-use Rattle.std.specs.Option.{option_map}
-use Rattle.cp_model.specs.Term.{AtomTerm, atom_term}
+use Rattle.std.proofs.Common.{sym, subst, ◌∙◌}
 use Rattle.cp_unify.specs.Places.{IsRestAfter}
 use Rattle.cp_unify.proofs.Looked.{behind_bound, found_behind}
 use Rattle.cp_unify.proofs.subst.Subst.bound.Goals as goal
@@ -13,5 +11,5 @@ returns-clause-applied c =
 pub returns-clause-exact : goal.returns-clause-exact
 returns-clause-exact c =
     c.first_bound.ensures.exact
-    ∙ sym (ap (option_map (λ (u : AtomTerm). atom_term u)) (behind_bound c.args.sort c.args.variable _ _
-    (subst (λ m. IsRestAfter m c.from_number.result.now c.args.self.now) c.number.ensures c.from_number.ensures)))
+    ∙ sym (behind_bound c.args.sort c.args.variable _ _
+    (subst (λ m. IsRestAfter m c.from_number.result.now c.args.self.now) c.number.ensures c.from_number.ensures))
