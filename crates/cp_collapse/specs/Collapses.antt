@@ -68,7 +68,7 @@ pub record HasInstance (k : Skeleton) (p : List ℕ) (place : ℕ) (role : Role)
 -- l is k with the strands of each block merged into one at the block's place, under a most general substitution that
 -- identifies them. The instances of a block go to an instance with the height of one of them. A pair that comes to lie
 -- forward on one strand is dropped, and none comes to lie backward on one strand or on one node. The assumptions are the
--- images of k's, in the order in which a report lists them, each once.
+-- images of k's, in the order in which a report lists them, each once. The tables may differ.
 pub record IsCollapsed (k : Skeleton) (p : List ℕ) (l : Skeleton) : Type 0 where
   pub unifier : Substitution
   pub most_general : IsMostGeneralOn k p unifier

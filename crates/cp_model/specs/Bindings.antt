@@ -26,7 +26,7 @@ put_of_sort _ x _ s = s
 abbrev pub put_term : Variable → Term → Substitution → Substitution
 put_term x t s = put_of_sort x.sort x.number t s
 
--- The substitution that gives each bound variable its term, the first where it has several, and leaves the others.
+-- The substitution that gives each bound variable its term, the first of its sort where it has several, and leaves the others.
 abbrev pub as_substitution : List Binding → Substitution
 as_substitution [] = unchanged
 as_substitution (b ∷ bs) = put_term b.variable b.term (as_substitution bs)
@@ -43,7 +43,7 @@ sort_of_atom (name_variable n) = name_sort
 sort_of_atom (key_term (symmetric_term k)) = skey_sort
 sort_of_atom (key_term (asymmetric_term flag k)) = akey_sort
 
--- The sort of the variables that a term is bound to. A term of no atom sort is listed with the first sort, and binds nothing.
+-- The sort of the variable that is bound to a term. A term of no atom sort is listed with the sort text, and binds nothing.
 abbrev pub bound_sort : Term → Sort
 bound_sort (atom_term a) = sort_of_atom a
 bound_sort (tag_term bytes) = text_sort

@@ -18,7 +18,7 @@ abbrev pub IsClosedPrefix : Role → ℕ → Type 0
 IsClosedPrefix role height = (x : Variable) → IsIn x (variables_of_prefix role height) → IsDeclared role.variables x
 
 -- The new skeleton has an instance behind the strands of the old: its terms of the variables of the prefix, in the
--- order of their declarations, are the values; what the role gives it is added to the assumptions.
+-- order of their declarations, are the values; what the role gives it is added to the assumptions. The tables may differ.
 pub record AddsStrand (role : Role) (height : ℕ) (values : List Term) (old new : Skeleton) : Type 0 where
   pub terms : List Binding
   pub gives : terms_of (as_substitution terms) (prefix_variables role height) ≡ values
@@ -39,7 +39,7 @@ pub record CanExtend (k : Skeleton) (s height : ℕ) (values : List Term) : Type
 
 -- In the new skeleton the instance on strand number s has grown to this height: the variables of its old prefix have the
 -- terms that they had, those that are added have the values; what the role now gives it is added to the assumptions.
--- All other strands stay.
+-- All other strands stay. The tables may differ.
 pub record Extends (s height : ℕ) (values : List Term) (old new : Skeleton) : Type 0 where
   pub role : Role
   pub before : ℕ

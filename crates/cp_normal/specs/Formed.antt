@@ -38,7 +38,7 @@ pub record AreFormedNormalForms (k : Skeleton) (forms : List Formed) : Type 0 wh
   pub formed : (f : Formed) → IsIn f forms → IsFormedFrom k f
   pub loses_none : (protocol : Protocol) (b : Bundle) (h : Standing) → IsSkeleton protocol k → IsBundle protocol b → StandsIn k b h → StandsApart k h → StandsAmongFormed forms b h
 
--- The program's form says what f says, with the table of variables of k; and its substitution is the given one followed by
+-- The program's form has the skeleton of f, with the table of variables of k; and its substitution is the given one followed by
 -- that of f, term by term and as a substitution.
 pub record IsFormBeside (k : Skeleton) (given : List Binding) (answer : Form) (f : Formed) : Type 0 where
   pub skeleton : answer.skeleton ≡ f.skeleton

@@ -178,10 +178,10 @@ pub(crate) fn labels_stated(
     requires fit { (f : Syntax) → IsIn f (map view labels.now) → HasFitting (unchecked_view problem.now) (items_of_label f) }
     ensures { IfOk result (λ v. v.items ≡ map (label_of (unchecked_view problem.now)) (map view labels.now)) }
 {
-    let mut nodes = Vec::new(alloc);
+    let mut stated = Vec::new(alloc);
     for label in labels {
-        let node = label_of(alloc, problem, names, label)?;
-        nodes.push(node)?;
+        let next = label_of(alloc, problem, names, label)?;
+        stated.push(next)?;
     }
-    Ok(nodes)
+    Ok(stated)
 }

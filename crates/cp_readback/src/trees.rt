@@ -134,10 +134,10 @@ pub fn tree_of(
 {
     let (labels, ending) = split_at_labels(behind);
     let names = problem_variables(alloc, problem)?;
-    let nodes = labels_stated(alloc, problem, &names, labels)?;
+    let stated = labels_stated(alloc, problem, &names, labels)?;
     let outcome = outcome_in(ending);
     Ok(Tree {
-        labels: Labels::of(nodes),
+        labels: Labels::of(stated),
         outcome,
     })
 }

@@ -7,7 +7,8 @@ use Rattle.cp_model.specs.PointOfView.{IsPointOfView}
 use Rattle.cp_collapse.specs.Collapses.{AreCollapses}
 use Rattle.cp_roots.specs.Roots.{Root, first_roots, AreRoots}
 use Rattle.cp_roots.specs.Sound.{AreSound}
-use Rattle.cp_roots.specs.GatheredRoots.{AllHave, RootsHave, AreFirstRoots}
+use Rattle.cp_skel.specs.Tables.{HaveTable}
+use Rattle.cp_roots.specs.GatheredRoots.{RootsHave, AreFirstRoots}
 use Rattle.cp_roots.proofs.EachCollapse.{are_roots}
 use Rattle.cp_roots.proofs.RootsSoFar.{AreRootsOf}
 use Rattle.cp_roots.proofs.SoundRoots.{are_sound}
@@ -23,7 +24,7 @@ module _ (protocol : Protocol) (variables : List Declaration) (k : Skeleton) (sk
     whole : now ≡ first_roots k first.forms ++ all.others
     whole = all.roots ∙ ap (λ (rs : List Root). rs ++ all.others) first.whole
 
-    pub all_roots : AllHave names collapses → AreAllRoots protocol k names now
+    pub all_roots : HaveTable names collapses → AreAllRoots protocol k names now
     all_roots have = record {
       exact = are_roots variables k own first.forms collapses all.others now first.are_forms are all.of_each whole;
       sound = are_sound protocol variables k sk own first.forms collapses all.others now first.are_forms are all.of_each whole;

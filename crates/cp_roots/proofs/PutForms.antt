@@ -10,7 +10,8 @@ use Rattle.cp_lists.proofs.Members.{in_append, in_append_left, in_append_right, 
 use Rattle.cp_lists.proofs.Appended.{some_counted, next_first}
 use Rattle.cp_fingerprint.specs.FirstPlaces.{firsts}
 use Rattle.cp_roots.specs.Roots.{Root, in_report_order, living}
-use Rattle.cp_roots.specs.GatheredRoots.{AllHave, RootsHave, AreNormalForms, PutsForms, PutsCollapse, AreFirstRoots}
+use Rattle.cp_skel.specs.Tables.{HaveTable}
+use Rattle.cp_roots.specs.GatheredRoots.{RootsHave, AreNormalForms, PutsForms, PutsCollapse, AreFirstRoots}
 
 -- The root that is made so, of this skeleton.
 abbrev pub root_of : Operation → Skeleton → Root
@@ -26,13 +27,13 @@ have_more variables old new r e same have s i = by (in_append old (r ∷ []) (su
     by (inl j) = have s j
     by (inr j) = subst (λ (m : Root). m.skeleton.variables ≡ variables) (sym (only_item j)) same
 
-have_last : (variables : List Declaration) (left rest : List Skeleton) (k : Skeleton) → left ≡ rest ++ k ∷ [] → AllHave variables left → k.variables ≡ variables
+have_last : (variables : List Declaration) (left rest : List Skeleton) (k : Skeleton) → left ≡ rest ++ k ∷ [] → HaveTable variables left → k.variables ≡ variables
 have_last variables left rest k e have = have k (subst (IsIn k) (sym e) (in_append_right rest here))
 
-have_front : (variables : List Declaration) (left rest : List Skeleton) (k : Skeleton) → left ≡ rest ++ k ∷ [] → AllHave variables left → AllHave variables rest
+have_front : (variables : List Declaration) (left rest : List Skeleton) (k : Skeleton) → left ≡ rest ++ k ∷ [] → HaveTable variables left → HaveTable variables rest
 have_front variables left rest k e have m i = have m (subst (IsIn m) (sym e) (in_append_left (k ∷ []) i))
 
-pub have_reversed : (variables : List Declaration) (all ks : List Skeleton) → all ≡ reverse ks → AllHave variables ks → AllHave variables all
+pub have_reversed : (variables : List Declaration) (all ks : List Skeleton) → all ≡ reverse ks → HaveTable variables ks → HaveTable variables all
 have_reversed variables all ks e have k i = have k (from_reverse ks (subst (IsIn k) e i))
 
 -- ---- one after the other
@@ -40,8 +41,8 @@ have_reversed variables all ks e have k i = have k (from_reverse ks (subst (IsIn
 -- Of the forms, which are taken from the end, those that are left are still to be put.
 pub record PutsSoFar (by : Operation) (all left : List Skeleton) (start now : List Root) : Type 0 where
   pub roots : now ++ map (living by) (reverse left) ≡ start ++ map (living by) (reverse all)
-  pub have : (variables : List Declaration) → RootsHave variables start → AllHave variables all → RootsHave variables now
-  pub left_have : (variables : List Declaration) → AllHave variables all → AllHave variables left
+  pub have : (variables : List Declaration) → RootsHave variables start → HaveTable variables all → RootsHave variables now
+  pub left_have : (variables : List Declaration) → HaveTable variables all → HaveTable variables left
 
 pub none_put : (by : Operation) (all : List Skeleton) (roots : List Root) → PutsSoFar by all all roots roots
 none_put by all roots = record { roots = refl; have = λ variables old forms. old; left_have = λ variables forms. forms }

@@ -7,7 +7,8 @@ use Rattle.cp_model.specs.Skeleton.{Skeleton}
 use Rattle.cp_lists.proofs.Members.{in_append_left, in_append_right}
 use Rattle.cp_lists.proofs.Appended.{next_first}
 use Rattle.cp_roots.specs.Roots.{Root}
-use Rattle.cp_roots.specs.GatheredRoots.{AllHave, RootsHave, PutsCollapse}
+use Rattle.cp_skel.specs.Tables.{HaveTable}
+use Rattle.cp_roots.specs.GatheredRoots.{RootsHave, PutsCollapse}
 use Rattle.cp_roots.proofs.EachCollapse.{AreOfEach, roots_of, one_more}
 use Rattle.cp_roots.proofs.PutForms.{have_reversed}
 
@@ -19,7 +20,7 @@ pub record AreRootsSoFar (all left : List Skeleton) (start now : List Root) : Ty
   pub whole : done ++ reverse left ≡ reverse all
   pub roots : now ≡ start ++ others
   pub each_left : (l : Skeleton) → IsIn l left → IsIn l all
-  pub have : (variables : List Declaration) → RootsHave variables start → AllHave variables all → RootsHave variables now
+  pub have : (variables : List Declaration) → RootsHave variables start → HaveTable variables all → RootsHave variables now
 
 pub none_done : (all : List Skeleton) (start : List Root) → AreRootsSoFar all all start start
 none_done all start = record {
@@ -58,7 +59,7 @@ pub record AreRootsOf (collapses : List Skeleton) (start now : List Root) : Type
   pub others : List Root
   pub of_each : AreOfEach collapses others
   pub roots : now ≡ start ++ others
-  pub have : (variables : List Declaration) → RootsHave variables start → AllHave variables collapses → RootsHave variables now
+  pub have : (variables : List Declaration) → RootsHave variables start → HaveTable variables collapses → RootsHave variables now
 
 pub all_done : (collapses all left : List Skeleton) (start now : List Root) → all ≡ reverse collapses → left ≡ [] → AreRootsSoFar all left start now → AreRootsOf collapses start now
 all_done collapses all left start now e done part = record {

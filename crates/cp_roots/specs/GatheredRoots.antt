@@ -7,14 +7,11 @@ use Rattle.cp_model.specs.Skeleton.{Skeleton, IsSkeleton}
 use Rattle.cp_model.specs.declared.tree.Operation.{Operation}
 use Rattle.cp_model.specs.declared.tree.Operation.TheVariants.{Collapsed as by_collapse}
 use Rattle.cp_theory.specs.Normal.{LosesNoStanding}
+use Rattle.cp_skel.specs.Tables.{HaveTable}
 use Rattle.cp_normal.specs.Exact.{HasForms}
 use Rattle.cp_normal.specs.NormalForms.{IsNormalFormOf}
 use Rattle.cp_fingerprint.specs.FirstPlaces.{firsts}
 use Rattle.cp_roots.specs.Roots.{Root, living, first_roots}
-
--- The skeletons have these variables.
-abbrev pub AllHave : List Declaration → List Skeleton → Type 0
-AllHave variables ks = (k : Skeleton) → IsIn k ks → k.variables ≡ variables
 
 -- The skeletons of the roots have these variables.
 abbrev pub RootsHave : List Declaration → List Root → Type 0
@@ -30,7 +27,7 @@ pub record AreNormalForms (k : Skeleton) (rs : List Skeleton) : Type 0 where
 -- form in the order of a report.
 pub record PutsForms (by : Operation) (forms : List Skeleton) (old new : List Root) : Type 0 where
   pub roots : new ≡ old ++ map (living by) forms
-  pub variables : (variables : List Declaration) → RootsHave variables old → AllHave variables forms → RootsHave variables new
+  pub variables : (variables : List Declaration) → RootsHave variables old → HaveTable variables forms → RootsHave variables new
 
 -- The roots, with those that the normal forms of a collapse give behind them. It is by the partition of the strands that
 -- go to one place.

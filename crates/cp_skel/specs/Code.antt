@@ -1,4 +1,4 @@
--- How the plain data of skeletons are told apart. What they mean is in View.
+-- How skeletons are told apart.
 use Rattle.std.specs.Prelude.{ℕ, List, refl}
 use Rattle.std.specs.Coded.{Coded, code_by, coded_ℕ, coded_list, coded×}
 use Rattle.cp_model.specs.Term.{AtomTerm, Term}

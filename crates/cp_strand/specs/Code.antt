@@ -1,4 +1,4 @@
--- How the plain data of roles, protocols and strands are told apart. What they mean is in View.
+-- How roles, protocols and strands are told apart.
 use Rattle.std.specs.Prelude.{◌≡◌, ◌⊎◌, ℕ, List, refl}
 use Rattle.std.specs.Coded.{Coded, code_by, coded_ℕ, coded_list, coded×, coded⊎}
 use Rattle.std.proofs.Common.{inl, inr}

@@ -9,7 +9,7 @@ use Rattle.cp_roots.specs.declared.root.Root.{Root}
 use Rattle.cp_general.specs.Generalisation.{GeneralisesTo}
 
 -- The label is that of the root of a problem of these variables: it was made from no other, as the root was, and has its skeleton,
--- with more variables where it was expanded.
+-- with another table of variables where it was expanded.
 pub record IsLabelOfRoot (variables : List Declaration) (root : Root) (l : Label) : Type 0 where
   pub no_parent : l.parent ≡ None
   pub operation : l.operation ≡ root.operation

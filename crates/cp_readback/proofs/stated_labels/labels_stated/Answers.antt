@@ -13,10 +13,10 @@ label_of-requires-clause-fits c =
 
 pub loop-label-preserved : goal.loop-label-preserved
 loop-label-preserved c =
-    let made = c.loop-label.nodes.items in
+    let made = c.loop-label.stated.items in
     each-made c.args.labels.now c.loop-label.label-index (label_of (unchecked_view c.args.problem.now)) c.label-item.result c.loop-label-test.true c.label-item.is made c.push.new.self.items _
-    (c.in_ok-push.ensures.items ∙ ap (λ (l : Label). made ++ l ∷ []) c.in_ok-node.ensures) c.loop-label.invariant
+    (c.in_ok-push.ensures.items ∙ ap (λ (l : Label). made ++ l ∷ []) c.in_ok-next.ensures) c.loop-label.invariant
 
 pub returns : goal.returns
 returns c =
-    all-made c.args.labels.now c.loop-label.label-index (label_of (unchecked_view c.args.problem.now)) c.loop-label-test.false c.loop-label.nodes.items _ c.loop-label.invariant
+    all-made c.args.labels.now c.loop-label.label-index (label_of (unchecked_view c.args.problem.now)) c.loop-label-test.false c.loop-label.stated.items _ c.loop-label.invariant

@@ -6,4 +6,4 @@ use Rattle.cp_readback.proofs.stated_labels.labels_stated.Given as goal
 
 abbrev pub invariant-loop-label : goal.invariant-loop-label
 invariant-loop-label l =
-    l.nodes.items ++ map (label_of (unchecked_view l.problem)) (map view (drop l.label-index l.labels)) ≡ map (label_of (unchecked_view l.problem)) (map view l.labels)
+    l.stated.items ++ map (label_of (unchecked_view l.problem)) (map view (drop l.label-index l.labels)) ≡ map (label_of (unchecked_view l.problem)) (map view l.labels)

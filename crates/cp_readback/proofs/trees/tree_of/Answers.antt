@@ -12,4 +12,4 @@ pub returns : goal.returns
 returns c =
     tree-is (unchecked_view c.args.problem.now) (map view c.args.behind.now) (map view c.split_at_labels.result.0.now) (map view c.split_at_labels.result.1.now)
     c.of.result c.outcome_in-outcome.result
-    c.split_at_labels.ensures.labels c.split_at_labels.ensures.behind (c.of.ensures ∙ c.in_ok-nodes.ensures) c.outcome_in-outcome.ensures
+    c.split_at_labels.ensures.labels c.split_at_labels.ensures.behind (c.of.ensures ∙ c.in_ok-stated.ensures) c.outcome_in-outcome.ensures
