@@ -20,7 +20,7 @@ use Rattle.cp_app.specs.Answered.{SaysWhole, HasAnswered, HasBrokenOff}
 use Rattle.cp_app.specs.Endings.{IsRefusedFor, HasRefused, WasTooLong, TookAtMost}
 use Rattle.cp_app.specs.Reported.{text_by}
 use Rattle.cp_report.specs.FittingTrees.{TreeFits}
-use Rattle.cp_app.specs.Steps.{IsCauseFor, HasStopped, outcomes_status, cause_of_load, IsWholeReport, HasReportedAll, HasWrittenPart, HasEnded, HasExecuted}
+use Rattle.cp_app.specs.Steps.{IsCauseFor, HasStopped, outcomes_status, cause_of, IsWholeReport, HasReportedAll, HasWrittenPart, HasEnded, HasExecuted}
 use Rattle.cp_app.proofs.CommandCases.{accepts_well_formed, refuses_faulty, accepts_or_refuses, one_fault, reported_answers, detail_answers}
 use Rattle.cp_app.specs.Analysis.{IsAnalysisOf}
 use Rattle.cp_app.proofs.Trees.{zip_onto}
@@ -28,8 +28,8 @@ use Rattle.cp_printable.proofs.DenotedTrees.{report_true}
 use Rattle.cp_language.specs.Input.{Entry, stated, input_of}
 use Rattle.cp_language.specs.StatedInput.{IsInput}
 use Rattle.cp_language.specs.Report.{HasItsVariables}
-use Rattle.cp_load.specs.declared.error.LoadError.{LoadError}
-use Rattle.cp_load.specs.declared.error.LoadError.TheVariants as loading
+use Rattle.cp_sexpr.specs.declared.error.OrMemory.{OrMemory}
+use Rattle.cp_sexpr.specs.declared.error.OrMemory.TheVariants as errors
 use Rattle.cp_tree.specs.Searched.{IsTreeOf}
 use Rattle.cp_app.specs.declared.stopped.Stopped.{Stopped}
 use Rattle.cp_app.specs.declared.stopped.Stopped.TheVariants as stopped
@@ -215,11 +215,11 @@ whole_report command bytes text fs entries trees b short reading loaded analysed
     }
 
 -- what the loader refuses, the input is refused for
-pub load_cause : {A : Type 0} (command : Command) (input : List ℕ) (fs : Forms) (e : LoadError) (result : Result A Stopped) → IsErrAnd result (λ cause. cause ≡ cause_of_load e) → IsReading input (Ok fs)
-    → ((r : Refusal) → e ≡ loading.Refused r → IsInput fs (Err r)) → IfErr result (IsCauseFor command input)
+pub load_cause : {A : Type 0} (command : Command) (input : List ℕ) (fs : Forms) (e : OrMemory Refusal) (result : Result A Stopped) → IsErrAnd result (λ cause. cause ≡ cause_of e) → IsReading input (Ok fs)
+    → ((r : Refusal) → e ≡ errors.Refused r → IsInput fs (Err r)) → IfErr result (IsCauseFor command input)
 load_cause command input fs e (Ok x) is reading refused = tt
-load_cause command input fs (loading.Refused r) (Err cause) is reading refused = subst (IsCauseFor command input) (sym is) (inr (fs, reading, refuses_faulty command.name fs r (refused r refl)))
-load_cause command input fs loading.Memory (Err cause) is reading refused = subst (IsCauseFor command input) (sym is) tt
+load_cause command input fs (errors.Refused r) (Err cause) is reading refused = subst (IsCauseFor command input) (sym is) (inr (fs, reading, refuses_faulty command.name fs r (refused r refl)))
+load_cause command input fs errors.Memory (Err cause) is reading refused = subst (IsCauseFor command input) (sym is) tt
 
 pub ended_ok : (command : Command) (input : List ℕ) (left_new held_old held_new : Option (List ℕ)) (b : Bool) (s : Status) → s ≡ outcomes_status b → HasReportedAll command input left_new held_old held_new b (Ok tt)
     → HasEnded command input left_new held_old held_new s

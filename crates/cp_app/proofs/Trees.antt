@@ -29,7 +29,7 @@ use Rattle.cp_load.specs.declared.input.Entry.{Entry as ProgramEntry}
 use Rattle.cp_model.proofs.OccurringVariables.{term_with}
 use Rattle.cp_theory.specs.Matches.{IsFreeIn}
 use Rattle.cp_tree.specs.Searched.{IsTreeOf}
-use Rattle.cp_tree.specs.Declared.{DeclaresItsOwn}
+use Rattle.cp_tree.specs.LabelVariables.{DeclaresItsOwn}
 use Rattle.cp_report.specs.FittingTrees.{TreeFits}
 use Rattle.cp_language.proofs.Problems as wellformed
 use Rattle.cp_app.specs.Analysis.{HaveFewVariables, IsAnalysable, IsAnalysisOf}

@@ -1,15 +1,14 @@
 -- What the steps of a run leave, where the source and the sink tell what they hold.
 use Rattle.std.specs.Prelude.{◌≡◌, ℕ, ◌<◌, List, [], ◌++◌, length, take, Bool, true, false, Option, Some, None, Result, Ok, Err}
+use Rattle.cp_base.specs.declared.place.Refusal.{Refusal}
 use Rattle.cp_base.specs.declared.status.Failed.{Failed}
 use Rattle.cp_base.specs.declared.status.Status.{Status}
 use Rattle.cp_base.specs.declared.status.Status.TheVariants as status
 use Rattle.cp_model.specs.declared.tree.Outcome.{Outcome}
 use Rattle.cp_model.specs.declared.tree.Outcome.TheVariants.{Complete as complete}
 use Rattle.cp_sexpr.specs.Syntax.{Forms}
-use Rattle.cp_sexpr.specs.declared.error.ReadError.{ReadError}
-use Rattle.cp_sexpr.specs.declared.error.ReadError.TheVariants as reading
-use Rattle.cp_load.specs.declared.error.LoadError.{LoadError}
-use Rattle.cp_load.specs.declared.error.LoadError.TheVariants as loading
+use Rattle.cp_sexpr.specs.declared.error.OrMemory.{OrMemory}
+use Rattle.cp_sexpr.specs.declared.error.OrMemory.TheVariants as errors
 use Rattle.cp_words.specs.declared.command.Command.{Command}
 use Rattle.cp_app.specs.Headline.{IsAccepted}
 use Rattle.cp_app.specs.Commands.{Accepts}
@@ -27,15 +26,10 @@ status_of ReadFault = status.ReadFault
 status_of TooLong = status.TooLong
 status_of Memory = status.Memory
 
--- The cause that an error of the reader is.
-abbrev pub stopped_by_reader : ReadError → Stopped
-stopped_by_reader (reading.Refused r) = Refused r
-stopped_by_reader reading.Memory = Memory
-
--- The cause that an error of the loader is.
-abbrev pub cause_of_load : LoadError → Stopped
-cause_of_load (loading.Refused r) = Refused r
-cause_of_load loading.Memory = Memory
+-- The cause that an error of the reader or of the loader is.
+abbrev pub cause_of : OrMemory Refusal → Stopped
+cause_of (errors.Refused r) = Refused r
+cause_of errors.Memory = Memory
 
 -- The cause holds of an input that was read.
 abbrev pub IsCauseFor : Command → List ℕ → Stopped → Type 0

@@ -1,11 +1,10 @@
 // Searches every problem of an input.
-ghost use Rattle.std.specs.Prelude.{◌≡◌, ◌<◌, ◌^◌, [], ◌∷◌, ◌++◌, length, map, IfOk, OnOk};
+ghost use Rattle.std.specs.Prelude.{◌≡◌, ◌<◌, ◌^◌, length, map, IfOk};
 ghost use Rattle.std.specs.List.{filter_map};
 ghost use Rattle.cp_load.specs.Inputs.{problem_view, entry_view};
 ghost use Rattle.cp_language.specs.Problems.{Problem as PlainProblem};
 ghost use Rattle.cp_language.specs.Input.{stated};
 ghost use Rattle.cp_lists.specs.Lists.{IsIn};
-ghost use Rattle.cp_model.specs.Tree.{Tree as PlainTree};
 ghost use Rattle.cp_app.specs.Analysis.{HaveFewVariables, IsAnalysable, IsAnalysisOf};
 ghost use Rattle.cp_app.specs.Headline.{HaveTrees, SaysOutcomes};
 ghost use Rattle.cp_app.specs.Steps.{is_complete, outcomes_status};
@@ -44,21 +43,6 @@ fn tree_of(alloc: Global, problem: &Problem, limits: Limits) -> Result<Tree, All
     Ok(tree)
 }
 
-// Appends the tree of a problem to `trees`.
-fn add_tree(
-    alloc: Global,
-    problem: &Problem,
-    limits: Limits,
-    trees: &mut Vec<Tree>,
-) -> Result<(), AllocError>
-    requires analysable { IsAnalysable (problem_view problem.now) }
-    ensures { OnOk result ((t : PlainTree) × IsAnalysisOf limits (problem_view problem.now) t × (trees.new.items ≡ trees.old.items ++ t ∷ [])) }
-{
-    let tree = tree_of(alloc, problem, limits)?;
-    trees.push(tree)?;
-    Ok(())
-}
-
 // Searches the problem of each entry that has one, in order, and returns one tree for each.
 pub(crate) fn trees_of(
     alloc: Global,
@@ -73,7 +57,8 @@ pub(crate) fn trees_of(
         let Some(problem) = entry.problem() else {
             continue;
         };
-        add_tree(alloc, problem, limits, &mut trees)?;
+        let tree = tree_of(alloc, problem, limits)?;
+        trees.push(tree)?;
     }
     Ok(trees)
 }

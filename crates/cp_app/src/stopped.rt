@@ -3,8 +3,7 @@ ghost use Rattle.std.specs.Prelude.{◌≡◌};
 ghost use Rattle.cp_app.specs.Steps.{status_of};
 
 use cp_base::{Refusal, Status};
-use cp_load::LoadError;
-use cp_sexpr::ReadError;
+use cp_sexpr::OrMemory;
 use std::alloc::AllocError;
 
 // Why a run that was given a command prints no report.
@@ -44,28 +43,15 @@ impl From<AllocError> for Stopped {
     }
 }
 
-impl From<ReadError> for Stopped {
-    ghost use Rattle.cp_app.specs.Steps.{stopped_by_reader};
+impl From<OrMemory<Refusal>> for Stopped {
+    ghost use Rattle.cp_app.specs.Steps.{cause_of};
 
-    ghost from_gives = { λ error cause. cause ≡ stopped_by_reader error };
+    ghost from_gives = { λ error cause. cause ≡ cause_of error };
 
-    fn from(error: ReadError) -> Stopped {
+    fn from(error: OrMemory<Refusal>) -> Stopped {
         match error {
-            ReadError::Refused(refusal) => Stopped::Refused(refusal),
-            ReadError::Memory => Stopped::Memory,
-        }
-    }
-}
-
-impl From<LoadError> for Stopped {
-    ghost use Rattle.cp_app.specs.Steps.{cause_of_load};
-
-    ghost from_gives = { λ error cause. cause ≡ cause_of_load error };
-
-    fn from(error: LoadError) -> Stopped {
-        match error {
-            LoadError::Refused(refusal) => Stopped::Refused(refusal),
-            LoadError::Memory => Stopped::Memory,
+            OrMemory::Refused(refusal) => Stopped::Refused(refusal),
+            OrMemory::Memory => Stopped::Memory,
         }
     }
 }

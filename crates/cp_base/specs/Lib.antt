@@ -4,3 +4,4 @@ pub mod InMemory
 pub mod Outside
 pub mod Statuses
 pub mod Streams
+pub mod Growing

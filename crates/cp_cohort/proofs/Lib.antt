@@ -12,12 +12,13 @@ pub mod AsMessages
 pub mod UnmatchedEncryptions
 pub mod FurtherMatches
 pub mod Ranked
-pub mod Rounds
 pub mod OccurrenceBranches
 pub mod Forms
 pub mod PairedForms
 pub mod BranchLoops
 pub mod Made
+pub mod SolvedLeaves
+pub mod SolvingSteps
 pub mod Occurrences
 pub mod OpenedPatterns
 pub mod Alike

@@ -1,6 +1,8 @@
--- What takes the place of a candidate, and rounds of solving.
-use Rattle.std.specs.Prelude.{◌≡◌, ℕ, ◌<◌, Bool, true, false, List, [], ◌∷◌, ◌++◌, map, Option, Some, MatchOption}
+-- What takes the place of a partial solution for which the conditions on a release are tested.
+use Rattle.std.specs.Prelude.{◌≡◌, ℕ, ◌<◌, Bool, true, false, List, [], ◌∷◌, map, Some}
 use Rattle.cp_lists.specs.Lists.{item_at, IsIn}
+use Rattle.cp_normal.specs.declared.rewriting.Candidate.{Candidate}
+use Rattle.cp_normal.specs.declared.rewriting.Candidate.TheVariants.{Open, Done}
 use Rattle.cp_model.specs.Term.{Term, Substitution, apply_to}
 use Rattle.cp_model.specs.Strand.{payload, event_map}
 use Rattle.cp_model.specs.declared.strand.Event.{Event}
@@ -8,50 +10,65 @@ use Rattle.cp_model.specs.Skeleton.{skeleton_trace_or_none}
 use Rattle.cp_model.specs.Tree.{Pattern}
 use Rattle.cp_model.specs.declared.step.Step.{Step}
 use Rattle.cp_normal.specs.declared.form.Form.{Form}
+use Rattle.cp_normal.specs.Formed.{AreFormsBeside}
 use Rattle.cp_theory.specs.Above.{encryptions_above}
 use Rattle.cp_theory.specs.Matches.{Matches}
 use Rattle.cp_pattern.specs.Unifiers.{UnifiesMostGenerally, NeverEqual}
-use Rattle.cp_cohort.specs.Releases.{Release, PartialSolution, came_by, MeetsBoth}
-use Rattle.cp_cohort.specs.Stages.{Choice, pattern_in, IsNextUnder, of_form}
-use Rattle.cp_cohort.specs.CandidateResults.{HasResults, LeadTo}
-use Rattle.cp_cohort.specs.declared.candidates.Candidate.{Candidate}
-use Rattle.cp_cohort.specs.declared.candidates.Candidate.TheVariants.{OnTheWay, Normal, Solved}
+use Rattle.cp_cohort.specs.Releases.{Release, PartialSolution, came_by, IsReleasedInside, IsFirstOutside, MeetsBoth}
+use Rattle.cp_cohort.specs.Stages.{Choice, choices, pattern_in, IsNextUnder, Stage, on_the_way, normal, of_form}
+use Rattle.cp_cohort.specs.declared.attempts.Attempt.{Attempt}
 
--- The partial solution of a candidate.
-abbrev pub tried_of : Candidate → PartialSolution
-tried_of (OnTheWay x) = x
-tried_of (Normal x) = x
-tried_of (Solved x) = x
+-- A partial solution for which the conditions are to be tested, or one for which both hold.
+abbrev pub Tried : Type 0
+Tried = Candidate Attempt PartialSolution
 
--- A normal form as a candidate.
-abbrev pub normal_form : Form → Candidate
-normal_form f = Normal (of_form f)
+-- A branch, and a normal form.
+abbrev pub on_way : PartialSolution → Tried
+on_way x = Open (record { tried = x; is_normal = false })
 
--- The candidate is not solved.
-abbrev pub IsUnsolved : Candidate → Type 0
-IsUnsolved (OnTheWay x) = Unit {0}
-IsUnsolved (Normal x) = Unit {0}
-IsUnsolved (Solved x) = ⊥
+abbrev pub normal_form : Form → Tried
+normal_form f = Open (record { tried = of_form f; is_normal = true })
+
+-- Whether it is known to be a normal form.
+abbrev pub stage_of : Bool → Stage
+stage_of false = on_the_way
+stage_of true = normal
 
 -- ---- branches
 
 abbrev pub choice_of : Term → Pattern → Choice
 choice_of e p = record { encryption = e; pattern = p }
 
--- The candidates are the branches of x by these choices, in order: one for each choice that can be.
-pub data AreBranchesByChoices (x : PartialSolution) : List Choice → List Candidate → Type 0 where
+-- y is the branch of x by this choice.
+pub record IsBranchByChoice (x : PartialSolution) (c : Choice) (y : PartialSolution) : Type 0 where
+  pub by : Substitution
+  pub unifies : UnifiesMostGenerally c.encryption (pattern_in x c.pattern) by
+  pub next : IsNextUnder x c.pattern by y
+
+-- They are the branches of x by these choices, in order: one for each choice that can be.
+pub data AreBranchesByChoices (x : PartialSolution) : List Choice → List Tried → Type 0 where
   none_tried : AreBranchesByChoices x [] []
-  no_branch : {c : Choice} {cs : List Choice} {ds : List Candidate} → NeverEqual c.encryption (pattern_in x c.pattern) → AreBranchesByChoices x cs ds → AreBranchesByChoices x (c ∷ cs) ds
-  branch_by : {c : Choice} {u : Substitution} {y : PartialSolution} {cs : List Choice} {ds : List Candidate} → UnifiesMostGenerally c.encryption (pattern_in x c.pattern) u
-      → IsNextUnder x c.pattern u y → AreBranchesByChoices x cs ds → AreBranchesByChoices x (c ∷ cs) (OnTheWay y ∷ ds)
+  no_branch : {c : Choice} {cs : List Choice} {made : List Tried} → NeverEqual c.encryption (pattern_in x c.pattern) → AreBranchesByChoices x cs made → AreBranchesByChoices x (c ∷ cs) made
+  branch_by : {c : Choice} {y : PartialSolution} {cs : List Choice} {made : List Tried} → IsBranchByChoice x c y → AreBranchesByChoices x cs made → AreBranchesByChoices x (c ∷ cs) (on_way y ∷ made)
 
--- The list, with the branches of x by these choices behind it.
-pub record PutsBranches (x : PartialSolution) (cs : List Choice) (old new : List Candidate) : Type 0 where
-  pub added : List Candidate
-  pub behind : new ≡ old ++ added
-  pub are : AreBranchesByChoices x cs added
+-- ---- steps
 
--- ---- what falls
+-- They are the normal forms of x.
+pub record BecomesNormalForms (x : PartialSolution) (made : List Tried) : Type 0 where
+  pub forms : List Form
+  pub are : AreFormsBeside x.skeleton x.substitution forms
+  pub all : made ≡ map normal_form forms
+
+-- One step. Where the term would be released inside the patterns, nothing is left. Where an earlier event carries it outside
+-- them, the branches by the first such occurrence are. Where both conditions hold, a normal form is solved, and any other
+-- partial solution becomes its normal forms.
+pub data SolvesInto (r : Release) (a : Attempt) : List Tried → Type 0 where
+  none_if_inside : IsReleasedInside r a.tried → SolvesInto r a []
+  into_branches : {t : Term} {path : List Step} {made : List Tried} → (IsReleasedInside r a.tried → ⊥) → IsFirstOutside r a.tried t path → AreBranchesByChoices a.tried (choices (encryptions_above t path) r.patterns) made → SolvesInto r a made
+  into_forms : {made : List Tried} → a.is_normal ≡ false → MeetsBoth r a.tried → BecomesNormalForms a.tried made → SolvesInto r a made
+  is_solved : a.is_normal ≡ true → MeetsBoth r a.tried → SolvesInto r a (Done a.tried ∷ [])
+
+-- ---- what is matched
 
 -- One of the patterns matches the term.
 pub record OneMatches (ps : List Pattern) (s : Substitution) (t : Term) : Type 0 where
@@ -81,42 +98,3 @@ pub record MatchesMore (r : Release) (x y : PartialSolution) : Type 0 where
   pub above : IsIn encryption (encryptions_above (payload event) path)
   pub was_not : OneMatches r.patterns (came_by x) encryption → ⊥
   pub is : OneMatches r.patterns (came_by y) (apply_to comes.by encryption)
-
--- d is solved; or it is a branch, in which more is matched; or a normal form of what was on the way.
-abbrev pub AdvancesTo : Release → Candidate → Candidate → Type 0
-AdvancesTo r c (Solved y) = Unit {0}
-AdvancesTo r (OnTheWay x) (Normal y) = ComesFrom r x y
-AdvancesTo r (OnTheWay x) (OnTheWay y) = MatchesMore r x y
-AdvancesTo r (Normal x) (OnTheWay y) = MatchesMore r x y
-AdvancesTo r _ _ = ⊥
-
--- ---- rounds
-
--- What takes the place of a candidate: its results, one after the other, are those of the candidate.
-pub record ReplacesByAdvance (r : Release) (c : Candidate) (new : List Candidate) : Type 0 where
-  pub each : (d : Candidate) → IsIn d new → AdvancesTo r c d
-  pub leads : (ys : List PartialSolution) → LeadTo r new ys → HasResults r c ys
-
--- The list, with what takes the place of the candidate behind it.
-pub record PutsAdvanced (r : Release) (c : Candidate) (old new : List Candidate) : Type 0 where
-  pub added : List Candidate
-  pub behind : new ≡ old ++ added
-  pub takes_place : ReplacesByAdvance r c added
-
--- Both conditions hold and nothing was put; or what takes the place of the partial solution, known to be normal or not, is put.
-abbrev pub BranchesUnless : Bool → Release → PartialSolution → List Candidate → List Candidate → Type 0
-BranchesUnless true r x old new = MeetsBoth r x × (new ≡ old)
-BranchesUnless false r x old new = PutsAdvanced r (OnTheWay x) old new × PutsAdvanced r (Normal x) old new
-
--- The partial solution itself, where both conditions hold and nothing was put; nothing, where what takes its place is put.
-abbrev pub IsKept : Release → PartialSolution → List Candidate → List Candidate → Option PartialSolution → Type 0
-IsKept r x old new kept = MatchOption kept (BranchesUnless false r x old new) (λ y. (y ≡ x) × BranchesUnless true r x old new)
-
--- Each of the new candidates falls from one of the old.
-abbrev pub AllFall : Release → List Candidate → List Candidate → Type 0
-AllFall r old new = (d : Candidate) → IsIn d new → (c : Candidate) × IsIn c old × AdvancesTo r c d
-
--- The new candidates fall from the old, and their results are those of the old.
-pub record IsSolvingRound (r : Release) (old new : List Candidate) : Type 0 where
-  pub all_fall : AllFall r old new
-  pub leads : (ys : List PartialSolution) → LeadTo r new ys → LeadTo r old ys

@@ -6,8 +6,6 @@ pub mod HeardTerms
 pub mod Releases
 pub mod Stages
 pub mod Conditions
-pub mod CandidateResults
-pub mod Widened
 pub mod Candidates
 pub mod GatheredLists
 pub mod CoveringChildren

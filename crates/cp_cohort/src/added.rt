@@ -1,6 +1,5 @@
 // Children with an added strand: its last event is put before the node and releases the critical term.
 ghost use Rattle.std.specs.Prelude.{◌<◌, length, OnOk};
-ghost use Rattle.cp_theory.specs.Critical.{IsTest};
 ghost use Rattle.cp_model.specs.Problem.{numbers_from};
 ghost use Rattle.cp_cohort.specs.Cohort.{AddsEvent};
 ghost use Rattle.cp_cohort.specs.GatheredLists.{EachGives};
@@ -23,13 +22,13 @@ fn add_event(
     index: usize,
     children: &mut Vec<Child>,
 ) -> Result<(), AllocError>
-    requires test { IsTest guarded_test.now.skeleton guarded_test.now.node guarded_test.now.critical }
     requires reached { index < length role.now.value.trace }
     ensures { OnOk result (PutsChildren (AddsEvent guarded_test.now role.now.value index) children.old.items children.new.items) }
 {
     if !is_sent(role, index) {
         return Ok(());
     }
+    guarded_test.is_test();
     let strand = guarded_test.skeleton.strands().len();
     let node = Node { strand, index };
     let height = index + 1;
@@ -51,7 +50,6 @@ fn add_role(
     role: &Rc<Role>,
     children: &mut Vec<Child>,
 ) -> Result<(), AllocError>
-    requires test { IsTest guarded_test.now.skeleton guarded_test.now.node guarded_test.now.critical }
     ensures { OnOk result (PutsChildren (EachGives (AddsEvent guarded_test.now role.now.value) (numbers_from 0 role.now.value.trace)) children.old.items children.new.items) }
 {
     let events = role.trace();
@@ -68,7 +66,6 @@ pub(crate) fn add(
     guarded_test: &GuardedTest,
     children: &mut Vec<Child>,
 ) -> Result<(), AllocError>
-    requires test { IsTest guarded_test.now.skeleton guarded_test.now.node guarded_test.now.critical }
     ensures { OnOk result (PutsChildren (EachGives (λ role. EachGives (AddsEvent guarded_test.now role) (numbers_from 0 role.trace)) protocol.now.roles) children.old.items children.new.items) }
 {
     let all = protocol.roles();

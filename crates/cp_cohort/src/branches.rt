@@ -1,131 +1,65 @@
 // Branches for an occurrence of the critical term outside the patterns.
-ghost use Rattle.std.specs.Prelude.{[], ◌∷◌, map, IfOk, OnOk};
-ghost use Rattle.cp_model.specs.Term.{Term as Plain};
-ghost use Rattle.cp_model.specs.Tree.{Pattern as PlainPattern};
-ghost use Rattle.cp_unify.specs.Bindings.{as_substitution};
-ghost use Rattle.cp_pattern.specs.Unifiers.{UnifiesMostGenerally};
-ghost use Rattle.cp_cohort.specs.Stages.{choices};
-ghost use Rattle.cp_cohort.specs.Widened.{IsWidened, IsPartialSolutionUnder};
-ghost use Rattle.cp_cohort.specs.Candidates.{choice_of, PutsBranches};
+ghost use Rattle.std.specs.Prelude.{IfOk, MatchOption};
+ghost use Rattle.cp_pattern.specs.Unifiers.{NeverEqual};
+ghost use Rattle.cp_cohort.specs.Stages.{choices, pattern_in};
+ghost use Rattle.cp_cohort.specs.Candidates.{choice_of, IsBranchByChoice, AreBranchesByChoices};
 
-use crate::candidates::Candidate;
+use crate::attempts::Attempt;
 use crate::release::PartialSolution;
 use cp_collapse::under;
+use cp_normal::Candidate;
 use cp_pattern::{open_pattern, unifier};
-use cp_skel::Skeleton;
 use cp_term::{Pattern, Term};
-use cp_unify::{Subst, compose};
+use cp_unify::compose;
 use std::alloc::{AllocError, Global};
 
-/// A partial solution's skeleton with new variables for a pattern's locals, and the pattern as a term over its variables.
-#[derive(Drop)]
-struct Widened {
-    skeleton: Skeleton,
-    term: Term,
-}
-
-/// Adds new variables for a pattern's locals to the skeleton of a partial solution.
-fn widen(alloc: Global, tried: &PartialSolution, pattern: &Pattern) -> Result<Widened, AllocError>
-    ensures { IfOk result (IsWidened tried.now pattern.now) }
-{
-    let mut skeleton = tried.skeleton.copy(alloc)?;
-    let term = open_pattern(alloc, pattern, &tried.substitution, &mut skeleton)?;
-    Ok(Widened { skeleton, term })
-}
-
-/// The partial solution under a unifier, with the new variables.
-fn tried_under(
-    alloc: Global,
-    tried: &PartialSolution,
-    widened: &Widened,
-    u: &Subst,
-) -> Result<PartialSolution, AllocError>
-    ensures { IfOk result (IsPartialSolutionUnder tried.now widened.now (as_substitution u.now)) }
-{
-    let skeleton = under(alloc, &widened.skeleton, u)?;
-    let substitution = compose(alloc, &tried.substitution, u)?;
-    Ok(PartialSolution {
-        skeleton,
-        substitution,
-    })
-}
-
-/// Appends the branch for a unifier.
-fn put_under(
-    alloc: Global,
-    tried: &PartialSolution,
-    widened: &Widened,
-    u: &Subst,
-    next: &mut Vec<Candidate>,
-) -> Result<(), AllocError>
-    ensures { OnOk result ((e : Plain) (p : PlainPattern) → IsWidened tried.now p widened.now
-        → UnifiesMostGenerally e widened.now.term (as_substitution u.now)
-        → PutsBranches tried.now (choice_of e p ∷ []) next.old.items next.new.items) }
-{
-    let branch = tried_under(alloc, tried, widened, u)?;
-    next.push(Candidate::OnTheWay(branch))?;
-    Ok(())
-}
-
-/// Appends the branch in which an encryption equals the pattern's term, if the two unify.
-fn put_unified(
-    alloc: Global,
-    tried: &PartialSolution,
-    widened: &Widened,
-    encryption: &Term,
-    next: &mut Vec<Candidate>,
-) -> Result<(), AllocError>
-    ensures { OnOk result ((p : PlainPattern) → IsWidened tried.now p widened.now
-        → PutsBranches tried.now (choice_of encryption.now p ∷ []) next.old.items next.new.items) }
-{
-    match unifier(alloc, encryption, &widened.term)? {
-        Some(u) => put_under(alloc, tried, widened, &u, next),
-        None => Ok(()),
-    }
-}
-
-/// Appends the branch in which an encryption matches a pattern, if the two unify.
-fn put_branch(
+/// The branch in which an encryption matches a pattern, whose locals become new variables; `None` if they do not unify.
+fn branch(
     alloc: Global,
     tried: &PartialSolution,
     encryption: &Term,
     pattern: &Pattern,
-    next: &mut Vec<Candidate>,
-) -> Result<(), AllocError>
-    ensures { OnOk result (PutsBranches tried.now (choice_of encryption.now pattern.now ∷ []) next.old.items next.new.items) }
+) -> Result<Option<PartialSolution>, AllocError>
+    ensures { IfOk result (λ branch. MatchOption branch
+        (NeverEqual encryption.now (pattern_in tried.now pattern.now))
+        (IsBranchByChoice tried.now (choice_of encryption.now pattern.now))) }
 {
-    let widened = widen(alloc, tried, pattern)?;
-    put_unified(alloc, tried, &widened, encryption, next)
-}
-
-/// Appends the branches in which an encryption matches each of the patterns, in order.
-fn put_by_patterns(
-    alloc: Global,
-    tried: &PartialSolution,
-    encryption: &Term,
-    patterns: &[Pattern],
-    next: &mut Vec<Candidate>,
-) -> Result<(), AllocError>
-    ensures { OnOk result (PutsBranches tried.now (map (choice_of encryption.now) patterns.now) next.old.items next.new.items) }
-{
-    for pattern in patterns {
-        put_branch(alloc, tried, encryption, pattern, next)?;
+    let mut wider = tried.skeleton.copy(alloc)?;
+    let term = open_pattern(alloc, pattern, &tried.substitution, &mut wider)?;
+    match unifier(alloc, encryption, &term)? {
+        Some(u) => {
+            let skeleton = under(alloc, &wider, &u)?;
+            let substitution = compose(alloc, &tried.substitution, &u)?;
+            Ok(Some(PartialSolution {
+                skeleton,
+                substitution,
+            }))
+        }
+        None => Ok(None),
     }
-    Ok(())
 }
 
-/// Appends the branches in which each of the encryptions matches each of the patterns, in order.
-pub(crate) fn put_branches(
+/// The branches in which each of the encryptions matches each of the patterns, in order.
+pub(crate) fn branches(
     alloc: Global,
     tried: &PartialSolution,
     encryptions: &[Term],
     patterns: &[Pattern],
-    next: &mut Vec<Candidate>,
-) -> Result<(), AllocError>
-    ensures { OnOk result (PutsBranches tried.now (choices encryptions.now patterns.now) next.old.items next.new.items) }
+) -> Result<Vec<Candidate<Attempt, PartialSolution>>, AllocError>
+    ensures { IfOk result (λ made. AreBranchesByChoices tried.now (choices encryptions.now patterns.now) made.items) }
 {
+    let mut branches = Vec::new(alloc);
     for encryption in encryptions {
-        put_by_patterns(alloc, tried, encryption, patterns, next)?;
+        for pattern in patterns {
+            let next = match branch(alloc, tried, encryption, pattern)? {
+                Some(next) => next,
+                None => continue,
+            };
+            branches.push(Candidate::Open(Attempt {
+                tried: next,
+                is_normal: false,
+            }))?;
+        }
     }
-    Ok(())
+    Ok(branches)
 }

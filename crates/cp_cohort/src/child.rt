@@ -1,5 +1,5 @@
 // Children of a test.
-ghost use Rattle.std.specs.Prelude.{◌≡◌, ◌++◌, ◌∷◌, [], map, IfOk, OnOk};
+ghost use Rattle.std.specs.Prelude.{◌≡◌, ◌++◌, map, IfOk, OnOk};
 ghost use Rattle.cp_model.specs.Skeleton.{Skeleton};
 ghost use Rattle.cp_cohort.specs.CoveringChildren.{child};
 ghost use Rattle.cp_cohort.specs.Views.{operation_of_made};
@@ -53,20 +53,6 @@ fn as_child(skeleton: Skeleton, made: Made, path: &Path) -> Result<Child, AllocE
     })
 }
 
-/// Appends a skeleton as a child.
-fn put_child(
-    skeleton: Skeleton,
-    made: Made,
-    path: &Path,
-    children: &mut Vec<Child>,
-) -> Result<(), AllocError>
-    ensures { OnOk result (children.new.items ≡ children.old.items ++ child (operation_of_made made) path.now skeleton ∷ []) }
-{
-    let child = as_child(skeleton, made, path)?;
-    children.push(child)?;
-    Ok(())
-}
-
 /// Something from which a child's skeleton can be taken.
 pub(crate) trait HasSkeleton {
     /// The child's skeleton.
@@ -106,7 +92,8 @@ pub(crate) fn put_children<T: HasSkeleton + Drop>(
     let mut rest = made_of;
     rest.reverse();
     while let Some(next) = rest.pop() {
-        put_child(next.into_skeleton(), made, path, children)?;
+        let child = as_child(next.into_skeleton(), made, path)?;
+        children.push(child)?;
     }
     Ok(())
 }

@@ -1,5 +1,5 @@
 // The cohort of a test.
-ghost use Rattle.std.specs.Prelude.{◌≡◌, [], map, IfOk, OnOk};
+ghost use Rattle.std.specs.Prelude.{◌≡◌, [], map, IfOk};
 ghost use Rattle.cp_theory.specs.Critical.{IsTest};
 ghost use Rattle.cp_theory.specs.Guards.{Guards};
 ghost use Rattle.cp_lists.specs.Lists.{IsIn};
@@ -15,46 +15,30 @@ ghost use Rattle.cp_cohort.specs.Asked.{IsAskedOver};
 
 use crate::added::add;
 use crate::child::Child;
-use crate::contracted::contract;
-use crate::displaced::displace;
 use crate::guarded_test::GuardedTest;
 use crate::listeners::listen;
 use crate::{children_are_sound, cohorts_cover, operations_are_true};
-use cp_skel::{Node, Predecessors, Protocol, Skeleton};
+use cp_derive::AtTest;
+use cp_skel::{Node, Protocol, Skeleton};
 use cp_term::{Pattern, Term};
 use std::alloc::{AllocError, Global};
 
 /// The initial capacity for children: few tests have more, and a list that outgrows it is moved.
 const ROOM: usize = 8;
 
-/// Puts the children of a test into an empty list: contracted, displaced, with an added strand, with an added listener.
-fn put_all(
-    alloc: Global,
-    protocol: &Protocol,
-    guarded_test: &GuardedTest,
-    children: &mut Vec<Child>,
-) -> Result<(), AllocError>
-    requires test { IsTest guarded_test.now.skeleton guarded_test.now.node guarded_test.now.critical }
-    requires empty { children.old.items ≡ [] }
-    ensures { OnOk result (IsCohort protocol.now guarded_test.now children.new.items) }
-{
-    contract(alloc, guarded_test, children)?;
-    displace(alloc, guarded_test, children)?;
-    add(alloc, protocol, guarded_test, children)?;
-    listen(alloc, guarded_test, children)
-}
-
-/// The children of a test.
+/// The children of a test: contracted, displaced, with an added strand, with an added listener.
 fn children_of(
     alloc: Global,
     protocol: &Protocol,
     guarded_test: &GuardedTest,
 ) -> Result<Vec<Child>, AllocError>
-    requires test { IsTest guarded_test.now.skeleton guarded_test.now.node guarded_test.now.critical }
     ensures { IfOk result (λ cs. IsCohort protocol.now guarded_test.now cs.items) }
 {
     let mut children = Vec::with_capacity(alloc, ROOM)?;
-    put_all(alloc, protocol, guarded_test, &mut children)?;
+    guarded_test.contract(alloc, &mut children)?;
+    guarded_test.displace(alloc, &mut children)?;
+    add(alloc, protocol, guarded_test, &mut children)?;
+    listen(alloc, guarded_test, &mut children)?;
     Ok(children)
 }
 
@@ -77,7 +61,41 @@ fn children_of(
 /// so there are no children only if the skeleton stands apart in no bundle. Each child is then a skeleton over the protocol that
 /// keeps what the skeleton keeps of its problem, and what its operation says of it is true.
 ///
-/// The node and the term must be a test of the skeleton, and the patterns must guard it.
+/// The patterns must guard the test.
+pub fn cohort_at(
+    alloc: Global,
+    protocol: &Protocol,
+    test: &AtTest<'_>,
+    patterns: &[Pattern],
+) -> Result<Vec<Child>, AllocError>
+    requires guards { Guards patterns.now test.now.skeleton test.now.node test.now.critical }
+    ensures exact { IfOk result (λ cs. IsCohort protocol.now (guarded_test_of test.now.skeleton test.now.node test.now.critical patterns.now) cs.items) }
+    ensures leaves_none_out { IfOk result (λ cs. IsAskedOver protocol.now (guarded_test_of test.now.skeleton test.now.node test.now.critical patterns.now) → IsComplete protocol.now test.now.skeleton (map (λ (c : PlainChild). c.skeleton) cs.items)) }
+    ensures through_a_child { IfOk result (λ cs. IsAskedOver protocol.now (guarded_test_of test.now.skeleton test.now.node test.now.critical patterns.now)
+        → (b : Bundle) (h : Standing) → IsBundle protocol.now b → StandsIn test.now.skeleton b h → StandsApart test.now.skeleton h → GoesThroughChild (guarded_test_of test.now.skeleton test.now.node test.now.critical patterns.now) cs.items b h) }
+    ensures none_only_nowhere { IfOk result (λ cs. cs.items ≡ [] → IsAskedOver protocol.now (guarded_test_of test.now.skeleton test.now.node test.now.critical patterns.now)
+        → (b : Bundle) (h : Standing) → IsBundle protocol.now b → StandsIn test.now.skeleton b h → StandsApart test.now.skeleton h → ⊥) }
+    ensures sound { IfOk result (λ cs. IsAskedOver protocol.now (guarded_test_of test.now.skeleton test.now.node test.now.critical patterns.now) → (c : PlainChild) → IsIn c cs.items → IsSoundChild protocol.now (guarded_test_of test.now.skeleton test.now.node test.now.critical patterns.now) c) }
+    ensures as_said { IfOk result (λ cs. (c : PlainChild) → IsIn c cs.items → HasItsOperation (guarded_test_of test.now.skeleton test.now.node test.now.critical patterns.now) c) }
+{
+    cohorts_cover();
+    children_are_sound();
+    operations_are_true();
+    protocol.is_sound();
+    test.is_test();
+    let place = test.at();
+    let guarded_test = GuardedTest {
+        skeleton: place.skeleton(),
+        node: place.node(),
+        at: place,
+        critical: test.critical(),
+        patterns,
+    };
+    children_of(alloc, protocol, &guarded_test)
+}
+
+/// The cohort of the test of a skeleton at this node, as [`cohort_at`] tells it. The node and the term must be a test of the
+/// skeleton, and the patterns must guard it.
 pub fn cohort(
     alloc: Global,
     protocol: &Protocol,
@@ -97,17 +115,6 @@ pub fn cohort(
     ensures sound { IfOk result (λ cs. IsAskedOver protocol.now (guarded_test_of k.now node critical.now patterns.now) → (c : PlainChild) → IsIn c cs.items → IsSoundChild protocol.now (guarded_test_of k.now node critical.now patterns.now) c) }
     ensures as_said { IfOk result (λ cs. (c : PlainChild) → IsIn c cs.items → HasItsOperation (guarded_test_of k.now node critical.now patterns.now) c) }
 {
-    cohorts_cover();
-    children_are_sound();
-    operations_are_true();
-    protocol.is_sound();
-    let leading = Predecessors::new(alloc, k.order().pairs(), node)?;
-    let guarded_test = GuardedTest {
-        skeleton: k,
-        node,
-        leading: &leading,
-        critical,
-        patterns,
-    };
-    children_of(alloc, protocol, &guarded_test)
+    let test = AtTest::new(alloc, k, node, critical)?;
+    cohort_at(alloc, protocol, &test, patterns)
 }

@@ -12,13 +12,6 @@ use cp_term::{Path, Term};
 use cp_unify::apply;
 use std::alloc::{AllocError, Global};
 
-/// A position of a term.
-#[derive(Drop)]
-pub(crate) struct Position {
-    pub(crate) term: Term,
-    pub(crate) path: Path,
-}
-
 /// Whether the position of the release is inside the patterns.
 pub(crate) fn is_released_inside(
     alloc: Global,
@@ -39,19 +32,19 @@ pub(crate) fn is_released_inside(
     }
 }
 
-/// The first position outside the patterns at which the event at this index of the release's strand carries the term. `critical`
-/// is the release's term under the substitution.
+/// The message of the event at this index of the release's strand, and the first position outside the patterns at which it
+/// carries the term. `critical` is the release's term under the substitution.
 fn first_outside_at(
     alloc: Global,
     release: &Release,
     tried: &PartialSolution,
     critical: &Term,
     index: usize,
-) -> Result<Option<Position>, AllocError>
+) -> Result<Option<(Term, Path)>, AllocError>
     requires { critical.now ≡ apply_to (came_by tried.now) release.now.critical }
     ensures { IfOk result (λ found. MatchOption found
         (IsInsideAlone release.now tried.now index)
-        (λ p. IsFirstOutsideAt release.now tried.now index p.term p.path)) }
+        (λ p. IsFirstOutsideAt release.now tried.now index p.0 p.1)) }
 {
     let node = Node {
         strand: release.node.strand,
@@ -67,21 +60,21 @@ fn first_outside_at(
         critical,
         &term,
     )? {
-        Some(path) => Ok(Some(Position { term, path })),
+        Some(path) => Ok(Some((term, path))),
         None => Ok(None),
     }
 }
 
-/// The first position outside the patterns at which an event before the release's node, on its strand, carries the term: by
-/// event, then by position.
+/// The first message before the release's node, on its strand, that carries the term outside the patterns, and the first such
+/// position of it.
 pub(crate) fn first_outside_before(
     alloc: Global,
     release: &Release,
     tried: &PartialSolution,
-) -> Result<Option<Position>, AllocError>
+) -> Result<Option<(Term, Path)>, AllocError>
     ensures { IfOk result (λ found. MatchOption found
         (HasNoneBefore release.now tried.now)
-        (λ p. IsFirstOutside release.now tried.now p.term p.path)) }
+        (λ p. IsFirstOutside release.now tried.now p.0 p.1)) }
 {
     let critical = apply(alloc, &tried.substitution, release.critical)?;
     for index in 0..release.node.index {

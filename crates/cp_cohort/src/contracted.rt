@@ -2,7 +2,6 @@
 ghost use Rattle.std.specs.Prelude.{◌↔◌, IsTrue, IfOk, OnOk};
 ghost use Rattle.cp_theory.specs.Inside.{IsInside};
 ghost use Rattle.cp_model.specs.Identity.{unchanged};
-ghost use Rattle.cp_model.specs.Skeleton.{IsNodeOf};
 ghost use Rattle.cp_model.specs.Strand.{payload};
 ghost use Rattle.cp_cohort.specs.Cohort.{Contracts, AreContracted};
 ghost use Rattle.cp_cohort.specs.Children.{AreChildrenOfForms, ContractsEvent, IsPosition};
@@ -32,96 +31,80 @@ pub(crate) fn put_forms(
     put_children(forms, made, path, children)
 }
 
-/// Whether a position of a message lies inside the test's patterns.
-fn is_guarded(
-    alloc: Global,
-    guarded_test: &GuardedTest,
-    message: &Term,
-    path: &Path,
-) -> Result<bool, AllocError>
-    ensures { IfOk result (λ answer. IsTrue answer ↔ IsInside guarded_test.now.patterns unchanged message.now path.now) }
-{
-    let nothing = Subst::new(alloc);
-    is_inside(
-        alloc,
-        guarded_test.patterns,
-        &nothing,
-        message,
-        path.as_slice(),
-    )
-}
+impl<'a> GuardedTest<'a> {
+    /// Whether a position of a message lies inside the test's patterns.
+    fn is_guarded(&self, alloc: Global, message: &Term, path: &Path) -> Result<bool, AllocError>
+        ensures { IfOk result (λ answer. IsTrue answer ↔ IsInside self.now.patterns unchanged message.now path.now) }
+    {
+        let nothing = Subst::new(alloc);
+        is_inside(alloc, self.patterns, &nothing, message, path.as_slice())
+    }
 
-/// Appends the children for one position of an earlier transmission.
-fn contract_at(
-    alloc: Global,
-    guarded_test: &GuardedTest,
-    occurrence: &LocatedEvent,
-    path: &Path,
-    children: &mut Vec<Child>,
-) -> Result<(), AllocError>
-    requires { IsPosition (payload occurrence.now.event) path.now }
-    ensures { OnOk result (PutsChildren (Contracts guarded_test.now occurrence.now path.now) children.old.items children.new.items) }
-{
-    let message = occurrence.event.payload();
-    if is_guarded(alloc, guarded_test, message, path)? {
-        return Ok(());
+    /// Appends the children for one position of an earlier transmission.
+    fn contract_at(
+        &self,
+        alloc: Global,
+        occurrence: &LocatedEvent,
+        path: &Path,
+        children: &mut Vec<Child>,
+    ) -> Result<(), AllocError>
+        requires { IsPosition (payload occurrence.now.event) path.now }
+        ensures { OnOk result (PutsChildren (Contracts self.now occurrence.now path.now) children.old.items children.new.items) }
+    {
+        let message = occurrence.event.payload();
+        if self.is_guarded(alloc, message, path)? {
+            return Ok(());
+        }
+        let Some(term) = at(message, path) else {
+            unreachable!();
+        };
+        if term.same(self.critical) {
+            return Ok(());
+        }
+        let Some(s) = unifier(alloc, term, self.critical)? else {
+            return Ok(());
+        };
+        let skeleton = under(alloc, self.skeleton, &s)?;
+        put_forms(
+            alloc,
+            skeleton,
+            Made::Contracted(occurrence.node),
+            path,
+            children,
+        )
     }
-    let Some(term) = at(message, path) else {
-        unreachable!();
-    };
-    if term.same(guarded_test.critical) {
-        return Ok(());
-    }
-    let Some(s) = unifier(alloc, term, guarded_test.critical)? else {
-        return Ok(());
-    };
-    let skeleton = under(alloc, guarded_test.skeleton, &s)?;
-    put_forms(
-        alloc,
-        skeleton,
-        Made::Contracted(occurrence.node),
-        path,
-        children,
-    )
-}
 
-/// Appends the contracted children for one event.
-fn contract_event(
-    alloc: Global,
-    guarded_test: &GuardedTest,
-    occurrence: &LocatedEvent,
-    children: &mut Vec<Child>,
-) -> Result<(), AllocError>
-    requires there { IsNodeOf guarded_test.now.skeleton.strands guarded_test.now.node }
-    ensures { OnOk result (PutsChildren (ContractsEvent guarded_test.now occurrence.now) children.old.items children.new.items) }
-{
-    if !is_sent_before(
-        guarded_test.skeleton,
-        guarded_test.leading,
-        guarded_test.node,
-        occurrence,
-    ) {
-        return Ok(());
+    /// Appends the contracted children for one event.
+    fn contract_event(
+        &self,
+        alloc: Global,
+        occurrence: &LocatedEvent,
+        children: &mut Vec<Child>,
+    ) -> Result<(), AllocError>
+        ensures { OnOk result (PutsChildren (ContractsEvent self.now occurrence.now) children.old.items children.new.items) }
+    {
+        if !is_sent_before(self.at, occurrence) {
+            return Ok(());
+        }
+        let paths = positions_for(alloc, occurrence.event.payload(), self.critical)?;
+        for path in &paths {
+            self.contract_at(alloc, occurrence, path, children)?;
+        }
+        Ok(())
     }
-    let paths = positions_for(alloc, occurrence.event.payload(), guarded_test.critical)?;
-    for path in &paths {
-        contract_at(alloc, guarded_test, occurrence, path, children)?;
-    }
-    Ok(())
-}
 
-/// Appends all contracted children.
-pub(crate) fn contract(
-    alloc: Global,
-    guarded_test: &GuardedTest,
-    children: &mut Vec<Child>,
-) -> Result<(), AllocError>
-    requires there { IsNodeOf guarded_test.now.skeleton.strands guarded_test.now.node }
-    ensures { OnOk result (PutsChildren (AreContracted guarded_test.now) children.old.items children.new.items) }
-{
-    let occurrences = guarded_test.skeleton.events(alloc)?;
-    for occurrence in &occurrences {
-        contract_event(alloc, guarded_test, occurrence, children)?;
+    /// Appends all contracted children.
+    pub(crate) fn contract(
+        &self,
+        alloc: Global,
+        children: &mut Vec<Child>,
+    ) -> Result<(), AllocError>
+        ensures { OnOk result (PutsChildren (AreContracted self.now) children.old.items children.new.items) }
+    {
+        let occurrences = self.at.events();
+        for occurrence in occurrences {
+            self.contract_event(alloc, occurrence, children)?;
+        }
+        Ok(())
     }
-    Ok(())
 }

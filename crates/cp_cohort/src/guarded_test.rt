@@ -1,5 +1,8 @@
 // What a cohort is computed for.
-use cp_skel::{Node, Predecessors, Skeleton};
+ghost use Rattle.cp_theory.specs.Critical.{IsTest};
+
+use cp_derive::AtNode;
+use cp_skel::{Node, Skeleton};
 use cp_term::{Pattern, Term};
 use std::marker::Model;
 
@@ -9,14 +12,15 @@ use std::marker::Model;
 pub(crate) struct GuardedTest<'a> {
     pub(crate) skeleton: &'a Skeleton,
     pub(crate) node: Node,
-    /// The predecessors of the node along the skeleton's pairs.
-    pub(crate) leading: &'a Predecessors<'a>,
+    /// The node, with what is known of it.
+    pub(crate) at: &'a AtNode<'a>,
     pub(crate) critical: &'a Term,
     pub(crate) patterns: &'a [Pattern],
 }
 
 impl<'a> Model for GuardedTest<'a> {
     ghost use Rattle.std.specs.Prelude.{◌≡◌};
+    ghost use Rattle.cp_theory.specs.Critical.{IsTest};
     ghost use Rattle.cp_cohort.specs.Cohort.{GuardedTest};
     ghost use Rattle.cp_cohort.specs.Code.{coded_guarded_test};
 
@@ -26,5 +30,14 @@ impl<'a> Model for GuardedTest<'a> {
 
     ghost view = { λ q. record { skeleton = q.skeleton.now; node = q.node; critical = q.critical.now; patterns = q.patterns.now } };
 
-    ghost invariant = { λ q. q.leading.now ≡ record { pairs = q.skeleton.now.pairs; node = q.node } };
+    ghost invariant = { λ q. (q.at.now ≡ record { skeleton = q.skeleton.now; node = q.node }) × IsTest q.skeleton.now q.node q.critical.now };
+}
+
+impl<'a> GuardedTest<'a> {
+    /// The node and the term are a test of the skeleton.
+    pub(crate) fn is_test(&self)
+        ensures { IsTest self.now.skeleton self.now.node self.now.critical }
+    {
+        let node = self.node;
+    }
 }

@@ -1,6 +1,6 @@
 //! The cohort of an authentication test: all its children, in order. For the method see S. Doghmi, J. Guttman, F. Thayer,
 //! Searching for Shapes in Cryptographic Protocols, TACAS 2007, and M. Liskov, P. Rowe, F. Thayer, Completeness of CPSA, 2011;
-//! which children there are, and their order, is told at [`cohort`]. A release of the critical term is solved once
+//! which children there are, and their order, is told at [`cohort_at`]. A release of the critical term is solved once
 //! two conditions hold: the position of the release is outside the patterns, and each earlier event of its strand carries the
 //! term inside them alone. The children cover the test: they leave out no standing.
 //!
@@ -8,8 +8,8 @@
 #![tactic(auto)]
 
 mod added;
+mod attempts;
 mod branches;
-mod candidates;
 mod child;
 mod children;
 mod cohorts;
@@ -30,7 +30,7 @@ mod transmissions;
 mod trials;
 
 pub use child::Child;
-pub use children::cohort;
+pub use children::{cohort, cohort_at};
 pub use cohorts::{children_are_sound, cohorts_cover, operations_are_true};
 pub use encryptions::encryptions_above;
 pub use examples::heard_encryption_has_one_child;

@@ -1,27 +1,19 @@
 // Transmissions of role strands before a node.
-ghost use Rattle.std.specs.Prelude.{◌≡◌, ◌↔◌, IsTrue};
-ghost use Rattle.cp_model.specs.Skeleton.{IsNodeOf};
+ghost use Rattle.std.specs.Prelude.{◌↔◌, IsTrue};
 ghost use Rattle.cp_cohort.specs.CoveringChildren.{IsTransmissionBefore};
 
-use cp_skel::{Event, LocatedEvent, Node, Predecessors, Skeleton, comes_before};
+use cp_derive::AtNode;
+use cp_skel::{Event, LocatedEvent};
 
-/// Whether an event is a transmission of a role strand before the node. `leading` must hold the predecessors of the node along
-/// the skeleton's pairs, and the node must exist.
-pub fn is_sent_before(
-    k: &Skeleton,
-    leading: &Predecessors<'_>,
-    node: Node,
-    occurrence: &LocatedEvent,
-) -> bool
-    requires there { IsNodeOf k.now.strands node }
-    requires gathered { leading.now ≡ record { pairs = k.now.pairs; node = node } }
-    ensures { IsTrue result ↔ IsTransmissionBefore k.now node occurrence.now }
+/// Whether an event of the node's skeleton is a transmission of a role strand before the node.
+pub fn is_sent_before(at: &AtNode<'_>, occurrence: &LocatedEvent) -> bool
+    ensures { IsTrue result ↔ IsTransmissionBefore at.now.skeleton at.now.node occurrence.now }
 {
     if !occurrence.by_role {
         return false;
     }
     match &occurrence.event {
-        Event::Send(_) => comes_before(k, leading, occurrence.node, node),
+        Event::Send(_) => at.has_before(occurrence.node),
         Event::Receive(_) => false,
     }
 }

@@ -1,24 +1,12 @@
 // Solves a release.
-ghost use Rattle.std.specs.Prelude.{◌≡◌, map, IfOk};
+ghost use Rattle.std.specs.Prelude.{IfOk};
 ghost use Rattle.cp_cohort.specs.Stages.{SolvesRelease, on_the_way};
-ghost use Rattle.cp_cohort.specs.Candidates.{tried_of};
 
-use crate::candidates::{Candidate, round, some_is_open};
+use crate::attempts::Attempt;
 use crate::release::{PartialSolution, Release};
+use cp_normal::leaves;
 use std::alloc::{AllocError, Global};
-
-/// The candidates' skeletons and substitutions, in order.
-fn all_tried(alloc: Global, candidates: Vec<Candidate>) -> Result<Vec<PartialSolution>, AllocError>
-    ensures { IfOk result (λ ts. ts.items ≡ map tried_of candidates.items) }
-{
-    let mut rest = candidates;
-    rest.reverse();
-    let mut all = Vec::with_capacity(alloc, rest.len())?;
-    while let Some(candidate) = rest.pop() {
-        all.push(candidate.into_tried())?;
-    }
-    Ok(all)
-}
+use std::marker::Brand;
 
 /// Solves a release: returns, in order, the normal forms for which both conditions on it hold.
 ///
@@ -37,11 +25,9 @@ pub fn solve(
 ) -> Result<Vec<PartialSolution>, AllocError>
     ensures { IfOk result (λ ts. SolvesRelease release.now on_the_way tried ts.items) }
 {
-    let mut alone = Vec::with_capacity(alloc, 1)?;
-    alone.push(Candidate::OnTheWay(tried))?;
-    let mut candidates = alone;
-    while some_is_open(&candidates) {
-        candidates = round(alloc, release, candidates)?;
-    }
-    all_tried(alloc, candidates)
+    let attempt = Attempt {
+        tried,
+        is_normal: false,
+    };
+    leaves::<Release, Brand>(alloc, release, attempt)
 }

@@ -1,4 +1,5 @@
 pub mod ItemsWithProperty
+pub mod AnyItem
 pub mod Values
 pub mod DeclaredTerms
 pub mod SameStrands

@@ -57,30 +57,11 @@ fn unique_images(
     Ok(images)
 }
 
-/// Whether the pairs are the same.
-fn is_same_pair(first: &OrderPair, second: &OrderPair) -> bool
-    ensures { IsTrue result ↔ (first.now ≡ second.now) }
-{
-    first == second
-}
-
-/// Whether a pair is one of these.
-fn is_listed_pair(pair: &OrderPair, pairs: &[OrderPair]) -> bool
-    ensures { IsTrue result ↔ Has (λ other. other ≡ pair.now) pairs.now }
-{
-    for other in pairs {
-        if is_same_pair(other, pair) {
-            return true;
-        }
-    }
-    false
-}
-
 /// Appends a pair unless it is listed already.
 fn put_pair(pair: OrderPair, pairs: &mut Vec<OrderPair>) -> Result<(), AllocError>
     ensures { OnOk result (IsPutOnce pair pairs.old.items pairs.new.items) }
 {
-    if is_listed_pair(&pair, pairs) {
+    if pairs.iter().any(|other| *other == pair) {
         return Ok(());
     }
     pairs.push(pair)?;
@@ -123,12 +104,7 @@ fn lies_backward(pair: &OrderPair, lowest: &[usize]) -> bool
 pub(crate) fn some_lies_backward(pairs: &[OrderPair], lowest: &[usize]) -> bool
     ensures { IsTrue result ↔ Has (λ q. LiesOnOne lowest.now q × (q.later.index ≤ q.earlier.index)) pairs.now }
 {
-    for pair in pairs {
-        if lies_backward(pair, lowest) {
-            return true;
-        }
-    }
-    false
+    pairs.iter().any(|pair| lies_backward(pair, lowest))
 }
 
 /// The images of assumptions, in order, each once.
@@ -148,11 +124,10 @@ pub(crate) fn assumption_images(
 fn places_of(alloc: Global, strands: &[usize], lowest: &[usize]) -> Result<Vec<usize>, AllocError>
     ensures { IfOk result (λ v. v.items ≡ map (place_in lowest.now) strands.now) }
 {
-    let mut places = Vec::new(alloc);
-    for strand in strands {
-        places.push(place_in(lowest, *strand))?;
-    }
-    Ok(places)
+    strands
+        .iter()
+        .map(|strand| place_in(lowest, *strand))
+        .collect(alloc)
 }
 
 /// The map from a problem, followed by the map onto the blocks.

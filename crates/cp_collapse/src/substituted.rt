@@ -31,11 +31,10 @@ pub(crate) fn each_under<T: Substituted + Drop>(
 ) -> Result<Vec<T>, AllocError>
     ensures { IfOk result (λ v. v.items ≡ map (T.becomes (as_substitution s.now)) items.now) }
 {
-    let mut changed = Vec::with_capacity(alloc, items.len())?;
-    for item in items {
-        changed.push(item.under(alloc, s)?)?;
-    }
-    Ok(changed)
+    items
+        .iter()
+        .map(|item| item.under(alloc, s))
+        .try_collect(alloc)
 }
 
 impl Substituted for Term {
@@ -146,11 +145,10 @@ pub(crate) fn strand_under(alloc: Global, strand: &Strand, s: &Subst) -> Result<
 fn strands_under(alloc: Global, strands: &[Strand], s: &Subst) -> Result<Vec<Strand>, AllocError>
     ensures { IfOk result (λ v. v.items ≡ map (declared_under (as_substitution s.now)) strands.now) }
 {
-    let mut changed = Vec::with_capacity(alloc, strands.len())?;
-    for strand in strands {
-        changed.push(strand_under(alloc, strand, s)?)?;
-    }
-    Ok(changed)
+    strands
+        .iter()
+        .map(|strand| strand_under(alloc, strand, s))
+        .try_collect(alloc)
 }
 
 /// The skeleton under a substitution: it is applied to every term. Strands, nodes and pairs stay where they are.

@@ -13,3 +13,6 @@ pub mod TransmissionPlaces
 pub mod GivenAtNode
 pub mod GrownKnowledge
 pub mod ByStrand
+pub mod SentBefore
+pub mod InTable
+pub mod CriticalTests

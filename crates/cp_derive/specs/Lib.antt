@@ -11,3 +11,5 @@ pub mod Assumed
 pub mod Before
 pub mod Places
 pub mod Picked
+pub mod AtNode
+pub mod AtTest

@@ -1,31 +1,137 @@
 // What is derivable at a node of a skeleton.
-ghost use Rattle.std.specs.Prelude.{◌≡◌, ◌↔◌, Some, option_map, IsNone, IfSome, IfOk};
+ghost use Rattle.std.specs.Prelude.{◌≡◌, ◌↔◌, Some, option_map, IsNone, IfSome, IfOk, IsTrue};
 ghost use Rattle.cp_model.specs.Derivable.{DerivableAt};
-ghost use Rattle.cp_model.specs.Skeleton.{IsNodeOf, term_event_at};
+ghost use Rattle.cp_model.specs.Skeleton.{Before, IsNodeOf, term_event_at};
 ghost use Rattle.cp_model.specs.Strand.{payload};
 ghost use Rattle.cp_model.specs.declared.strand.Event.{Event as PlainEvent};
 ghost use Rattle.cp_model.specs.Term.{Term as Plain};
 ghost use Rattle.cp_model.specs.Positions.{term_at};
-ghost use Rattle.cp_derive.specs.Before.{transmissions_of};
+ghost use Rattle.cp_skel.specs.Events.{events_of};
+ghost use Rattle.cp_skel.specs.Tables.{DiffersInTable};
 ghost use Rattle.cp_derive.specs.Components.{IsFirstUnderivable};
 ghost use Rattle.cp_derive.specs.Given.{IsDerivable};
 
 use crate::assumed::assumed_values;
-use crate::before::{messages_at, places_before};
+use crate::before::sent_before;
 use crate::component::Critical;
 use crate::knowledge::Known;
-use crate::transmission::{Transmission, transmissions};
 use crate::walk::critical_in;
-use cp_skel::{Node, Skeleton, SortedPairs};
+use cp_skel::{LocatedEvent, Node, Predecessors, Skeleton, comes_before};
 use cp_term::Term;
 use std::alloc::{AllocError, Global};
+use std::marker::Model;
 
-/// The transmissions of the skeleton's role strands.
-fn transmissions_of(alloc: Global, k: &Skeleton) -> Result<Vec<Transmission>, AllocError>
-    ensures { IfOk result (λ ts. ts.items ≡ transmissions_of k.now) }
-{
-    let occurrences = k.events(alloc)?;
-    transmissions(alloc, &occurrences)
+/// A node of a skeleton, with what is asked of a skeleton there again and again: its events, what precedes the node, and what is
+/// known at it.
+#[derive(Drop)]
+pub struct AtNode<'a> {
+    skeleton: &'a Skeleton,
+    node: Node,
+    events: Vec<LocatedEvent>,
+    predecessors: Predecessors<'a>,
+    known: Known,
+}
+
+impl<'a> Model for AtNode<'a> {
+    ghost use Rattle.cp_derive.specs.AtNode.{SkeletonNode, coded_skeleton_node, IsAtNode};
+
+    ghost Value = { SkeletonNode };
+
+    ghost coded = { coded_skeleton_node };
+
+    ghost view = { λ a. record { skeleton = a.skeleton.now; node = a.node } };
+
+    ghost invariant = { λ a. IsAtNode a.skeleton.now a.node a.events.items a.predecessors a.known };
+}
+
+impl<'a> AtNode<'a> {
+    /// Gathers what is known of a node. The node must exist.
+    pub(crate) fn new(alloc: Global, k: &'a Skeleton, node: Node) -> Result<AtNode<'a>, AllocError>
+        requires there { IsNodeOf k.now.strands node }
+        ensures { IfOk result (λ at. at ≡ record { skeleton = k.now; node = node }) }
+    {
+        k.is_sound();
+        let events = k.events(alloc)?;
+        let predecessors = Predecessors::new(alloc, k.order().pairs(), node)?;
+        let sent = sent_before(alloc, &events, &predecessors, node)?;
+        let secrets = assumed_values(alloc, k.assumptions())?;
+        let known = Known::new(alloc, sent, secrets)?;
+        Ok(AtNode {
+            skeleton: k,
+            node,
+            events,
+            predecessors,
+            known,
+        })
+    }
+
+    /// The skeleton.
+    pub fn skeleton(&self) -> &'a Skeleton
+        ensures { result.now ≡ self.now.skeleton }
+    {
+        self.skeleton
+    }
+
+    /// The node.
+    pub fn node(&self) -> Node
+        ensures { result ≡ self.now.node }
+    {
+        self.node
+    }
+
+    /// The events of the skeleton, each with its node, by strand and then by index.
+    pub fn events(&self) -> &[LocatedEvent]
+        ensures { result.now ≡ events_of self.now.skeleton }
+    {
+        &self.events
+    }
+
+    /// Whether another node is before this one in the skeleton's order.
+    pub fn has_before(&self, other: Node) -> bool
+        ensures { IsTrue result ↔ Before self.now.skeleton other self.now.node }
+    {
+        comes_before(self.skeleton, &self.predecessors, other, self.node)
+    }
+
+    /// What is known at the node: what is derivable from it is what is derivable there.
+    pub fn known(&self) -> &Known
+        ensures { (t : Plain) → IsDerivable result.now t ↔ DerivableAt self.now.skeleton self.now.node t }
+    {
+        &self.known
+    }
+
+    /// The critical term at the node, as [`critical`] tells it.
+    pub fn critical(&self, alloc: Global) -> Result<Option<Critical>, AllocError>
+        ensures none { IfOk result (λ found. (e : PlainEvent Plain) → term_event_at self.now.skeleton.strands self.now.node ≡ Some e → IsNone found ↔ DerivableAt self.now.skeleton self.now.node (payload e)) }
+        ensures first { IfOk result (λ found. IfSome found (λ c. (e : PlainEvent Plain) → term_event_at self.now.skeleton.strands self.now.node ≡ Some e → IsFirstUnderivable (DerivableAt self.now.skeleton self.now.node) (payload e) c.path c.term)) }
+        ensures place { IfOk result (λ found. IfSome found (λ c. (e : PlainEvent Plain) → term_event_at self.now.skeleton.strands self.now.node ≡ Some e → term_at (payload e) c.path ≡ Some c.term)) }
+    {
+        match message_at(alloc, self.skeleton, self.node)? {
+            Some(message) => critical_in(alloc, &self.known, &message),
+            None => Ok(None),
+        }
+    }
+
+    /// The same node of a skeleton that differs from this one in its table of variables alone.
+    pub(crate) fn in_table(self, k: &'a Skeleton) -> AtNode<'a>
+        requires table { DiffersInTable self.skeleton k.now }
+        ensures { result ≡ record { skeleton = k.now; node = self.entry.node } }
+    {
+        let AtNode {
+            skeleton: _,
+            node,
+            events,
+            predecessors,
+            known,
+        } = self;
+        AtNode {
+            skeleton: k,
+            node,
+            events,
+            predecessors,
+            known,
+        }
+    }
 }
 
 /// What is derivable at a node: from everything that role strands send strictly before it, all tags, and all atoms that no
@@ -34,13 +140,14 @@ pub fn known(alloc: Global, k: &Skeleton, node: Node) -> Result<Known, AllocErro
     requires there { IsNodeOf k.now.strands node }
     ensures given { IfOk result (λ known. (t : Plain) → IsDerivable known t ↔ DerivableAt k.now node t) }
 {
-    k.is_sound();
-    let transmissions = transmissions_of(alloc, k)?;
-    let sorted = SortedPairs::new(alloc, k.order().pairs())?;
-    let places = places_before(alloc, &sorted, &transmissions, node)?;
-    let sent = messages_at(alloc, &places, &transmissions)?;
-    let secrets = assumed_values(alloc, k.assumptions())?;
-    Known::new(alloc, sent, secrets)
+    let AtNode {
+        skeleton: _,
+        node: _,
+        events: _,
+        predecessors: _,
+        known,
+    } = AtNode::new(alloc, k, node)?;
+    Ok(known)
 }
 
 /// The message of the event at a node, if there is one.
@@ -67,9 +174,6 @@ pub fn critical(alloc: Global, k: &Skeleton, node: Node) -> Result<Option<Critic
     ensures first { IfOk result (λ found. IfSome found (λ c. (e : PlainEvent Plain) → term_event_at k.now.strands node ≡ Some e → IsFirstUnderivable (DerivableAt k.now node) (payload e) c.path c.term)) }
     ensures place { IfOk result (λ found. IfSome found (λ c. (e : PlainEvent Plain) → term_event_at k.now.strands node ≡ Some e → term_at (payload e) c.path ≡ Some c.term)) }
 {
-    let known = known(alloc, k, node)?;
-    match message_at(alloc, k, node)? {
-        Some(message) => critical_in(alloc, &known, &message),
-        None => Ok(None),
-    }
+    let at = AtNode::new(alloc, k, node)?;
+    at.critical(alloc)
 }

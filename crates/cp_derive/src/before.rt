@@ -1,10 +1,11 @@
 // The transmissions before a node.
 ghost use Rattle.std.specs.Prelude.{◌≡◌, option_map, IfOk};
 ghost use Rattle.cp_lists.specs.Lists.{item_at};
+ghost use Rattle.cp_derive.specs.AtNode.{AreSentBefore};
 ghost use Rattle.cp_derive.specs.Before.{ArePlacesBefore, messages_at};
 
 use crate::transmission::Transmission;
-use cp_skel::{Node, SortedPairs};
+use cp_skel::{Event, LocatedEvent, Node, Predecessors, SortedPairs};
 use cp_term::Term;
 use std::alloc::{AllocError, Global};
 
@@ -53,4 +54,26 @@ pub(crate) fn messages_at(
         }
     }
     Ok(messages)
+}
+
+/// The messages that role strands send at those of the events that are predecessors and not at the node.
+pub(crate) fn sent_before(
+    alloc: Global,
+    events: &[LocatedEvent],
+    predecessors: &Predecessors<'_>,
+    node: Node,
+) -> Result<Vec<Term>, AllocError>
+    ensures { IfOk result (λ ts. AreSentBefore predecessors.now node events.now ts.items) }
+{
+    let mut sent = Vec::new(alloc);
+    for located in events {
+        if !located.by_role || located.node == node || !predecessors.has(located.node) {
+            continue;
+        }
+        if let Event::Send(message) = &located.event {
+            let message = message.copy()?;
+            sent.push(message)?;
+        }
+    }
+    Ok(sent)
 }

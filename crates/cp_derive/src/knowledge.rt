@@ -1,5 +1,5 @@
 // What the penetrator knows and can derive.
-ghost use Rattle.std.specs.Prelude.{◌≡◌, ◌↔◌, ◌++◌, IsTrue, IfOk, OnOk};
+ghost use Rattle.std.specs.Prelude.{◌≡◌, ◌↔◌, ◌++◌, IsTrue, IfOk};
 ghost use Rattle.cp_derive.specs.Given.{IsDerivable};
 
 use crate::built_terms::builds;
@@ -40,17 +40,6 @@ impl Model for Known {
     ghost invariant = { λ k. IsOpened k.sent.items k.secrets.items k.opening };
 }
 
-/// Appends copies of the terms.
-fn add_terms(more: &[Term], terms: &mut Vec<Term>) -> Result<(), AllocError>
-    ensures { OnOk result (terms.new.items ≡ terms.old.items ++ more.now) }
-{
-    for term in more {
-        let term = term.copy()?;
-        terms.push(term)?;
-    }
-    Ok(())
-}
-
 impl Known {
     /// The knowledge from these sent terms, when these atoms are secret. Secrets that are not atoms have no effect.
     pub fn new(alloc: Global, sent: Vec<Term>, secrets: Vec<Term>) -> Result<Known, AllocError>
@@ -66,7 +55,7 @@ impl Known {
     }
 
     /// The knowledge when these terms were sent too.
-    pub(crate) fn extended(self, alloc: Global, more: Vec<Term>) -> Result<Known, AllocError>
+    pub(crate) fn extended(self, alloc: Global, mut more: Vec<Term>) -> Result<Known, AllocError>
         ensures { IfOk result (λ k. k ≡ record { sent = self.sent ++ more.items; secrets = self.secrets }) }
     {
         let Known {
@@ -75,7 +64,7 @@ impl Known {
             mut opening,
         } = self;
         open_more(alloc, &secrets, &more, &mut opening)?;
-        add_terms(&more, &mut sent)?;
+        sent.append(&mut more)?;
         Ok(Known {
             sent,
             secrets,

@@ -4,6 +4,7 @@
 
 mod assumed;
 mod at_node;
+mod at_test;
 mod before;
 mod built_terms;
 mod component;
@@ -17,7 +18,8 @@ mod receptions;
 mod transmission;
 mod walk;
 
-pub use at_node::{critical, known, message_at};
+pub use at_node::{AtNode, critical, known, message_at};
+pub use at_test::{AtTest, test_at};
 pub use component::Critical;
 pub use knowledge::{Known, buildable};
 pub use laws::{derivable_at_a_node, derivable_where_given};

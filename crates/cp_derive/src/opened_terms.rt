@@ -71,18 +71,12 @@ fn take_apart(
     loop {
         match form_of(rest) {
             Form::Tag => return Ok(()),
-            Form::Atom => {
-                hold(secrets, rest, opening)?;
-                return Ok(());
-            }
+            Form::Atom => return hold(secrets, rest, opening),
             Form::Pair(left, right) => {
                 take_apart(alloc, secrets, left, opening)?;
                 rest = right;
             }
-            Form::Encryption(body, key) => {
-                lock(alloc, rest, body, key, opening)?;
-                return Ok(());
-            }
+            Form::Encryption(body, key) => return lock(alloc, rest, body, key, opening),
         }
     }
 }
@@ -100,8 +94,7 @@ fn unlock_at(
     ensures falls { OnOk result (weight opening.new < weight opening.old) }
 {
     let Locked { body, .. } = opening.locked.swap_remove(place);
-    take_apart(alloc, secrets, &body, opening)?;
-    Ok(())
+    take_apart(alloc, secrets, &body, opening)
 }
 
 /// Goes once through the locked encryptions and opens those whose keys can be built. Returns whether any was opened.

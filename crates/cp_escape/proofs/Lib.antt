@@ -6,7 +6,6 @@ mod Before
 pub mod EscapeGuards
 mod SameValues
 mod SameStrandLists
-mod Uses
 mod StillClosed
 mod LastSent
 mod NewVariables

@@ -1,8 +1,6 @@
 // The escape set of a test.
 ghost use Rattle.std.specs.Prelude.{◌≡◌, ◌↔◌, [], map, IfOk};
 ghost use Rattle.cp_lists.specs.Lists.{IsIn};
-ghost use Rattle.cp_derive.specs.Given.{IsDerivable};
-ghost use Rattle.cp_model.specs.Derivable.{DerivableAt};
 ghost use Rattle.cp_model.specs.Pattern.{IsPattern};
 ghost use Rattle.cp_model.specs.Term.{Term as Plain};
 ghost use Rattle.cp_theory.specs.Critical.{IsTest};
@@ -13,28 +11,24 @@ ghost use Rattle.cp_escape.specs.Sent.{CarriesBefore};
 
 use crate::closed_encryptions::add_closed;
 use cp_cohort::is_sent_before;
-use cp_derive::{Known, known};
-use cp_skel::{Node, Predecessors, Skeleton};
+use cp_derive::AtTest;
+use cp_skel::{Node, Skeleton};
 use cp_term::{Locals, Pattern, Term};
 use std::alloc::{AllocError, Global};
 
-/// The outermost closed encryptions around the critical term in the transmissions of role strands before the node, each once.
-fn closed_before(
-    alloc: Global,
-    k: &Skeleton,
-    node: Node,
-    known: &Known,
-    critical: &Term,
-) -> Result<Vec<Term>, AllocError>
-    requires test { IsTest k.now node critical.now }
-    requires given { (t : Plain) → IsDerivable known.now t ↔ DerivableAt k.now node t }
-    ensures { IfOk result (λ es. AreClosedBefore k.now node critical.now es.items) }
+/// The outermost closed encryptions around the critical term in the transmissions of role strands before the test's node, each
+/// once.
+fn closed_before(alloc: Global, test: &AtTest<'_>) -> Result<Vec<Term>, AllocError>
+    ensures { IfOk result (λ es. AreClosedBefore test.now.skeleton test.now.node test.now.critical es.items) }
 {
+    test.is_test();
+    let place = test.at();
+    let known = place.known();
+    let critical = test.critical();
+    let occurrences = place.events();
     let mut encryptions = Vec::new(alloc);
-    let leading = Predecessors::new(alloc, k.order().pairs(), node)?;
-    let occurrences = k.events(alloc)?;
-    for occurrence in &occurrences {
-        if !is_sent_before(k, &leading, node, occurrence) {
+    for occurrence in occurrences {
+        if !is_sent_before(place, occurrence) {
             continue;
         }
         let message = occurrence.event.payload();
@@ -60,8 +54,18 @@ fn whole_patterns(alloc: Global, encryptions: &[Term]) -> Result<Vec<Pattern>, A
 /// strand, then index, then position, it has the outermost enclosing encryption whose inverse key is not derivable at the node;
 /// each encryption once, as a pattern without locals. The set guards the test. It is empty exactly if none of these transmissions
 /// carries the critical term.
-///
-/// The node and the term must be a test of the skeleton.
+pub fn escape_at(alloc: Global, test: &AtTest<'_>) -> Result<Vec<Pattern>, AllocError>
+    ensures exact { IfOk result (λ ps. IsEscape test.now.skeleton test.now.node test.now.critical ps.items) }
+    ensures guards { IfOk result (λ ps. Guards ps.items test.now.skeleton test.now.node test.now.critical) }
+    ensures empty { IfOk result (λ ps. (ps.items ≡ []) ↔ (CarriesBefore test.now.skeleton test.now.node test.now.critical → ⊥)) }
+{
+    test.is_test();
+    let encryptions = closed_before(alloc, test)?;
+    whole_patterns(alloc, &encryptions)
+}
+
+/// The escape set of the test of a skeleton at this node, as [`escape_at`] tells it. The node and the term must be a test of the
+/// skeleton.
 pub fn escape(
     alloc: Global,
     k: &Skeleton,
@@ -73,7 +77,6 @@ pub fn escape(
     ensures guards { IfOk result (λ ps. Guards ps.items k.now node critical.now) }
     ensures empty { IfOk result (λ ps. (ps.items ≡ []) ↔ (CarriesBefore k.now node critical.now → ⊥)) }
 {
-    let known = known(alloc, k, node)?;
-    let encryptions = closed_before(alloc, k, node, &known, critical)?;
-    whole_patterns(alloc, &encryptions)
+    let test = AtTest::new(alloc, k, node, critical)?;
+    escape_at(alloc, &test)
 }

@@ -10,6 +10,6 @@ mod same_strands;
 mod used;
 mod widened_pattern;
 
-pub use escape_set::escape;
+pub use escape_set::{escape, escape_at};
 pub use laws::widening_keeps_guards;
 pub use widened_pattern::widen;

@@ -1,8 +1,5 @@
-// The variables that a skeleton uses, and those of a term that the skeleton does not use.
-ghost use Rattle.std.specs.Prelude.{◌≡◌, ◌++◌, [], ◌∷◌, IfOk, OnOk};
-ghost use Rattle.cp_theory.specs.Normal.{variables_of_terms};
-ghost use Rattle.cp_theory.specs.Critical.{used_variables};
-ghost use Rattle.cp_model.specs.Problem.{variables_of_atoms, variables_of_uniques, variables_of_strands};
+// The variables of a term that a skeleton does not use.
+ghost use Rattle.std.specs.Prelude.{◌≡◌, [], ◌∷◌, IfOk, OnOk};
 ghost use Rattle.cp_model.specs.SortNumbers.{sort_number};
 ghost use Rattle.cp_model.specs.Strand.{variables_of_trace};
 ghost use Rattle.cp_model.specs.Term.{variables_of};
@@ -11,73 +8,9 @@ ghost use Rattle.cp_escape.specs.UsedVariables.{variable_before, PutsNew};
 ghost use Rattle.cp_escape.specs.WidenedPattern.{AreNewVariables};
 
 use cp_model::{Variable, has_variable};
-use cp_skel::{Atom, Event, Skeleton, UniqueAt, occurs};
+use cp_skel::{Event, Skeleton, occurs, used_terms};
 use cp_term::{Locals, Shape, Sort, Term, VarId};
 use std::alloc::{AllocError, Global};
-
-/// Appends a term.
-fn add_use(term: &Term, uses: &mut Vec<Event>) -> Result<(), AllocError>
-    ensures { OnOk result (variables_of_trace uses.new.items ≡ variables_of_trace uses.old.items ++ variables_of term.now) }
-{
-    let term = term.copy()?;
-    uses.push(Event::Send(term))?;
-    Ok(())
-}
-
-/// Appends the messages of the skeleton's strands.
-fn add_messages(alloc: Global, k: &Skeleton, uses: &mut Vec<Event>) -> Result<(), AllocError>
-    ensures { OnOk result (variables_of_trace uses.new.items ≡ variables_of_trace uses.old.items ++ variables_of_strands k.now.strands) }
-{
-    let occurrences = k.events(alloc)?;
-    for occurrence in &occurrences {
-        add_use(occurrence.event.payload(), uses)?;
-    }
-    Ok(())
-}
-
-/// Appends atoms.
-fn add_atoms(atoms: &[Atom], uses: &mut Vec<Event>) -> Result<(), AllocError>
-    ensures { OnOk result (variables_of_trace uses.new.items ≡ variables_of_trace uses.old.items ++ variables_of_atoms atoms.now) }
-{
-    for atom in atoms {
-        add_use(atom.as_term(), uses)?;
-    }
-    Ok(())
-}
-
-/// Appends unique values.
-fn add_uniques(uniques: &[UniqueAt], uses: &mut Vec<Event>) -> Result<(), AllocError>
-    ensures { OnOk result (variables_of_trace uses.new.items ≡ variables_of_trace uses.old.items ++ variables_of_uniques uniques.now) }
-{
-    for unique in uniques {
-        add_use(unique.value().as_term(), uses)?;
-    }
-    Ok(())
-}
-
-/// Appends terms.
-fn add_terms(terms: &[Term], uses: &mut Vec<Event>) -> Result<(), AllocError>
-    ensures { OnOk result (variables_of_trace uses.new.items ≡ variables_of_trace uses.old.items ++ variables_of_terms terms.now) }
-{
-    for term in terms {
-        add_use(term, uses)?;
-    }
-    Ok(())
-}
-
-/// The terms of the skeleton's strands, of its assumptions and of its map from the problem, as events.
-fn uses_of(alloc: Global, k: &Skeleton) -> Result<Vec<Event>, AllocError>
-    ensures { IfOk result (λ uses. variables_of_trace uses.items ≡ used_variables k.now) }
-{
-    let assumptions = k.assumptions();
-    let mut uses = Vec::new(alloc);
-    add_messages(alloc, k, &mut uses)?;
-    add_atoms(assumptions.non_originating(), &mut uses)?;
-    add_atoms(assumptions.penetrator_non_originating(), &mut uses)?;
-    add_uniques(assumptions.uniquely_originating(), &mut uses)?;
-    add_terms(k.from_problem().values(), &mut uses)?;
-    Ok(uses)
-}
 
 /// The place of a sort among all sorts.
 fn place_of(sort: Sort) -> usize
@@ -154,7 +87,7 @@ fn put_all_new(uses: &[Event], term: &Term, new: &mut Vec<Variable>) -> Result<(
 pub(crate) fn new_variables(alloc: Global, k: &Skeleton, term: &Term) -> Result<Locals, AllocError>
     ensures { IfOk result (AreNewVariables k.now term.now) }
 {
-    let uses = uses_of(alloc, k)?;
+    let uses = used_terms(alloc, k)?;
     let mut new = Vec::new(alloc);
     put_all_new(&uses, term, &mut new)?;
     Ok(Locals::of(new))

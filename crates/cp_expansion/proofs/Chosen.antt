@@ -1,14 +1,19 @@
 -- The node that is chosen of the unrealised receptions is the one at which a skeleton is tested.
-use Rattle.std.proofs.Common.{◌≡◌, ◌⊎◌, inl, inr, ⊎_elim, ◌<◌, List, [], ◌∷◌, Bool, true, false, Option, Some, None, refl, sym, ap, subst, ◌∙◌, arith}
+use Rattle.std.proofs.Common.{◌≡◌, ◌⊎◌, inl, inr, ⊎_elim, ◌<◌, List, [], ◌∷◌, Bool, true, false, Option, Some, None, IsNone, IfSome, Result, Ok, Err, IfOk, refl, sym, ap, subst, ◌∙◌, arith}
+use Rattle.std.proofs.lemmas.Result.{IfOk-weaker}
+use Rattle.std.specs.Prelude.{◌↔◌}
 use Rattle.cp_lists.specs.Lists.{item_at, IsIn, here, there}
 use Rattle.cp_model.specs.declared.node.Node.{Node}
 use Rattle.cp_model.specs.Term.{Term}
 use Rattle.cp_model.specs.Skeleton.{SkeletonStrand, instance, listener, term_event_at, Skeleton}
 use Rattle.cp_model.specs.declared.strand.Event.TheVariants.{Receive as recv}
 use Rattle.cp_model.specs.Derivable.{DerivableAt}
-use Rattle.cp_derive.specs.Unrealised.{IsUnrealisedAt, IsListedBefore, AreRising, ListsUnrealised}
+use Rattle.cp_model.specs.declared.step.Step.{Step}
+use Rattle.cp_derive.specs.AtTest.{SkeletonTest}
+use Rattle.cp_derive.specs.Components.{IsFirstUnderivable}
+use Rattle.cp_derive.specs.Unrealised.{IsUnrealisedAt, IsRealisedAt, IsListedBefore, AreRising, ListsUnrealised}
 use Rattle.cp_expansion.specs.ChosenNode.{is_listening, listens_at, last_listening, first_node, chosen}
-use Rattle.cp_expansion.specs.ChosenTest.{IsOnListener, IsTestedAt, last_listener, first_reception}
+use Rattle.cp_expansion.specs.ChosenTest.{IsOnListener, IsTestedAt, last_listener, first_reception, IsTestOf}
 
 -- ---- listeners
 
@@ -143,3 +148,27 @@ chosen_reception k ns o n lists e is =
     let tested = chosen_is_tested k ns n lists (sym e ∙ is) in
     let unrealised = unrealised_tested k n tested in
     record { tested = tested; message = unrealised.message; reception = unrealised.reception; underivable = unrealised.underivable }
+
+-- The test at the node that is chosen is the skeleton's, and there is one.
+module _ (k : Skeleton) (ns : List Node) (o : Option Node) (n : Node) (lists : ListsUnrealised k ns) (e : o ≡ chosen k ns) (is : o ≡ Some n) where
+  reception : IsReception k n
+  reception = chosen_reception k ns o n lists e is
+
+  tested : (t : SkeletonTest) → t.node ≡ n → ((m : Term) → term_event_at k.strands n ≡ Some (recv m) → (path : List Step) × IsFirstUnderivable (DerivableAt k n) m path t.critical) → IsTestOf k t.node t.critical
+  tested t at first =
+      let found = first reception.message reception.reception in
+      subst (λ (x : Node). IsTestOf k x t.critical) (sym at)
+      (record { at_node = reception.tested; message = reception.message; reception = reception.reception; path = found.0; critical = found.1 })
+
+  pub chosen_test : {E : Type 0} (r : Result (Option SkeletonTest) E) → IfOk r (λ t. IfSome t (λ t. (t.skeleton ≡ k) × (t.node ≡ n)))
+      → IfOk r (λ t. IfSome t (λ t. (m : Term) → term_event_at k.strands n ≡ Some (recv m) → (path : List Step) × IsFirstUnderivable (DerivableAt k n) m path t.critical)) → IfOk r (λ t. IfSome t (λ t. IsTestOf k t.node t.critical))
+  chosen_test (Err x) same first = tt
+  chosen_test (Ok None) same first = tt
+  chosen_test (Ok (Some t)) same first = tested t same.1 first
+
+  chosen_of_none : ns ≡ [] → ⊥
+  chosen_of_none empty = let whole : None ≡ Some n = sym (ap (chosen k) empty) ∙ sym e ∙ is in cc
+
+  pub chosen_some : {E : Type 0} (r : Result (Option SkeletonTest) E) → IfOk r (λ t. IsNone t ↔ IsRealisedAt k n) → IfOk r (λ t. IsNone t ↔ (ns ≡ []))
+  chosen_some r none =
+      IfOk-weaker r _ _ (λ t h. ((λ no. absurd (reception.underivable (h.0 no reception.message reception.reception))), λ empty. absurd (chosen_of_none empty))) none

@@ -10,7 +10,7 @@ use Rattle.cp_model.specs.declared.node.Node.{Node}
 use Rattle.cp_model.specs.Skeleton.{Skeleton}
 use Rattle.cp_model.specs.Problem.{declared_sort, IsDeclared}
 use Rattle.cp_model.specs.PointOfView.{HasDeclaredVariables}
-use Rattle.cp_model.specs.Tree.{Pattern}
+use Rattle.cp_model.specs.Tree.{Pattern, Test}
 use Rattle.cp_cohort.specs.declared.child.Child.{Child}
 use Rattle.cp_cohort.specs.Cohort.{GuardedTest, guarded_test_of}
 use Rattle.cp_cohort.specs.Way.{DeclaresMore}
@@ -75,6 +75,10 @@ next_test k grown n c old new p child g is grew pushed =
     ap (λ (s : Skeleton). guarded_test_of s n c new) grew
     ∙ ap (λ (ps : List Pattern). guarded_test_of (record k { variables = child.skeleton.variables }) n c ps) pushed
     ∙ ap (λ (d : Child). asked_under (guarded_test_of k n c old) d p) (sym is)
+
+-- The last test: of the copy of the skeleton, by what the test came to.
+pub last_is : (k copied : Skeleton) (n : Node) (c : Term) (t : Test) (ps : List Pattern) → copied ≡ k → t ≡ record { node = n; critical = c } → guarded_test_of k n c ps ≡ guarded_test_of copied t.node t.critical ps
+last_is k copied n c t ps e f = ap (λ (s : Skeleton). guarded_test_of s n c ps) (sym e) ∙ ap (λ (x : Test). guarded_test_of copied x.node x.critical ps) (sym f)
 
 pub if_widened : {A E : Type 0} (protocol : Protocol) (first next : GuardedTest) (last : A → GuardedTest) (children : A → List Child) (r : Result A E) → ((q : GuardedTest) (cs : List Child) → AreWidened protocol next q cs → AreWidened protocol first q cs)
     → IfOk r (λ a. AreWidened protocol next (last a) (children a)) → IfOk r (λ a. AreWidened protocol first (last a) (children a))

@@ -1,14 +1,13 @@
 -- What is true of a skeleton is true of one that differs from it in its table alone.
-use Rattle.std.proofs.Common.{ℕ, List, length, inl, inr, refl, sym, subst, le_refl}
+use Rattle.std.proofs.Common.{ℕ, List, length, refl, sym, subst, le_refl}
 use Rattle.cp_lists.specs.Lists.{one_step}
-use Rattle.cp_model.specs.Term.{AtomTerm, Term}
+use Rattle.cp_model.specs.Term.{Term}
 use Rattle.cp_model.specs.Bindings.{Binding}
 use Rattle.cp_model.specs.Strand.{Role, Protocol}
 use Rattle.cp_model.specs.declared.variable.Declaration.{Declaration}
 use Rattle.cp_model.specs.Bundle.{Bundle}
 use Rattle.cp_model.specs.declared.node.Node.{Node}
 use Rattle.cp_model.specs.Skeleton.{Skeleton, along_pair, IsSkeleton}
-use Rattle.cp_model.specs.Derivable.{IsSecret, IsOnInstance, DerivableAt, a_tag, an_atom, sent_before, paired, left_of, right_of, encrypted, decrypted}
 use Rattle.cp_model.specs.Realisation.{AllDerivable}
 use Rattle.cp_model.specs.Standing.{Standing, StandsIn, StandsApart}
 use Rattle.cp_model.specs.Homomorphism.{SkeletonMap, GoesToInstance, IsHomomorphism, IsEmbedding, Embeds, map_from_problem, CarriesHomomorphism, FactorsThrough}
@@ -16,7 +15,6 @@ use Rattle.cp_model.specs.Stated.{KeepsStated}
 use Rattle.cp_model.specs.PointOfView.{HasDeclaredVariables}
 use Rattle.cp_model.specs.Tree.{Pattern}
 use Rattle.cp_model.proofs.StatedStays.{stated_stays}
-use Rattle.cp_theory.specs.Critical.{IsTest}
 use Rattle.cp_theory.specs.Guards.{Guards}
 use Rattle.cp_theory.specs.Lawful.{PassesOn}
 use Rattle.cp_theory.specs.NoneLeftOut.{GoesOn, IsComplete}
@@ -24,6 +22,7 @@ use Rattle.cp_theory.specs.Normal.{SaysNoMore}
 use Rattle.cp_theory.proofs.Weaker.{stands_too}
 use Rattle.cp_skel.specs.Tables.{DiffersInTable}
 use Rattle.cp_skel.proofs.TableAlone.{tabled, was_before, still_before, skeleton_tabled}
+use Rattle.cp_derive.proofs.InTable.{was_on_instance, was_derivable}
 
 module _ (k : Skeleton) (table : List Declaration) where
   -- ---- a skeleton over a protocol
@@ -91,29 +90,8 @@ module _ (k : Skeleton) (table : List Declaration) where
 
   -- ---- tests
 
-  was_secret : (v : AtomTerm) → IsSecret k v → IsSecret (tabled k table) v
-  was_secret v (inl i) = inl i
-  was_secret v (inr (inl i)) = inr (inl i)
-  was_secret v (inr (inr u)) = inr (inr (record { entry = u.entry; listed = u.listed; same = u.same }))
-
-  was_on_instance : (n : Node) → IsOnInstance (tabled k table) n → IsOnInstance k n
-  was_on_instance n o = record { role = o.role; height = o.height; terms = o.terms; on_instance = o.on_instance }
-
-  was_derivable : {n : Node} {t : Term} → DerivableAt (tabled k table) n t → DerivableAt k n t
-  was_derivable a_tag = a_tag
-  was_derivable (an_atom {v = v} free) = an_atom (λ s. free (was_secret v s))
-  was_derivable (sent_before {m = m} on ev before) = sent_before (was_on_instance m on) ev (was_before k table before)
-  was_derivable (paired a b) = paired (was_derivable a) (was_derivable b)
-  was_derivable (left_of a) = left_of (was_derivable a)
-  was_derivable (right_of a) = right_of (was_derivable a)
-  was_derivable (encrypted a b) = encrypted (was_derivable a) (was_derivable b)
-  was_derivable (decrypted a b) = decrypted (was_derivable a) (was_derivable b)
-
   were_derivable : AllDerivable (tabled k table) → AllDerivable k
-  were_derivable all n t at = was_derivable (all n t at)
-
-  test_tabled : (n : Node) (c : Term) → IsTest k n c → IsTest (tabled k table) n c
-  test_tabled n c t = record { message = t.message; reception = t.reception; component = t.component; underivable = λ d. t.underivable (was_derivable d) }
+  were_derivable all n t at = was_derivable k table (all n t at)
 
   guards_tabled : (ps : List Pattern) (n : Node) (c : Term) → Guards ps k n c → Guards ps (tabled k table) n c
   guards_tabled ps n c g = record {
@@ -121,7 +99,7 @@ module _ (k : Skeleton) (table : List Declaration) where
     keys = g.keys;
     used_by_patterns = g.used_by_patterns;
     used_by_critical = g.used_by_critical;
-    inside = λ m t on ev before. g.inside m t (was_on_instance m on) ev (was_before k table before);
+    inside = λ m t on ev before. g.inside m t (was_on_instance k table m on) ev (was_before k table before);
   }
 
 -- ---- skeletons that embed
@@ -185,9 +163,6 @@ module _ (k l : Skeleton) (differs : DiffersInTable k l) where
 
   pub derivable_from_table : AllDerivable l → AllDerivable k
   derivable_from_table all = were_derivable k l.variables (subst AllDerivable differs all)
-
-  pub test_in_table : (n : Node) (c : Term) → IsTest k n c → IsTest l n c
-  test_in_table n c t = subst (λ (x : Skeleton). IsTest x n c) (sym differs) (test_tabled k l.variables n c t)
 
   pub guards_in_table : (ps : List Pattern) (n : Node) (c : Term) → Guards ps k n c → Guards ps l n c
   guards_in_table ps n c g = subst (λ (x : Skeleton). Guards ps x n c) (sym differs) (guards_tabled k l.variables ps n c g)

@@ -1,11 +1,12 @@
 -- Which child widens a set of patterns, as the program finds it.
-use Rattle.std.specs.Prelude.{◌≡◌, ◌<◌, ℕ, List, Option, Some, None}
+use Rattle.std.specs.Prelude.{◌≡◌, ◌<◌, ◌≤◌, ◌⊎◌, ℕ, List, length, Option, Some, None}
 use Rattle.cp_lists.specs.Lists.{item_at, IsIn}
 use Rattle.cp_model.specs.Skeleton.{Skeleton}
 use Rattle.cp_model.specs.Tree.{Pattern}
 use Rattle.cp_model.specs.declared.tree.Operation.TheVariants.{AddedStrand as by_added_strand}
 use Rattle.cp_cohort.specs.declared.child.Child.{Child}
 use Rattle.cp_escape.specs.WidenedPattern.{WidensBy}
+use Rattle.cp_expansion.specs.Expansion.{most_patterns}
 use Rattle.cp_expansion.specs.declared.widening_child.Widening.{Widening}
 
 -- The child, with which a strand was added, gives this pattern.
@@ -25,3 +26,8 @@ pub record IsGiven (k : Skeleton) (cs : List Child) (place : ℕ) (p : Pattern) 
 abbrev pub FindsWidening : Skeleton → List Child → Option Widening → Type 0
 FindsWidening k cs None = (c : Child) (q : Pattern) → IsIn c cs → GivesPattern k c q → ⊥
 FindsWidening k cs (Some w) = IsGiven k cs w.child w.pattern
+
+-- The child that widens the patterns; none where there are as many patterns as may be, or none gives one.
+abbrev pub FindsNext : Skeleton → List Pattern → List Child → Option Widening → Type 0
+FindsNext k ps cs None = (most_patterns ≤ length ps) ⊎ ((length ps < most_patterns) × FindsWidening k cs None)
+FindsNext k ps cs (Some w) = (length ps < most_patterns) × FindsWidening k cs (Some w)

@@ -4,8 +4,8 @@ ghost use Rattle.cp_derive.specs.Unrealised.{ListsUnrealised};
 ghost use Rattle.cp_expansion.specs.ChosenNode.{listens_at, chosen};
 ghost use Rattle.cp_expansion.specs.ChosenTest.{IsTestOf};
 
-use cp_derive::critical;
-use cp_skel::{Node, Skeleton, StrandShape, Test};
+use cp_derive::{AtTest, test_at};
+use cp_skel::{Node, Skeleton, StrandShape};
 use std::alloc::{AllocError, Global};
 
 /// Whether the node is on a listener.
@@ -35,22 +35,21 @@ fn chosen(k: &Skeleton, nodes: &[Node]) -> Option<Node>
     chosen
 }
 
-/// The test of a skeleton, given its unrealised receptions. The node is the unrealised listener of the highest strand; if there
-/// is none, the unrealised node of the lowest strand, and there of the lowest index. The term is the first component of the
-/// message received there that is not derivable. `None` exactly if no reception is unrealised.
-pub fn test_of(alloc: Global, k: &Skeleton, unrealised: &[Node]) -> Result<Option<Test>, AllocError>
+/// The test of a skeleton, given its unrealised receptions, with what is known of its node. The node is the unrealised listener of
+/// the highest strand; if there is none, the unrealised node of the lowest strand, and there of the lowest index. The term is the
+/// first component of the message received there that is not derivable. `None` exactly if no reception is unrealised.
+pub(crate) fn test_of<'a>(
+    alloc: Global,
+    k: &'a Skeleton,
+    unrealised: &[Node],
+) -> Result<Option<AtTest<'a>>, AllocError>
     requires listed { ListsUnrealised k.now unrealised.now }
+    ensures skeleton { IfOk result (λ t. IfSome t (λ t. t.skeleton ≡ k.now)) }
     ensures test { IfOk result (λ t. IfSome t (λ t. IsTestOf k.now t.node t.critical)) }
     ensures none { IfOk result (λ t. IsNone t ↔ (unrealised.now ≡ [])) }
 {
     let Some(node) = chosen(k, unrealised) else {
         return Ok(None);
     };
-    let Some(critical) = critical(alloc, k, node)? else {
-        return Ok(None);
-    };
-    Ok(Some(Test {
-        node,
-        critical: critical.term,
-    }))
+    test_at(alloc, k, node)
 }

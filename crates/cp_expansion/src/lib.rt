@@ -7,5 +7,4 @@ mod expansion;
 mod variable_tables;
 mod widening_child;
 
-pub use chosen_test::test_of;
 pub use expansion::{Expansion, expand};

@@ -1,6 +1,7 @@
 -- How many role strands there are of each name and height, compared.
 use Rattle.std.proofs.Common.{◌≡◌, ℕ, zero, suc, ◌+◌, ◌<◌, ◌≤◌, ◌&&◌, Bool, true, false, if◌then◌else◌, nat_le, List, [], ◌∷◌, map, refl, sym, ap, ap₂, ◌∙◌, subst₂, arith, ◌⊎◌, inl, inr}
-use Rattle.std.specs.Prelude.{Some}
+use Rattle.std.specs.Prelude.{Some, count_by}
+use Rattle.std.proofs.lemmas.List.Recursion.{is_count_by}
 use Rattle.std.specs.Bool.{Decides}
 use Rattle.std.proofs.lemmas.Bool.{leb-true, le-leb, cases_lt, and_parts, and_from}
 use Rattle.std.proofs.lemmas.Bool.Decides.{same_from_decides}
@@ -35,6 +36,16 @@ count_is n name height (x ∷ xs) = step (λ k. count_is k name height xs) (is_a
 
 count_sum : (name : List ℕ) (height : ℕ) (xs : List RoleHeight) → count_from 0 name height xs ≡ sum_of (unit name height) xs
 count_sum name height xs = let h : count_from 0 name height xs ≡ 0 + sum_of (unit name height) xs = count_is 0 name height xs in omega (arith, h)
+
+one_more : (b : Bool) (n : ℕ) → one_if b + n ≡ (if b then 1 + n else n)
+one_more true n = refl
+one_more false n = let e : 0 + n ≡ n = omega arith in e
+
+-- how many entries pass the test
+pub counted : (name : List ℕ) (height : ℕ) (xs : List RoleHeight) (n : ℕ) → n ≡ count_by (λ x. is_as_high name height x) xs → n ≡ count_from 0 name height xs
+counted name height xs n e =
+    e ∙ sym (is_count_by (λ ys. sum_of (unit name height) ys) (λ x. is_as_high name height x) refl (λ x ys. one_more (is_as_high name height x) (sum_of (unit name height) ys)) xs)
+    ∙ sym (count_sum name height xs)
 
 pub found_high : (name other : List ℕ) (height own : ℕ) (r : Bool) → height ≤ own → Decides r (other ≡ name) → r ≡ is_as_high name height (record { name = other; height = own })
 found_high name other height own r le told =

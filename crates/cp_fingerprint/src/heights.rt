@@ -38,17 +38,14 @@ fn is_as_high(name: &Text, height: usize, other: &RoleHeight) -> bool
 }
 
 /// The number of entries of roles of this name that are at least this high.
+#[tactic(auto, using(crate::proofs::NoMore::counted))]
 fn count(name: &Text, height: usize, heights: &[RoleHeight]) -> usize
     ensures { result ≡ count_from 0 name.now height heights.now }
 {
-    let mut count = 0;
-    for other in heights {
-        if !is_as_high(name, height, other) {
-            continue;
-        }
-        count += 1;
-    }
-    count
+    heights
+        .iter()
+        .filter(|other| is_as_high(name, height, other))
+        .count()
 }
 
 /// Whether `heights` has no more entries than `others` of this one's name that are at least as high.

@@ -84,10 +84,7 @@ fn names_weight(
             let weight = weight_of(weight, &b, places);
             Ok(weight_of(weight, &b, places))
         }
-        Shape::Pubk(_, _, a) => {
-            let a = var(alloc, a, Sort::Name)?;
-            Ok(weight_of(first, &a, places))
-        }
+        Shape::Pubk(_, _, a) => { var(alloc, a, Sort::Name).map(|a| weight_of(first, &a, places)) }
         _ => Ok(first),
     }
 }
@@ -102,8 +99,7 @@ fn value_weight(
     ensures { IfOk result (λ n. n ≡ value_weight heard.now (slots_in places.now) value.now) }
 {
     let first = heard_weight(heard, value);
-    let weight = names_weight(alloc, first, value, places)?;
-    Ok(weight_of(weight, value, places))
+    names_weight(alloc, first, value, places).map(|weight| weight_of(weight, value, places))
 }
 
 /// The share of some places: the sum, over the places, of the place's weight times its value's weight.

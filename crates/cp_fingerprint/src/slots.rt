@@ -149,11 +149,10 @@ fn strand_slots(alloc: Global, strand: &Strand) -> Result<Vec<Slot>, AllocError>
 fn strands_slots(alloc: Global, strands: &[Strand]) -> Result<Vec<Vec<Slot>>, AllocError>
     ensures { IfOk result (λ v. lists_of v.items ≡ map strand_slots strands.now) }
 {
-    let mut slots = Vec::with_capacity(alloc, strands.len())?;
-    for strand in strands {
-        slots.push(strand_slots(alloc, strand)?)?;
-    }
-    Ok(slots)
+    strands
+        .iter()
+        .map(|strand| strand_slots(alloc, strand))
+        .try_collect(alloc)
 }
 
 /// The values of the problem's variables, and for each strand those of its variables.

@@ -1,6 +1,7 @@
 -- The list of all pairs of an order.
 use Rattle.std.proofs.Common.{◌≡◌, ◌≢◌, ◌↔◌, ◌⊎◌, inl, inr, ℕ, List, [], ◌∷◌, ◌++◌, map, Bool, true, false, if◌then◌else◌, refl, sym, ap, ◌∙◌, subst, arith}
 use Rattle.std.specs.Prelude.{◌==◌, not, Some, length}
+use Rattle.std.specs.List.{filter}
 use Rattle.std.proofs.lemmas.Bool.{and_from, and_parts}
 use Rattle.std.proofs.lemmas.Bool.Decides.{nat_tests, same_from_decides}
 use Rattle.cp_lists.specs.Lists.{IsIn, here, there}
@@ -32,11 +33,18 @@ of_if true z y ys here = inl (refl, refl)
 of_if true z y ys (there m) = inr m
 of_if false z y ys m = inr m
 
+nodes_if : (b : Bool) (x : LocatedEvent) (xs : List LocatedEvent) → map node_of (if b then x ∷ xs else xs) ≡ (if b then x.node ∷ map node_of xs else map node_of xs)
+nodes_if true x xs = refl
+nodes_if false x xs = refl
+
 module _ (test : Event Term → Bool) where
+  nodes_of_next : (x : LocatedEvent) (os : List LocatedEvent) → nodes_where test (x ∷ os) ≡ (if test x.event then x.node ∷ nodes_where test os else nodes_where test os)
+  nodes_of_next x os = nodes_if (test x.event) x (filter (λ o. test o.event) os)
+
   in_nodes : (os : List LocatedEvent) (o : LocatedEvent) → IsIn o os → test o.event ≡ true → IsIn o.node (nodes_where test os)
   in_nodes [] o m e = elim m [ ]
-  in_nodes (x ∷ os) o here e = in_if_here (test o.event) o.node (nodes_where test os) e
-  in_nodes (x ∷ os) o (there m) e = in_if_behind (test x.event) x.node o.node (nodes_where test os) (in_nodes os o m e)
+  in_nodes (x ∷ os) o here e = subst (IsIn o.node) (sym (nodes_of_next o os)) (in_if_here (test o.event) o.node (nodes_where test os) e)
+  in_nodes (x ∷ os) o (there m) e = subst (IsIn o.node) (sym (nodes_of_next x os)) (in_if_behind (test x.event) x.node o.node (nodes_where test os) (in_nodes os o m e))
 
   record IsNodeWhere (os : List LocatedEvent) (n : Node) : Type 0 where
     occurrence : LocatedEvent
@@ -46,14 +54,14 @@ module _ (test : Event Term → Bool) where
 
   of_nodes : (os : List LocatedEvent) (n : Node) → IsIn n (nodes_where test os) → IsNodeWhere os n
   of_nodes [] n m = elim m [ ]
-  of_nodes (o ∷ os) n m = elim (of_if (test o.event) o.node n (nodes_where test os) m) as (λ _. IsNodeWhere (o ∷ os) n) [
+  of_nodes (o ∷ os) n m = elim (of_if (test o.event) o.node n (nodes_where test os) (subst (IsIn n) (nodes_of_next o os) m)) as (λ _. IsNodeWhere (o ∷ os) n) [
     | inl h ↦ record { occurrence = o; listed = here; passes = h.0; same = h.1 }
     | inr i ↦ let r = of_nodes os n i in record { occurrence = r.occurrence; listed = there r.listed; passes = r.passes; same = r.same }
   ]
 
   among_all : (os : List LocatedEvent) (n : Node) → IsIn n (nodes_where test os) → IsIn n (map node_of os)
   among_all [] n m = elim m [ ]
-  among_all (o ∷ os) n m = elim (of_if (test o.event) o.node n (nodes_where test os) m) as (λ _. IsIn n (map node_of (o ∷ os))) [
+  among_all (o ∷ os) n m = elim (of_if (test o.event) o.node n (nodes_where test os) (subst (IsIn n) (nodes_of_next o os) m)) as (λ _. IsIn n (map node_of (o ∷ os))) [
     | inl h ↦ subst (λ (x : Node). IsIn x (map node_of (o ∷ os))) h.1 here
     | inr i ↦ there (among_all os n i)
   ]
@@ -64,7 +72,7 @@ module _ (test : Event Term → Bool) where
 
   nodes_rise : (os : List LocatedEvent) → AreRising (map node_of os) → AreRising (nodes_where test os)
   nodes_rise [] r = tt
-  nodes_rise (o ∷ os) r = rise_if (test o.event) o.node (nodes_where test os) (λ n i. r.0 n (among_all os n i)) (nodes_rise os r.1)
+  nodes_rise (o ∷ os) r = subst AreRising (sym (nodes_of_next o os)) (rise_if (test o.event) o.node (nodes_where test os) (λ n i. r.0 n (among_all os n i)) (nodes_rise os r.1))
 
 -- ---- pairs of nodes
 

@@ -1,6 +1,7 @@
 -- The pairs of a skeleton's order in a list, and how they are gathered.
 use Rattle.cp_skel.specs.declared.events.LocatedEvent.{LocatedEvent}
-use Rattle.std.specs.Prelude.{◌↔◌, ◌==◌, ◌&&◌, not, if◌then◌else◌, length, Bool, true, false, List, [], ◌∷◌, ◌++◌}
+use Rattle.std.specs.Prelude.{◌↔◌, ◌==◌, ◌&&◌, not, if◌then◌else◌, length, Bool, true, false, List, [], ◌∷◌, ◌++◌, map}
+use Rattle.std.specs.List.{filter}
 use Rattle.cp_lists.specs.Lists.{IsIn}
 use Rattle.cp_model.specs.Term.{Term}
 use Rattle.cp_model.specs.declared.strand.Event.{Event}
@@ -36,8 +37,7 @@ is_reception (recv t) = true
 
 -- The nodes of those of the events that pass the test.
 abbrev pub nodes_where : (Event Term → Bool) → List LocatedEvent → List Node
-nodes_where test [] = []
-nodes_where test (o ∷ os) = if test o.event then o.node ∷ nodes_where test os else nodes_where test os
+nodes_where test os = map (λ (o : LocatedEvent). o.node) (filter (λ (o : LocatedEvent). test o.event) os)
 
 -- The reception at a node, with its predecessors along these pairs.
 abbrev pub gathered : List OrderPair → Node → Reception

@@ -1,44 +1,30 @@
 // Covering pairs, given all pairs of an order.
 ghost use Rattle.std.specs.Prelude.{◌≡◌, IfOk};
-ghost use Rattle.cp_model.specs.Same.{same_node};
 ghost use Rattle.cp_general.specs.CoveringPairs.{led_to, predecessors_of, is_earlier_on_strand, is_below_one, some_is_below, is_covered};
 
 use cp_skel::{Node, OrderPair};
 use std::alloc::{AllocError, Global};
 
-/// Whether the two nodes are the same.
-pub(crate) fn is_same_node(node: Node, other: Node) -> bool
-    ensures { result ≡ same_node node other }
-{
-    node.strand == other.strand && node.index == other.index
-}
-
 /// The later nodes of the pairs that go from a node.
 fn led_to(alloc: Global, pairs: &[OrderPair], node: Node) -> Result<Vec<Node>, AllocError>
     ensures { IfOk result (λ ns. ns.items ≡ led_to pairs.now node) }
 {
-    let mut nodes = Vec::new(alloc);
-    for pair in pairs {
-        if !is_same_node(pair.earlier, node) {
-            continue;
-        }
-        nodes.push(pair.later)?;
-    }
-    Ok(nodes)
+    pairs
+        .iter()
+        .filter(|pair| pair.earlier == node)
+        .map(|pair| pair.later)
+        .collect(alloc)
 }
 
 /// The earlier nodes of the pairs that go to a node.
 fn predecessors_of(alloc: Global, pairs: &[OrderPair], node: Node) -> Result<Vec<Node>, AllocError>
     ensures { IfOk result (λ ns. ns.items ≡ predecessors_of pairs.now node) }
 {
-    let mut nodes = Vec::new(alloc);
-    for pair in pairs {
-        if !is_same_node(pair.later, node) {
-            continue;
-        }
-        nodes.push(pair.earlier)?;
-    }
-    Ok(nodes)
+    pairs
+        .iter()
+        .filter(|pair| pair.later == node)
+        .map(|pair| pair.earlier)
+        .collect(alloc)
 }
 
 /// Whether a node is before another one on the same strand.

@@ -18,26 +18,19 @@ ghost use Rattle.cp_general.specs.Generalisation.{WeakensNone};
 ghost use Rattle.cp_general.specs.ListedPairs.{ListsOrder, IsInNeither, is_same_pair, is_other_pair};
 ghost use Rattle.cp_general.specs.ProgramSteps.{NeverDrops, MayDrop, HasFreePair, LeavesFitOrder, WeakensFirst};
 
-use crate::covering_pairs::{is_covered, is_same_node};
+use crate::covering_pairs::is_covered;
 use crate::pairs::reordered;
 use cp_derive::critical;
 use cp_normal::{added_pairs, all_lead};
 use cp_skel::{Node, Order, OrderPair, Skeleton};
 use std::alloc::{AllocError, Global};
 
-/// Whether the two pairs are the same.
-fn is_same_pair(pair: OrderPair, other: OrderPair) -> bool
-    ensures { result ≡ is_same_pair pair other }
-{
-    is_same_node(pair.earlier, other.earlier) && is_same_node(pair.later, other.later)
-}
-
 /// Whether the pair is one of these.
 fn is_among(pairs: &[OrderPair], pair: OrderPair) -> bool
     ensures { result ≡ any_pair (is_same_pair pair) pairs.now }
 {
     for other in pairs {
-        if is_same_pair(pair, *other) {
+        if pair == *other {
             return true;
         }
     }
@@ -50,7 +43,7 @@ fn place_from(pairs: &[OrderPair], from: usize, pair: OrderPair) -> Option<usize
     ensures none { IfNone result (IsIn pair (drop from pairs.now) → ⊥) }
 {
     for place in from..pairs.len() {
-        if is_same_pair(pair, pairs[place]) {
+        if pair == pairs[place] {
             return Some(place);
         }
     }
@@ -99,14 +92,11 @@ pub(crate) fn some_may_drop(alloc: Global, k: &Skeleton) -> Result<bool, AllocEr
 fn others(alloc: Global, pairs: &[OrderPair], pair: OrderPair) -> Result<Vec<OrderPair>, AllocError>
     ensures { IfOk result (λ ps. ps.items ≡ filter (is_other_pair pair) pairs.now) }
 {
-    let mut others = Vec::new(alloc);
-    for other in pairs {
-        if is_same_pair(pair, *other) {
-            continue;
-        }
-        others.push(*other)?;
-    }
-    Ok(others)
+    pairs
+        .iter()
+        .copied()
+        .filter(|other| *other != pair)
+        .collect(alloc)
 }
 
 /// Whether a pair may be dropped: it is a covering pair, and neither stated by the problem nor added by a unique value. The

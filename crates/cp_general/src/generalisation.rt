@@ -1,5 +1,5 @@
 // Generalises a skeleton, step by step.
-ghost use Rattle.std.specs.Prelude.{◌≡◌, IfOk, OnOk, IfSome, IfNone};
+ghost use Rattle.std.specs.Prelude.{◌≡◌, IfOk, IfSome, IfNone};
 ghost use Rattle.cp_model.specs.Homomorphism.{Embeds};
 ghost use Rattle.cp_model.specs.Skeleton.{Skeleton as Plain};
 ghost use Rattle.cp_general.specs.Fit.{IsFit};
@@ -14,18 +14,6 @@ use crate::pairs::with_all_pairs;
 use cp_skel::Skeleton;
 use std::alloc::{AllocError, Global};
 
-/// Deletes strands until none can be deleted.
-fn delete_strands(alloc: Global, k: &mut Skeleton) -> Result<(), AllocError>
-    ensures comes { OnOk result ((first : Plain) → ComesBySteps first k.old → ComesBySteps first k.new) }
-    ensures last { OnOk result (DeletesNone k.new) }
-    ensures variables { OnOk result (k.new.variables ≡ k.old.variables) }
-{
-    while let Some(next) = first_deletion(alloc, k)? {
-        *k = next;
-    }
-    Ok(())
-}
-
 /// The skeleton after strands are deleted until none can be; `None` if none can be deleted at first.
 fn deleted(alloc: Global, k: &Skeleton) -> Result<Option<Skeleton>, AllocError>
     ensures some { IfOk result (λ found. IfSome found (λ h. ComesBySteps k.now h)) }
@@ -33,26 +21,13 @@ fn deleted(alloc: Global, k: &Skeleton) -> Result<Option<Skeleton>, AllocError>
     ensures none { IfOk result (λ found. IfNone found (DeletesNone k.now)) }
     ensures variables { IfOk result (λ found. IfSome found (λ h. h.variables ≡ k.now.variables)) }
 {
-    match first_deletion(alloc, k)? {
-        Some(mut left) => {
-            delete_strands(alloc, &mut left)?;
-            Ok(Some(left))
-        }
-        None => Ok(None),
+    let Some(mut left) = first_deletion(alloc, k)? else {
+        return Ok(None);
+    };
+    while let Some(next) = first_deletion(alloc, &left)? {
+        left = next;
     }
-}
-
-/// Weakens the order until no pair can be dropped. The skeleton must be fit and list all pairs of its order.
-fn drop_pairs(alloc: Global, k: &mut Skeleton) -> Result<(), AllocError>
-    requires lists { ListsOrder k.old k.old.pairs }
-    requires fit { IsFit k.old }
-    ensures leads { OnOk result ((first : Plain) → IsReachedByWeakening first k.old → GeneralisesTo first k.new) }
-    ensures variables { OnOk result (k.new.variables ≡ k.old.variables) }
-{
-    while let Some(next) = first_drop(alloc, k)? {
-        *k = next;
-    }
-    Ok(())
+    Ok(Some(left))
 }
 
 /// The skeleton after pairs are dropped until none can be; `None` if none can be dropped at first. It must be fit and list all
@@ -65,13 +40,13 @@ fn dropped_of_all(alloc: Global, all: &Skeleton) -> Result<Option<Skeleton>, All
     ensures none { IfOk result (λ found. IfNone found (WeakensNone all.now)) }
     ensures variables { IfOk result (λ found. IfSome found (λ g. g.variables ≡ all.now.variables)) }
 {
-    match first_drop(alloc, all)? {
-        Some(mut left) => {
-            drop_pairs(alloc, &mut left)?;
-            Ok(Some(left))
-        }
-        None => Ok(None),
+    let Some(mut left) = first_drop(alloc, all)? else {
+        return Ok(None);
+    };
+    while let Some(next) = first_drop(alloc, &left)? {
+        left = next;
     }
+    Ok(Some(left))
 }
 
 /// The skeleton after pairs are dropped until none can be; `None` if none can be dropped at first. It must be fit, and no strand
@@ -106,21 +81,6 @@ fn dropped(alloc: Global, k: &Skeleton) -> Result<Option<Skeleton>, AllocError>
     dropped_where_fit(alloc, k)
 }
 
-/// Weakens the order until no pair can be dropped. No strand may be deletable.
-fn drop_further(alloc: Global, k: &mut Skeleton) -> Result<(), AllocError>
-    requires { DeletesNone k.old }
-    ensures leads { OnOk result ((first : Plain) → ComesBySteps first k.old → GeneralisesTo first k.new) }
-    ensures variables { OnOk result (k.new.variables ≡ k.old.variables) }
-{
-    match dropped(alloc, k)? {
-        Some(freer) => {
-            *k = freer;
-            Ok(())
-        }
-        None => Ok(()),
-    }
-}
-
 /// Generalises a skeleton by one step or more; `None` exactly if no step applies. There are two kinds of step:
 ///
 /// - delete a strand to which no strand of the problem maps, the highest number first;
@@ -134,10 +94,10 @@ pub fn generalised(alloc: Global, k: &Skeleton) -> Result<Option<Skeleton>, Allo
     ensures variables { IfOk result (λ found. IfSome found (λ g. g.variables ≡ k.now.variables)) }
 {
     match deleted(alloc, k)? {
-        Some(mut left) => {
-            drop_further(alloc, &mut left)?;
-            Ok(Some(left))
-        }
+        Some(left) => match dropped(alloc, &left)? {
+            Some(freer) => Ok(Some(freer)),
+            None => Ok(Some(left)),
+        },
         None => dropped(alloc, k),
     }
 }

@@ -34,14 +34,11 @@ fn is_reception(event: &Event) -> bool
 fn transmissions(alloc: Global, occurrences: &[LocatedEvent]) -> Result<Vec<Node>, AllocError>
     ensures { IfOk result (λ ns. ns.items ≡ nodes_where is_transmission occurrences.now) }
 {
-    let mut nodes = Vec::new(alloc);
-    for occurrence in occurrences {
-        if !is_transmission(&occurrence.event) {
-            continue;
-        }
-        nodes.push(occurrence.node)?;
-    }
-    Ok(nodes)
+    occurrences
+        .iter()
+        .filter(|occurrence| is_transmission(&occurrence.event))
+        .map(|occurrence| occurrence.node)
+        .collect(alloc)
 }
 
 /// The receptions among these events, each with its predecessors along the pairs.

@@ -1,14 +1,13 @@
--- Strands, atoms and unique values that become others.
+-- Events, lists, strands and pairs that become others.
 use Rattle.std.proofs.Common.{◌≡◌, ◌≢◌, ℕ, ◌<◌, ◌≤◌, ◌+◌, List, ◌∷◌, length, map, drop, get_or, refl, sym, ap, ap₂, ◌∙◌, subst, arith}
-use Rattle.std.specs.Prelude.{Option, Some, None, Bool, true, false, nat_lt, ◌==◌}
+use Rattle.std.specs.Prelude.{Option, Bool, true, false, nat_lt, ◌==◌}
 use Rattle.std.proofs.lemmas.Bool.Decides.{nat_tests}
 use Rattle.std.proofs.lemmas.List.{drop_all}
 use Rattle.cp_lists.proofs.Members.{drop_read}
-use Rattle.cp_lists.specs.Lists.{item_at}
-use Rattle.cp_model.specs.Term.{AtomTerm, Term, atom_term, Substitution, apply_to_atom, apply_to}
+use Rattle.cp_model.specs.Term.{Term, Substitution, apply_to}
 use Rattle.cp_model.specs.Strand.{payload}
 use Rattle.cp_model.specs.declared.strand.Event.{Event}
-use Rattle.cp_model.specs.Skeleton.{SkeletonStrand, instance, UniqueAt, Skeleton}
+use Rattle.cp_model.specs.Skeleton.{SkeletonStrand, instance, Skeleton}
 use Rattle.cp_model.specs.declared.node.OrderPair.{OrderPair}
 use Rattle.cp_model.specs.declared.node.Node.{Node}
 use Rattle.cp_model.specs.Order.{ReachesAlong}
@@ -16,97 +15,9 @@ use Rattle.cp_model.specs.Homomorphism.{SkeletonMap, mapped}
 use Rattle.cp_hom.proofs.KeptOrder.{both_nodes}
 use Rattle.cp_lists.proofs.Items.{item_below}
 use Rattle.cp_hom.specs.PartialMaps.{PartialMap, IsExtended, IsOfNoExtension, FindsMaps}
-use Rattle.cp_hom.specs.Counterparts.{MakesEvents, MakesPart, GoesToStrand, BecomesAtom, BecomesUnique, KeepsProblem, IsKeptBy, IsRoleStrand, MeetsEarlier, KeepsApart}
-use Rattle.cp_hom.proofs.Extended.{IsSoFar, finds_like, finds_both, never_before, so_far_next, so_far_never, so_far_all}
+use Rattle.cp_hom.specs.Counterparts.{MakesEvents, KeepsProblem, IsKeptBy, IsRoleStrand, MeetsEarlier, KeepsApart}
+use Rattle.cp_hom.proofs.Extended.{IsSoFar, finds_like, finds_both, so_far_next, so_far_never, so_far_all}
 use Rattle.cp_hom.specs.declared.partials.Partial.{Partial}
-
--- ---- strands
-
-pub strand_placed : (xs ys : List SkeletonStrand) (s image : ℕ) (x y : SkeletonStrand) (given found : PartialMap) (answer : Option Partial) → Some x ≡ item_at xs s → Some y ≡ item_at ys image →
-    IsExtended (λ f. f.strands s ≡ image) given found → FindsMaps (λ f. MakesPart f.terms x y) found answer → FindsMaps (GoesToStrand xs ys s image) given answer
-strand_placed xs ys s image x y given found answer at au h k =
-    finds_both (λ f. f.strands s ≡ image) (λ f. MakesPart f.terms x y) (GoesToStrand xs ys s image) given found answer
-    (λ f e p. record { from = x; to = y; is_from = sym at; is_to = sym au; goes = e; part = p })
-    (λ f g. g.goes)
-    (λ f g.
-    let d : Some g.from ≡ Some x = sym g.is_from ∙ sym at in
-    let e : Some g.to ≡ Some y = sym g.is_to ∙ sym au in
-    let d' : g.from ≡ x = cc in
-    let e' : g.to ≡ y = cc in
-    subst (λ (z : SkeletonStrand). MakesPart f.terms z y) d' (subst (λ (z : SkeletonStrand). MakesPart f.terms g.from z) e' g.part))
-    h k
-
-pub no_strand : (xs ys : List SkeletonStrand) (s image : ℕ) (given : PartialMap) → None ≡ item_at xs s → IsOfNoExtension (GoesToStrand xs ys s image) given
-no_strand xs ys s image given at = λ f follows g. let e : None ≡ Some g.from = at ∙ g.is_from in cc
-
--- ---- atoms
-
-pub atom_placed : (xs ys : List AtomTerm) (i image : ℕ) (x y : AtomTerm) (t u : Term) (given : PartialMap) (answer : Option Partial) → Some x ≡ item_at xs i → Some y ≡ item_at ys image →
-    t ≡ atom_term x → u ≡ atom_term y → FindsMaps (λ f. apply_to f.terms t ≡ u) given answer → FindsMaps (BecomesAtom xs ys i image) given answer
-atom_placed xs ys i image x y t u given answer at au is_t is_u k =
-    finds_like (λ f. apply_to f.terms t ≡ u) (BecomesAtom xs ys i image) given answer
-    (λ f e.
-    let g : atom_term (apply_to_atom f.terms x) ≡ atom_term y = sym (ap (apply_to f.terms) is_t) ∙ e ∙ is_u in
-    let g' : apply_to_atom f.terms x ≡ y = cc in
-    record { from = x; to = y; is_from = sym at; is_to = sym au; becomes = g' })
-    (λ f g.
-    let d : Some g.from ≡ Some x = sym g.is_from ∙ sym at in
-    let e : Some g.to ≡ Some y = sym g.is_to ∙ sym au in
-    let d' : g.from ≡ x = cc in
-    let e' : g.to ≡ y = cc in
-    ap (apply_to f.terms) is_t ∙ ap atom_term (ap (apply_to_atom f.terms) (sym d') ∙ g.becomes ∙ e') ∙ sym is_u)
-    k
-
--- ---- unique values
-
-module _ (xs ys : List UniqueAt) (i image : ℕ) (given : PartialMap) where
-  pub no_unique : None ≡ item_at xs i → IsOfNoExtension (BecomesUnique xs ys i image) given
-  no_unique at = λ f follows g. let e : None ≡ Some g.from = at ∙ g.is_from in cc
-
-  pub no_other_unique : None ≡ item_at ys image → IsOfNoExtension (BecomesUnique xs ys i image) given
-  no_other_unique at = λ f follows g. let e : None ≡ Some g.to = at ∙ g.is_to in cc
-
-  module _ (x y : UniqueAt) (at : Some x ≡ item_at xs i) (au : Some y ≡ item_at ys image) where
-    from_is : (f : SkeletonMap) (g : BecomesUnique xs ys i image f) → g.from ≡ x
-    from_is f g = let d : Some g.from ≡ Some x = sym g.is_from ∙ sym at in cc
-
-    to_is : (f : SkeletonMap) (g : BecomesUnique xs ys i image f) → g.to ≡ y
-    to_is f g = let d : Some g.to ≡ Some y = sym g.is_to ∙ sym au in cc
-
-    pub other_index : x.origin.index ≢ y.origin.index → IsOfNoExtension (BecomesUnique xs ys i image) given
-    other_index ne = λ f follows g.
-        ne (sym (ap (λ (u : UniqueAt). u.origin.index) (from_is f g)) ∙ g.index ∙ ap (λ (u : UniqueAt). u.origin.index) (to_is f g))
-
-    strand_first : (f : SkeletonMap) → BecomesUnique xs ys i image f → f.strands x.origin.strand ≡ y.origin.strand
-    strand_first f g =
-        sym (ap (λ (u : UniqueAt). f.strands u.origin.strand) (from_is f g)) ∙ g.origin ∙ ap (λ (u : UniqueAt). u.origin.strand) (to_is f g)
-
-    pub other_strand : IsOfNoExtension (λ f. f.strands x.origin.strand ≡ y.origin.strand) given → IsOfNoExtension (BecomesUnique xs ys i image) given
-    other_strand never = never_before (λ f. f.strands x.origin.strand ≡ y.origin.strand) (BecomesUnique xs ys i image) given strand_first never
-
-    pub unique_placed : (t u : Term) (found : PartialMap) (answer : Option Partial) → x.origin.index ≡ y.origin.index → t ≡ atom_term x.value → u ≡ atom_term y.value →
-        IsExtended (λ f. f.strands x.origin.strand ≡ y.origin.strand) given found → FindsMaps (λ f. apply_to f.terms t ≡ u) found answer →
-        FindsMaps (BecomesUnique xs ys i image) given answer
-    unique_placed t u found answer same is_t is_u h k =
-        finds_both (λ f. f.strands x.origin.strand ≡ y.origin.strand) (λ f. apply_to f.terms t ≡ u) (BecomesUnique xs ys i image) given found answer
-        (λ f d e.
-        let g : atom_term (apply_to_atom f.terms x.value) ≡ atom_term y.value = sym (ap (apply_to f.terms) is_t) ∙ e ∙ is_u in
-        let g' : apply_to_atom f.terms x.value ≡ y.value = cc in
-        record {
-          from = x;
-          to = y;
-          is_from = sym at;
-          is_to = sym au;
-          becomes = g';
-          origin = d;
-          index = same;
-        })
-        strand_first
-        (λ f g.
-        ap (apply_to f.terms) is_t
-        ∙ ap atom_term (sym (ap (λ (v : UniqueAt). apply_to_atom f.terms v.value) (from_is f g)) ∙ g.becomes ∙ ap (λ (v : UniqueAt). v.value) (to_is f g))
-        ∙ sym is_u)
-        h k
 
 -- ---- events
 

@@ -26,9 +26,6 @@ finds_both d e f given found (Some q) up first second h k = record {
   consistent = λ own. k.consistent (h.consistent own);
 }
 
-pub never_before : (d f : SkeletonMap → Type 0) (given : PartialMap) → ((g : SkeletonMap) → f g → d g) → IsOfNoExtension d given → IsOfNoExtension f given
-never_before d f given first h = λ g follows w. h g follows (first g w)
-
 -- What was found so far: of the whole fact the rest is left.
 pub record IsSoFar (all rest : SkeletonMap → Type 0) (given found : PartialMap) : Type 0 where
   pub extends : (f : SkeletonMap) → ExtendsPartial f found → ExtendsPartial f given

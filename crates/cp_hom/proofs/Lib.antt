@@ -1,5 +1,6 @@
 pub mod Agreed
 pub mod Counterparts
+pub mod PairedItems
 pub mod Beforehand
 pub mod Blocked
 pub mod Crowded
@@ -10,3 +11,4 @@ pub mod Itemised
 pub mod Messages
 pub mod KeptOrder
 pub mod SearchSteps
+pub mod GrownItems

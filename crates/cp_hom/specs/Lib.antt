@@ -4,3 +4,5 @@ pub mod PartialMaps
 pub mod Maps
 pub mod OpenMaps
 pub mod Counterparts
+pub mod Pairings
+pub mod Grown

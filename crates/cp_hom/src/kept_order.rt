@@ -5,9 +5,9 @@ ghost use Rattle.cp_hom.specs.Maps.{map_view};
 ghost use Rattle.cp_hom.specs.Counterparts.{IsRoleStrand, HoldsImage, IsTaken, IsBlocked, IsPlacedElsewhere, MeetsEarlier, KeepsApart, KeepsPairs};
 
 use crate::items::{Item, Kind};
-use crate::numbered_items::strand_at;
 use crate::partials::{Placement, image_of};
 use crate::strand_map::Map;
+use cp_model::item_at;
 use cp_skel::{Node, OrderPair, Predecessors, Strand, StrandShape};
 use std::alloc::{AllocError, Global};
 
@@ -15,7 +15,7 @@ use std::alloc::{AllocError, Global};
 fn is_role_strand(strands: &[Strand], strand: usize) -> bool
     ensures { IsTrue result ↔ IsRoleStrand strands.now strand }
 {
-    match strand_at(strands, strand) {
+    match item_at(strands, strand) {
         Some(strand) => matches!(strand.shape(), StrandShape::Instance(_)),
         None => false,
     }
@@ -104,13 +104,6 @@ pub(crate) fn keeps_apart(strands: &[Strand], mapping: &Map) -> bool
     true
 }
 
-/// Whether the nodes are the same.
-fn is_same_node(x: Node, y: Node) -> bool
-    ensures { IsTrue result ↔ (x ≡ y) }
-{
-    x.strand == y.strand && x.index == y.index
-}
-
 /// Whether a node reaches another over this pair: it is at or before the pair's earlier node, and the pair's later node is at or
 /// before the other.
 fn leads_over(pair: &OrderPair, x: Node, y: Node) -> bool
@@ -144,7 +137,7 @@ pub(crate) fn leads_to_another(
     ensures { IfOk result (λ leads. IsTrue leads
         ↔ (ReachesAlong pairs.now x y × (x ≢ y))) }
 {
-    if is_same_node(x, y) {
+    if x == y {
         return Ok(false);
     }
     // Most pairs map to pairs; then the predecessors of a node need not be gathered.

@@ -2,13 +2,14 @@
 ghost use Rattle.std.specs.Prelude.{◌≡◌, IsTrue, MatchOption};
 ghost use Rattle.cp_model.specs.Term.{Substitution, apply_to};
 ghost use Rattle.cp_hom.specs.PartialMaps.{partial_view, IsKnown};
-ghost use Rattle.cp_hom.specs.Counterparts.{MakesPart, GoesToStrand, BecomesAtom, BecomesUnique, item_count, TakesItem};
+ghost use Rattle.cp_hom.specs.Counterparts.{MakesPart, item_count, TakesItem};
+ghost use Rattle.cp_hom.specs.Pairings.{TakesPair};
 ghost use Rattle.cp_hom.specs.Choices.{ArePassed, IsNextChoice};
 
-use crate::items::{Item, Kind, count};
-use crate::numbered_items::{atom_at, strand_at, unique_at};
+use crate::items::{Item, count};
+use crate::pairings::{Pairing, paired};
 use crate::partials::{Partial, image_of};
-use cp_skel::{Atom, Skeleton, Strand, StrandShape, UniqueAt};
+use cp_skel::{Skeleton, Strand, StrandShape};
 use cp_term::Term;
 use cp_unify::known_match;
 
@@ -51,73 +52,26 @@ fn is_no_part(from: &Strand, to: &Strand) -> bool
     }
 }
 
-/// Whether a strand maps to one of others and becomes a part of it; `None` if that is not known. Only a negative result is found
-/// here.
-fn known_strand(
-    strands: &[Strand],
-    others: &[Strand],
-    strand: usize,
-    image: usize,
-    given: &Partial,
-) -> Option<bool>
-    ensures { IsKnown (GoesToStrand strands.now others.now strand image) given.now result }
+/// Whether a map takes two items to each other; `None` if that is not known. Of strands only a negative result is found here.
+fn known_pair(pair: Pairing<'_>, given: &Partial) -> Option<bool>
+    ensures { IsKnown (TakesPair pair.entry) given.now result }
 {
-    let Some(from) = strand_at(strands, strand) else {
-        return Some(false);
-    };
-    let Some(to) = strand_at(others, image) else {
-        return Some(false);
-    };
-    if is_no_part(from, to) {
-        return Some(false);
-    }
-    None
-}
-
-/// Whether an atom maps to one of others; `None` if that is not known.
-fn known_atom(
-    atoms: &[Atom],
-    others: &[Atom],
-    index: usize,
-    image: usize,
-    given: &Partial,
-) -> Option<bool>
-    ensures { IsKnown (BecomesAtom atoms.now others.now index image) given.now result }
-{
-    let Some(from) = atom_at(atoms, index) else {
-        return Some(false);
-    };
-    let Some(to) = atom_at(others, image) else {
-        return Some(false);
-    };
-    known_term(from.as_term(), to.as_term(), given)
-}
-
-/// Whether a unique value with its origin maps to one of others; `None` if that is not known.
-fn known_unique(
-    uniques: &[UniqueAt],
-    others: &[UniqueAt],
-    index: usize,
-    image: usize,
-    given: &Partial,
-) -> Option<bool>
-    ensures { IsKnown (BecomesUnique uniques.now others.now index image) given.now result }
-{
-    let Some(from) = unique_at(uniques, index) else {
-        return Some(false);
-    };
-    let Some(to) = unique_at(others, image) else {
-        return Some(false);
-    };
-    let first = from.origin();
-    let second = to.origin();
-    if first.index != second.index {
-        return Some(false);
-    }
-    if known_number(first.strand, second.strand, given)? {
-        known_term(from.value().as_term(), to.value().as_term(), given)
-    } else {
-        Some(false)
+    match pair {
+        Pairing::Strands(_, _, from, to) => {
+            if is_no_part(from, to) {
+                Some(false)
+            } else {
+                None
+            }
+        }
+        Pairing::Terms(from, to) => known_term(from, to, given),
+        Pairing::Origins(strand, image, from, to) => {
+            if known_number(strand, image, given)? {
+                known_term(from, to, given)
+            } else {
+                Some(false)
+            }
+        }
     }
 }
 
@@ -131,24 +85,9 @@ fn known_place(
 ) -> Option<bool>
     ensures { IsKnown (TakesItem a.now b.now item image) given.now result }
 {
-    let index = item.index;
-    let assumed = a.assumptions();
-    let others = b.assumptions();
-    match item.kind {
-        Kind::Strands => known_strand(a.strands(), b.strands(), index, image, given),
-        Kind::NonOriginating => {
-            let atoms = assumed.non_originating();
-            known_atom(atoms, others.non_originating(), index, image, given)
-        }
-        Kind::PenetratorNonOriginating => {
-            let atoms = assumed.penetrator_non_originating();
-            let others = others.penetrator_non_originating();
-            known_atom(atoms, others, index, image, given)
-        }
-        Kind::Uniques => {
-            let uniques = assumed.uniquely_originating();
-            known_unique(uniques, others.uniquely_originating(), index, image, given)
-        }
+    match paired(a, b, item, image) {
+        Some(pair) => known_pair(pair, given),
+        None => Some(false),
     }
 }
 

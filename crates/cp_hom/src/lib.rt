@@ -8,6 +8,7 @@ mod items;
 mod kept_order;
 mod known;
 mod numbered_items;
+mod pairings;
 mod partials;
 mod placed_items;
 mod role_counts;

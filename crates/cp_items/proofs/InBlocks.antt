@@ -12,8 +12,7 @@ use Rattle.cp_language.specs.Roles.{text_of_symbol}
 use Rattle.cp_language.specs.Problems.{number_of, Problem}
 use Rattle.cp_report.specs.Misfits.{place_before, misfit, unless_misfit, entries_misfits, symbol_misfits}
 use Rattle.cp_report.specs.declared.operations.OperationWord.{OperationWord}
-use Rattle.cp_report.specs.declared.operations.OperationWord.TheVariants.{Problem as problem_word, Collapsed as collapsed_word, Contracted as contracted_word, Displaced as displaced_word, AddedStrand as added_strand_word, AddedListener as added_listener_word, Generalised as generalised_word, Unknown as no_operation_word}
-use Rattle.cp_report.specs.Labels.{operation_word, is_operation, operation_kinds, operation_misfits, block_misfits, block_checks}
+use Rattle.cp_report.specs.Labels.{operation_word, is_operation, kinds_after, operation_kinds, operation_misfits, block_misfits, block_checks}
 use Rattle.cp_spelled.specs.FirstMisfit.{first_onto}
 use Rattle.cp_scope.proofs.FirstOf.{first_onto-append}
 use Rattle.cp_items.specs.Parts.{blocks_of, kinds_behind, operation_item_misfits}
@@ -66,14 +65,7 @@ blocks-counted ns i [] = refl
 blocks-counted ns i (k ∷ ks) = ap (λ bs. block_misfits ns i ∷ bs) (blocks-counted ns (suc i) ks)
 
 kinds-counted : (p : Problem) (w : OperationWord) (fs : List Form) → kinds_behind (length p.skeleton.strands) w fs ≡ operation_kinds p w fs
-kinds-counted p problem_word fs = refl
-kinds-counted p collapsed_word fs = blocks-counted (map number_of fs) 0 p.skeleton.strands
-kinds-counted p contracted_word fs = refl
-kinds-counted p displaced_word fs = refl
-kinds-counted p added_strand_word fs = refl
-kinds-counted p added_listener_word fs = refl
-kinds-counted p generalised_word fs = refl
-kinds-counted p no_operation_word fs = refl
+kinds-counted p w fs = ap (kinds_after w) (blocks-counted (map number_of fs) 0 p.skeleton.strands)
 
 -- an operation sees of the problem only how many strands there are
 pub operation-counted : (p : Problem) (at : Place) (fs : List Form) → operation_item_misfits (length p.skeleton.strands) at fs ≡ operation_misfits p at fs

@@ -6,12 +6,11 @@ use Rattle.cp_language.specs.Roles.{text_of_symbol}
 use Rattle.cp_language.specs.Problems.{number_of}
 use Rattle.cp_model.specs.Skeleton.{SkeletonStrand}
 use Rattle.cp_model.specs.declared.variable.Declaration.{Declaration}
-use Rattle.cp_report.specs.Misfits.{misfit, misfit_unless, unless_misfit, lacking, each_misfits, any_number_misfits, symbol_misfits, entries_misfits}
+use Rattle.cp_report.specs.Misfits.{misfit, misfit_unless, unless_misfit, lacking, each_misfits, symbol_misfits, entries_misfits}
 use Rattle.cp_report.specs.Spelled.{pattern_misfits}
 use Rattle.cp_report.specs.Skeletons.{strand_number_misfits}
 use Rattle.cp_report.specs.declared.operations.OperationWord.{OperationWord}
-use Rattle.cp_report.specs.declared.operations.OperationWord.TheVariants.{Problem as problem_word, Collapsed as collapsed_word, Contracted as contracted_word, Displaced as displaced_word, AddedStrand as added_strand_word, AddedListener as added_listener_word, Generalised as generalised_word, Unknown as no_operation_word}
-use Rattle.cp_report.specs.Labels.{operation_word, is_operation, block_misfits, index_misfits}
+use Rattle.cp_report.specs.Labels.{operation_word, is_operation, block_misfits, kinds_after, index_misfits}
 
 -- ---- operations
 
@@ -22,14 +21,7 @@ blocks_of ns i (suc n) = block_misfits ns i ∷ blocks_of ns (suc i) n
 
 -- The kinds of the entries behind the word, where the problem has so many strands.
 abbrev pub kinds_behind : ℕ → OperationWord → List Form → List (Form → List Place)
-kinds_behind strands problem_word fs = []
-kinds_behind strands collapsed_word fs = blocks_of (map number_of fs) 0 strands
-kinds_behind strands contracted_word fs = any_number_misfits ∷ any_number_misfits ∷ []
-kinds_behind strands displaced_word fs = any_number_misfits ∷ any_number_misfits ∷ []
-kinds_behind strands added_strand_word fs = any_number_misfits ∷ []
-kinds_behind strands added_listener_word fs = any_number_misfits ∷ []
-kinds_behind strands generalised_word fs = []
-kinds_behind strands no_operation_word fs = []
+kinds_behind strands w fs = kinds_after w (blocks_of (map number_of fs) 0 strands)
 
 -- A word that names an operation, and what belongs to it, where the problem has so many strands.
 abbrev pub operation_item_misfits : ℕ → Place → List Form → List Place

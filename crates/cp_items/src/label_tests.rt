@@ -3,7 +3,7 @@ ghost use Rattle.std.specs.Prelude.{◌≡◌, [], map, option_map, Some, IfOk, 
 ghost use Rattle.cp_sexpr.specs.View.{view};
 ghost use Rattle.cp_language.specs.Problems.{option_node};
 ghost use Rattle.cp_report.specs.Misfits.{each_misfits};
-ghost use Rattle.cp_report.specs.Spelled.{pattern_misfits, pattern_of};
+ghost use Rattle.cp_report.specs.Spelled.{pattern_misfits};
 ghost use Rattle.cp_report.specs.Skeletons.{node_misfits, node_or_first};
 ghost use Rattle.cp_report.specs.Labels.{unrealised_misfits, test_misfits, test_of};
 ghost use Rattle.cp_spelled.specs.FirstMisfit.{first_onto};
@@ -14,11 +14,8 @@ use cp_base::Place;
 use cp_scope::{item_at, items_behind};
 use cp_sexpr::Form;
 use cp_skel::{Node, Strand, Test};
-use cp_spelled::{
-    FirstMisfit, Scope, Variables, lacking, pattern_misfits, pattern_of, term_or_tag,
-};
+use cp_spelled::{FirstMisfit, Scope, Variables, lacking, pattern_misfits, term_or_tag};
 use cp_stated::{node_misfits, node_or_first, one_term_misfits};
-use cp_term::Pattern;
 use std::alloc::{AllocError, Global};
 
 /// Each of these forms must be a node that exists.
@@ -42,11 +39,10 @@ pub fn unrealised_misfits(strands: &[Strand], place: Place, items: &[Form], firs
 pub fn nodes_of(alloc: Global, items: &[Form]) -> Result<Vec<Node>, AllocError>
     ensures { IfOk result (λ v. v.items ≡ map (λ f. node_or_first (option_node (Some f))) (map view items.now)) }
 {
-    let mut nodes = Vec::new(alloc);
-    for item in items {
-        nodes.push(node_or_first(Some(item)))?;
-    }
-    Ok(nodes)
+    items
+        .iter()
+        .map(|item| node_or_first(Some(item)))
+        .collect(alloc)
 }
 
 /// The items of the list at this place must be a node that exists and a term.
@@ -80,11 +76,7 @@ pub fn test_of(
     };
     let entries = items_behind(item);
     let node = node_or_first(item_at(entries, 0));
-    let term = term_or_tag(alloc, scope, item_at(entries, 1))?;
-    Ok(Some(Test {
-        node,
-        critical: term,
-    }))
+    term_or_tag(alloc, scope, item_at(entries, 1)).map(|critical| Some(Test { node, critical }))
 }
 
 /// Each of these forms must be a pattern.
@@ -116,32 +108,4 @@ pub fn escape_misfits(
     first.note_unless(has_test, place);
     lacking(1, place, items, first);
     patterns_misfits(alloc, variables, items, first)
-}
-
-/// The pattern that a form is. It must be one.
-fn pattern_stated(alloc: Global, variables: &Variables, form: &Form) -> Result<Pattern, AllocError>
-    requires { pattern_misfits variables.now (view form.now) ≡ [] }
-    ensures { IfOk result (λ p. p ≡ pattern_of variables.now (view form.now)) }
-{
-    match pattern_of(alloc, variables, form)? {
-        Some(pattern) => Ok(pattern),
-        None => unreachable!(),
-    }
-}
-
-/// The patterns that forms are. Each must be one.
-pub fn patterns_of(
-    alloc: Global,
-    variables: &Variables,
-    items: &[Form],
-) -> Result<Vec<Pattern>, AllocError>
-    requires { each_misfits (pattern_misfits variables.now) (map view items.now) ≡ [] }
-    ensures { IfOk result (λ v. v.items ≡ map (pattern_of variables.now) (map view items.now)) }
-{
-    let mut patterns = Vec::new(alloc);
-    for item in items {
-        let pattern = pattern_stated(alloc, variables, item)?;
-        patterns.push(pattern)?;
-    }
-    Ok(patterns)
 }

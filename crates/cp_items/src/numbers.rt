@@ -1,12 +1,10 @@
 // Numbers in a list.
-ghost use Rattle.std.specs.Prelude.{◌≡◌, map, IfOk};
+ghost use Rattle.std.specs.Prelude.{◌≡◌, map};
 ghost use Rattle.cp_sexpr.specs.View.{view};
-ghost use Rattle.cp_language.specs.Problems.{number_of};
 ghost use Rattle.cp_report.specs.Labels.{stated_number, number_in_front, number_stated};
 
 use cp_sexpr::Form;
 use cp_stated::number_of;
-use std::alloc::{AllocError, Global};
 
 /// The number that a form is, if it is one.
 pub fn stated_number(form: &Form) -> Option<usize>
@@ -36,15 +34,4 @@ pub fn number_stated(items: &[Form]) -> usize
         [] => 0,
         [item, ..] => number_of(item),
     }
-}
-
-/// The numbers that forms are; 0 for a form that is none.
-pub fn numbers_of(alloc: Global, items: &[Form]) -> Result<Vec<usize>, AllocError>
-    ensures { IfOk result (λ v. v.items ≡ map number_of (map view items.now)) }
-{
-    let mut numbers = Vec::new(alloc);
-    for item in items {
-        numbers.push(number_of(item))?;
-    }
-    Ok(numbers)
 }

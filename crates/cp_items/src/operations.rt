@@ -1,45 +1,34 @@
 // Operations: where they do not fit, and which they are.
-ghost use Rattle.std.specs.Prelude.{◌≡◌, nat_le, ◌&&◌, [], ◌∷◌, map, IfOk};
+ghost use Rattle.std.specs.Prelude.{◌≡◌, nat_le, ◌&&◌, [], map, IfOk};
 ghost use Rattle.cp_lists.specs.Lists.{item_at};
 ghost use Rattle.cp_sexpr.specs.View.{view};
 ghost use Rattle.cp_language.specs.Problems.{number_of, name_in_front};
-ghost use Rattle.cp_report.specs.Misfits.{any_number_misfits, entries_misfits, symbol_misfits};
+ghost use Rattle.cp_report.specs.Misfits.{entries_misfits, symbol_misfits};
 ghost use Rattle.cp_report.specs.Labels.{operation_word, is_operation, makes_root, is_number, block_misfits, node_stated, operation_by};
 ghost use Rattle.cp_spelled.specs.FirstMisfit.{first_onto};
 ghost use Rattle.cp_items.specs.Parts.{blocks_of, kinds_behind, operation_item_misfits, is_fitting};
 
 use crate::heads::name_in_front;
-use crate::numbers::{number_stated, numbers_of};
+use crate::numbers::number_stated;
 use cp_base::Place;
 use cp_report::OperationWord;
-use cp_scope::{is_word, item_at, later_items, place_of, symbol_or_empty};
+use cp_scope::{by_word, item_at, later_items, place_of, symbol_or_empty};
 use cp_sexpr::Form;
 use cp_skel::{Node, Numbers, Operation};
 use cp_spelled::{FirstMisfit, no_more, one_number_misfits};
-use cp_stated::{number_of, two_numbers_misfits};
+use cp_stated::{number_of, numbers_of, two_numbers_misfits};
 use std::alloc::{AllocError, Global};
 
 /// What a word names.
 pub(crate) fn operation_word(word: &[u8]) -> OperationWord
     ensures { result ≡ operation_word word.now }
 {
-    if is_word(word, b"problem") {
-        OperationWord::Problem
-    } else if is_word(word, b"collapsed") {
-        OperationWord::Collapsed
-    } else if is_word(word, b"contracted") {
-        OperationWord::Contracted
-    } else if is_word(word, b"displaced") {
-        OperationWord::Displaced
-    } else if is_word(word, b"added-strand") {
-        OperationWord::AddedStrand
-    } else if is_word(word, b"added-listener") {
-        OperationWord::AddedListener
-    } else if is_word(word, b"generalised") {
-        OperationWord::Generalised
-    } else {
-        OperationWord::Unknown
-    }
+    by_word!(word;
+        b"problem" => OperationWord::Problem, b"collapsed" => OperationWord::Collapsed,
+        b"contracted" => OperationWord::Contracted, b"displaced" => OperationWord::Displaced,
+        b"added-strand" => OperationWord::AddedStrand, b"added-listener" => OperationWord::AddedListener,
+        b"generalised" => OperationWord::Generalised,
+        _ => OperationWord::Unknown)
 }
 
 /// What the first word among the entries names.
@@ -178,8 +167,7 @@ pub fn operation_by(
     match word {
         OperationWord::Problem | OperationWord::Unknown => Ok(Operation::Problem),
         OperationWord::Collapsed => {
-            let numbers = numbers_of(alloc, items)?;
-            Ok(Operation::Collapsed(Numbers::of(numbers)))
+            numbers_of(alloc, items).map(|numbers| Operation::Collapsed(Numbers::of(numbers)))
         }
         OperationWord::Contracted => Ok(Operation::Contracted(node_stated(items))),
         OperationWord::Displaced => Ok(Operation::Displaced(node_stated(items))),

@@ -108,10 +108,10 @@ pub record IsSound (ds : List Declaration) (sort : Option TermSort) (t : Term) :
   pub known : sort ≡ None → ⊥
 
 -- a term that is no atom
-compound_is_sound : (ds : List Declaration) (t : Term) → AreDeclared ds (variables_of t) → IsSound ds (Some of_all) t
+pub compound_is_sound : (ds : List Declaration) (t : Term) → AreDeclared ds (variables_of t) → IsSound ds (Some of_all) t
 compound_is_sound ds t d = record { declared = d; sorted = λ s e. absurd (cc); known = λ e. cc }
 
-atom_is_sound : (ds : List Declaration) (s : Sort) (t : Term) → AreDeclared ds (variables_of t) → IsOfSort s t → IsSound ds (Some (of_atoms s)) t
+pub atom_is_sound : (ds : List Declaration) (s : Sort) (t : Term) → AreDeclared ds (variables_of t) → IsOfSort s t → IsSound ds (Some (of_atoms s)) t
 atom_is_sound ds s t d o = record { declared = d; sorted = λ r e. let p : s ≡ r = cc in subst (λ x. IsOfSort x t) p o; known = λ e. cc }
 
 -- A sound term whose sort passes the test is of that sort.
@@ -128,7 +128,7 @@ name_declared ds o t h e =
     subst (λ x. IsDeclared ds (record { sort = name_sort; number = as_name x })) (sym n.1)
     (subst (λ x. AreDeclared ds (variables_of x)) n.1 h.declared (record { sort = name_sort; number = n.0 }) here)
 
-key_declared : (ds : List Declaration) (o : Option TermSort) (t : Term) → IsSound ds o t → (is_sort skey_sort o || is_sort akey_sort o) ≡ true → AreDeclared ds (variables_of_key (as_key t))
+pub key_declared : (ds : List Declaration) (o : Option TermSort) (t : Term) → IsSound ds o t → (is_sort skey_sort o || is_sort akey_sort o) ≡ true → AreDeclared ds (variables_of_key (as_key t))
 key_declared ds o t h e = ⊎_elim symmetric asymmetric (or_cases (is_sort skey_sort o) (is_sort akey_sort o) e)
   where
     symmetric : is_sort skey_sort o ≡ true → AreDeclared ds (variables_of_key (as_key t))
@@ -148,16 +148,16 @@ inverse_of_sort ds o t h p =
     (atom_is_sound ds akey_sort (atom_term (key_term (asymmetric_term (not k.0) k.1))) (subst (λ x. AreDeclared ds (variables_of x)) k.2 h.declared) (not k.0, k.1, refl))
 
 -- All of these terms have declared variables.
-abbrev AllDeclared : List Declaration → List Term → Type 0
+abbrev pub AllDeclared : List Declaration → List Term → Type 0
 AllDeclared ds [] = Unit {0}
 AllDeclared ds (t ∷ ts) = AreDeclared ds (variables_of t) × AllDeclared ds ts
 
-paired_declared : (ds : List Declaration) (ts : List Term) → AllDeclared ds ts → AreDeclared ds (variables_of (paired ts))
+pub paired_declared : (ds : List Declaration) (ts : List Term) → AllDeclared ds ts → AreDeclared ds (variables_of (paired ts))
 paired_declared ds [] h = none_declared ds
 paired_declared ds (t ∷ []) h = h.0
 paired_declared ds (t ∷ u ∷ us) h = both_declared ds (variables_of t) (variables_of (paired (u ∷ us))) h.0 (paired_declared ds (u ∷ us) h.1)
 
-front_declared : (ds : List Declaration) (ts : List Term) → AllDeclared ds ts → AllDeclared ds (all_but_last ts)
+pub front_declared : (ds : List Declaration) (ts : List Term) → AllDeclared ds ts → AllDeclared ds (all_but_last ts)
 front_declared ds [] h = tt
 front_declared ds (t ∷ []) h = tt
 front_declared ds (t ∷ u ∷ us) h = (h.0, front_declared ds (u ∷ us) h.1)

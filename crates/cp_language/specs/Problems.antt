@@ -281,6 +281,10 @@ option_node (Some f) = node_of f
 abbrev pub pair_of : Form → List OrderPair
 pair_of f = between_strands (pair_of_nodes (option_node (first_form (list_items f))) (option_node (second_form (list_items f))))
 
+abbrev pub is_precedes_item : ItemHead → Bool
+is_precedes_item precedes_item = true
+is_precedes_item _ = false
+
 abbrev pub pairs_in : List Form → List OrderPair
 pairs_in [] = []
 pairs_in (f ∷ fs) = pair_of f ++ pairs_in fs
@@ -343,10 +347,6 @@ is_assumption_or_order penetrator_non_item = true
 is_assumption_or_order unique_item = true
 is_assumption_or_order precedes_item = true
 is_assumption_or_order _ = false
-
-abbrev pub is_precedes_item : ItemHead → Bool
-is_precedes_item precedes_item = true
-is_precedes_item _ = false
 
 abbrev pub stage_after : ItemStage → ItemHead → ItemStage
 stage_after stage h = record { after_strand = stage.after_strand || is_strand_item h; after_item = stage.after_item || is_assumption_or_order h }

@@ -3,6 +3,7 @@ use Rattle.std.specs.Prelude.{◌||◌, ℕ, zero, suc, List, [], ◌∷◌, ◌
 use Rattle.cp_base.specs.declared.place.Place.{Place}
 use Rattle.cp_base.specs.declared.place.Code.TheVariants.{UnknownForm, OutOfProfile, BadShape, UnknownVar, IllSorted, KeySort, NotAtom}
 use Rattle.cp_base.specs.declared.place.Refusal.{Refusal}
+pub use Rattle.cp_model.specs.Term.{key_as_term}
 use Rattle.cp_model.specs.Term.{variable_term, skey_variable, ltk_term, pubk_term, KeyTerm, symmetric_term, asymmetric_term, inverse_term, AtomTerm, text_variable, name_variable, key_term, Term, tag_term, atom_term, pair_term, enc_term}
 use Rattle.cp_model.specs.declared.sort.Sort.{Sort}
 use Rattle.cp_model.specs.declared.sort.Sort.TheVariants.{Name as name_sort, Skey as skey_sort, Akey as akey_sort}
@@ -46,8 +47,7 @@ sort_by_head long_term_key sorts = Some (of_atoms skey_sort)
 sort_by_head public_key sorts = Some (of_atoms akey_sort)
 sort_by_head private_key sorts = Some (of_atoms akey_sort)
 sort_by_head inverse_key sorts = Some (of_atoms akey_sort)
-sort_by_head operation_out_of_profile sorts = None
-sort_by_head no_operation sorts = None
+sort_by_head _ sorts = None
 
 -- The sort of a term, decided by its head alone; none where it cannot be known.
 abbrev mutual
@@ -203,9 +203,6 @@ as_name _ = 0
 abbrev pub as_atom : Term → AtomTerm
 as_atom (atom_term a) = a
 as_atom _ = text_variable 0
-
-abbrev pub key_as_term : KeyTerm → Term
-key_as_term k = atom_term (key_term k)
 
 abbrev pub long_term : List Term → Term
 long_term (a ∷ b ∷ ts) = key_as_term (symmetric_term (ltk_term (as_name a) (as_name b)))

@@ -34,25 +34,20 @@ other_operations = codes "exp" ∷ codes "gen" ∷ codes "mul" ∷ codes "rec" �
 abbrev pub other_sorts : List (List ℕ)
 other_sorts = codes "expt" ∷ codes "rndx" ∷ codes "base" ∷ codes "chan" ∷ codes "locn" ∷ codes "state" ∷ []
 
+-- What a text is by a table of words: what the first row with this word says, or else the other.
+abbrev pub by_word : {A : Type 0} → List (List ℕ × A) → A → List ℕ → A
+by_word [] other t = other
+by_word (row ∷ rows) other t = if same_text t row.0 then row.1 else by_word rows other t
+
 abbrev pub sort_word : List ℕ → SortWord
-sort_word t =
-    if same_text t (codes "text") then of_sort text_sort else
-    if same_text t (codes "data") then of_sort datum_sort else
-    if same_text t (codes "name") then of_sort name_sort else
-    if same_text t (codes "skey") then of_sort skey_sort else
-    if same_text t (codes "akey") then of_sort akey_sort else
-    if same_text t (codes "mesg") then of_messages else
-    if is_one_of t other_sorts then sort_out_of_profile else no_sort
+sort_word t = by_word
+    ((codes "text", of_sort text_sort) ∷ (codes "data", of_sort datum_sort) ∷ (codes "name", of_sort name_sort) ∷ (codes "skey", of_sort skey_sort) ∷ (codes "akey", of_sort akey_sort) ∷ (codes "mesg", of_messages) ∷ [])
+    (if is_one_of t other_sorts then sort_out_of_profile else no_sort) t
 
 abbrev pub term_head : List ℕ → TermHead
-term_head t =
-    if same_text t (codes "cat") then cat else
-    if same_text t (codes "enc") then encrypt else
-    if same_text t (codes "ltk") then long_term_key else
-    if same_text t (codes "pubk") then public_key else
-    if same_text t (codes "privk") then private_key else
-    if same_text t (codes "invk") then inverse_key else
-    if is_one_of t heads_out_of_profile || is_one_of t other_operations then operation_out_of_profile else no_operation
+term_head t = by_word
+    ((codes "cat", cat) ∷ (codes "enc", encrypt) ∷ (codes "ltk", long_term_key) ∷ (codes "pubk", public_key) ∷ (codes "privk", private_key) ∷ (codes "invk", inverse_key) ∷ [])
+    (if is_one_of t heads_out_of_profile || is_one_of t other_operations then operation_out_of_profile else no_operation) t
 
 abbrev pub event_head : List ℕ → EventHead
 event_head t =
@@ -61,16 +56,9 @@ event_head t =
     if is_one_of t heads_out_of_profile || is_one_of t state_heads then event_out_of_profile else no_event
 
 abbrev pub item_head : List ℕ → ItemHead
-item_head t =
-    if same_text t (codes "defrole") then role_item else
-    if same_text t (codes "non-orig") then non_item else
-    if same_text t (codes "pen-non-orig") then penetrator_non_item else
-    if same_text t (codes "uniq-orig") then unique_item else
-    if same_text t (codes "defstrand") then strand_item else
-    if same_text t (codes "deflistener") then listener_item else
-    if same_text t (codes "precedes") then precedes_item else
-    if same_text t (codes "comment") then comment_item else
-    if is_one_of t heads_out_of_profile || is_one_of t state_heads then item_out_of_profile else no_item
+item_head t = by_word
+    ((codes "defrole", role_item) ∷ (codes "non-orig", non_item) ∷ (codes "pen-non-orig", penetrator_non_item) ∷ (codes "uniq-orig", unique_item) ∷ (codes "defstrand", strand_item) ∷ (codes "deflistener", listener_item) ∷ (codes "precedes", precedes_item) ∷ (codes "comment", comment_item) ∷ [])
+    (if is_one_of t heads_out_of_profile || is_one_of t state_heads then item_out_of_profile else no_item) t
 
 abbrev pub top_head : List ℕ → TopHead
 top_head t =

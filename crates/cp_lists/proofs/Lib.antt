@@ -8,3 +8,4 @@ pub mod Reached
 pub mod Least
 pub mod Fronts
 pub mod SameLists
+pub mod Collected

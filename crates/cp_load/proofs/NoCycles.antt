@@ -3,7 +3,7 @@ use Rattle.std.proofs.Common.{◌≡◌, ◌⊎◌, inl, inr, ℕ, ◌+◌, ◌<
 use Rattle.std.specs.Prelude.{Option, None, Some, nat_le, nat_lt}
 use Rattle.std.specs.List.Sorted.{IsPermutation}
 use Rattle.std.proofs.lemmas.Bool.{cond-false, ltb-true, false_from_ne_true}
-use Rattle.std.proofs.lemmas.List.{append-nil, drop_all, append_assoc, get_or_default}
+use Rattle.std.proofs.lemmas.List.{append_assoc, get_or_default}
 use Rattle.cp_lists.proofs.Permuted.{in_permuted}
 use Rattle.cp_lists.proofs.Members.{drop_read, in_append_left, in_append_right, from_map, into_map, done_or_none}
 use Rattle.cp_lists.specs.Lists.{IsIn, here, there}
@@ -75,9 +75,6 @@ module _ (items : List program.Form) (k : ℕ) (f : program.Form) (lt : k < leng
 
   pub items-stated : (after : List OrderPair) → after ≡ before ++ pairs_of_item (view f) → before ++ pairs_stated (map view (drop k items)) ≡ whole → after ++ pairs_stated (map view (drop (k + 1) items)) ≡ whole
   items-stated after e h = ap (λ ps. ps ++ pairs_stated (map view (drop (k + 1) items))) e ∙ split h
-
-pub stated-all : (items : List program.Form) (k : ℕ) → length items ≤ k → (ps whole : List OrderPair) → ps ++ pairs_stated (map view (drop k items)) ≡ whole → ps ≡ whole
-stated-all items k h ps whole e = sym (append-nil ps) ∙ sym (ap (λ gs. ps ++ pairs_stated (map view gs)) (drop_all k items h)) ∙ e
 
 -- ---- a pair that closes no cycle
 

@@ -8,7 +8,8 @@ use Rattle.cp_sexpr.specs.Syntax.{Form}
 use Rattle.cp_sexpr.specs.View.{view}
 use Rattle.cp_sexpr.specs.declared.form.Form as program
 use Rattle.cp_language.specs.Roles.{headed, forms_under, item_or_none, items_behind}
-use Rattle.cp_language.specs.Problems.{pair_of, pairs_in, is_precedes_item}
+use Rattle.cp_language.specs.Problems.{pair_of, pairs_in, pairs_if, is_precedes_item}
+use Rattle.cp_load.specs.Acyclic.{pairs_stated}
 use Rattle.cp_model.specs.Skeleton.{SkeletonStrand}
 
 -- ---- numbers of strands
@@ -29,6 +30,16 @@ number-taken ks k ns ms all lt g h =
 pairs_in-append : (fs gs : List Form) → pairs_in (fs ++ gs) ≡ pairs_in fs ++ pairs_in gs
 pairs_in-append [] gs = refl
 pairs_in-append (f ∷ fs) gs = ap (λ ps. pair_of f ++ ps) (pairs_in-append fs gs) ∙ sym (append_assoc (pair_of f) (pairs_in fs) (pairs_in gs))
+
+-- those of the forms behind the heads, item by item
+pub pairs-under : (fs : List Form) → pairs_in (forms_under is_precedes_item fs) ≡ pairs_stated fs
+pairs-under [] = refl
+pairs-under (f ∷ fs) = by_head (is_precedes_item (item_or_none (headed f))) (pairs-under fs)
+  where
+    by_head : (b : Bool) → pairs_in (forms_under is_precedes_item fs) ≡ pairs_stated fs
+        → pairs_in (if b then items_behind (headed f) ++ forms_under is_precedes_item fs else forms_under is_precedes_item fs) ≡ pairs_if b (items_behind (headed f)) ++ pairs_stated fs
+    by_head true e = pairs_in-append (items_behind (headed f)) (forms_under is_precedes_item fs) ∙ ap (λ ps. pairs_in (items_behind (headed f)) ++ ps) e
+    by_head false e = e
 
 module _ (fs : List program.Form) (k : ℕ) (f : program.Form) (lt : k < length fs) (is : f ≡ get_or fs k f) (ps qs all : List OrderPair)
     (h : ps ++ pairs_in (forms_under is_precedes_item (map view (drop k fs))) ≡ all) where

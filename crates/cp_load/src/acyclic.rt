@@ -1,5 +1,5 @@
 // Tests whether the pairs of a problem are acyclic, all of them at once; if not, for how many of them this can be seen.
-ghost use Rattle.std.specs.Prelude.{◌≡◌, ◌++◌, ◌||◌, map, IfOk, OnOk};
+ghost use Rattle.std.specs.Prelude.{◌≡◌, ◌||◌, map, IfOk, OnOk};
 ghost use Rattle.cp_lists.specs.Lists.{IsIn};
 ghost use Rattle.cp_model.specs.Bundle as bundle;
 ghost use Rattle.cp_model.specs.declared.node.Node.{Node};
@@ -8,11 +8,10 @@ ghost use Rattle.cp_model.specs.declared.node.OrderPair.{OrderPair};
 ghost use Rattle.cp_sexpr.specs.View.{view};
 ghost use Rattle.cp_model.specs.OrderTests.{at_or_after};
 ghost use Rattle.cp_order.specs.PredecessorNodes.{tops_of, is_under_tops};
-ghost use Rattle.cp_load.specs.Acyclic.{IsAcyclicIf, IsAcyclicUpTo, pairs_of_item, pairs_stated};
+ghost use Rattle.cp_load.specs.Acyclic.{IsAcyclicIf, IsAcyclicUpTo, pairs_stated};
 
-use crate::pairs::add_pairs;
+use crate::pairs::pairs_of;
 use crate::ranks::ranks_of;
-use cp_scope::{ItemHead, headed, item_head};
 use cp_sexpr::Form;
 use cp_skel::{Node, OrderPair};
 use std::alloc::{AllocError, Global};
@@ -106,26 +105,10 @@ fn count_without_cycle(alloc: Global, pairs: &[OrderPair]) -> Result<usize, Allo
     Ok(known)
 }
 
-/// Appends the pairs that an item of a problem states.
-fn add_pairs_under(item: &Form, pairs: &mut Vec<OrderPair>) -> Result<(), AllocError>
-    ensures { OnOk result (pairs.new.items ≡ pairs.old.items ++ pairs_of_item (view item.now)) }
-{
-    let Some(list) = headed(item) else {
-        return Ok(());
-    };
-    match item_head(list.head) {
-        ItemHead::Precedes => add_pairs(list.items, pairs),
-        _ => Ok(()),
-    }
-}
-
 /// Of the pairs that these items of a problem state: how many, from the first on, were seen to have no cycle.
 pub(crate) fn stated_without_cycle(alloc: Global, items: &[Form]) -> Result<usize, AllocError>
     ensures { IfOk result (λ n. IsAcyclicUpTo n (pairs_stated (map view items.now))) }
 {
-    let mut pairs = Vec::new(alloc);
-    for item in items {
-        add_pairs_under(item, &mut pairs)?;
-    }
+    let pairs = pairs_of(alloc, items)?;
     count_without_cycle(alloc, &pairs)
 }

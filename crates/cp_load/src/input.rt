@@ -8,13 +8,10 @@ use cp_sexpr::Form;
 use cp_skel::{Protocol, Skeleton};
 use std::rc::Rc;
 
-/// A problem: its protocol, how many of its skeleton's variables it declares, and its skeleton, which maps to itself.
-/// The variables after the declared ones were made for its strands.
+/// Well-formed input: its forms in order, each with what it states.
 #[derive(Drop)]
-pub struct Problem {
-    pub protocol: Rc<Protocol>,
-    pub declared: usize,
-    pub skeleton: Skeleton,
+pub struct Input<'a> {
+    pub entries: Vec<Entry<'a>>,
 }
 
 /// A form of well-formed input, with what it states: nothing, a protocol, or a problem.
@@ -46,8 +43,11 @@ impl<'a> Entry<'a> {
     }
 }
 
-/// Well-formed input: its forms in order, each with what it states.
+/// A problem: its protocol, how many of its skeleton's variables it declares, and its skeleton, which maps to itself.
+/// The variables after the declared ones were made for its strands.
 #[derive(Drop)]
-pub struct Input<'a> {
-    pub entries: Vec<Entry<'a>>,
+pub struct Problem {
+    pub protocol: Rc<Protocol>,
+    pub declared: usize,
+    pub skeleton: Skeleton,
 }

@@ -11,7 +11,7 @@ ghost use Rattle.cp_roles.specs.Above.{protocols_view, names_of_protocols, turne
 ghost use Rattle.cp_scope.specs.FirstFault.{first_onto};
 ghost use Rattle.cp_load.specs.UncheckedProblems.{unchecked_entry_view};
 ghost use Rattle.cp_load.specs.Inputs.{input_entries};
-ghost use Rattle.cp_load.specs.declared.error.LoadError.TheVariants.{Refused};
+ghost use Rattle.cp_sexpr.specs.declared.error.OrMemory.TheVariants.{Refused};
 
 use crate::error::LoadError;
 use crate::input::Input;
@@ -72,12 +72,12 @@ pub fn top_form<'a>(
     };
     match top_head(list.head) {
         TopHead::Protocol => {
-            let protocol = add_protocol(alloc, above, names, place, list.items, first)?;
-            return Ok(UncheckedEntry::Protocol(form, protocol));
+            let protocol = add_protocol(alloc, above, names, place, list.items, first);
+            return protocol.map(|protocol| UncheckedEntry::Protocol(form, protocol));
         }
         TopHead::Problem => {
-            let problem = problem_of(alloc, above, place, list.items, first)?;
-            return Ok(UncheckedEntry::Problem(form, problem));
+            let problem = problem_of(alloc, above, place, list.items, first);
+            return problem.map(|problem| UncheckedEntry::Problem(form, problem));
         }
         TopHead::Free => {}
         TopHead::OutOfProfile => first.note(place, Code::OutOfProfile),

@@ -1,17 +1,20 @@
 // The pairs that order the nodes of problems.
-ghost use Rattle.std.specs.Prelude.{◌≡◌, ◌++◌, map, option_map, OnOk};
+ghost use Rattle.std.specs.Prelude.{◌≡◌, ◌++◌, map, option_map, IfOk, OnOk};
 ghost use Rattle.std.specs.Option.{option_to_list};
 ghost use Rattle.cp_sexpr.specs.View.{view};
-ghost use Rattle.cp_language.specs.Problems.{option_node, on_one_strand, pair_of, pairs_in, is_some_transmission, is_some_reception, direction_faults};
+ghost use Rattle.cp_language.specs.Roles.{headed, item_or_none, forms_under};
+ghost use Rattle.cp_language.specs.Problems.{option_node, on_one_strand, pair_of, pairs_in, is_precedes_item, is_some_transmission, is_some_reception, direction_faults};
 ghost use Rattle.cp_model.specs.Skeleton.{term_event_at};
 ghost use Rattle.cp_scope.specs.FirstFault.{first_onto};
 
 use crate::nodes::{Direction, node_direction, node_of};
 use cp_base::Code;
-use cp_scope::{FirstFault, item_at, list_items, place_of};
+use cp_scope::{
+    FirstFault, ItemHead, headed, item_at, item_head, items_behind, list_items, place_of,
+};
 use cp_sexpr::Form;
 use cp_skel::{Node, OrderPair, Strand};
-use std::alloc::AllocError;
+use std::alloc::{AllocError, Global};
 
 /// The node that a form states, if there is a form and it states one.
 pub fn node_if_there(form: Option<&Form>) -> Option<Node>
@@ -67,6 +70,29 @@ pub fn add_pairs(forms: &[Form], pairs: &mut Vec<OrderPair>) -> Result<(), Alloc
         add_pair(pair_of(form), pairs)?;
     }
     Ok(())
+}
+
+/// Whether an item orders nodes.
+fn is_precedes(form: &Form) -> bool
+    ensures { result ≡ is_precedes_item (item_or_none (headed (view form.now))) }
+{
+    match headed(form) {
+        Some(list) => matches!(item_head(list.head), ItemHead::Precedes),
+        None => false,
+    }
+}
+
+/// The pairs that these items of a problem state.
+pub(crate) fn pairs_of(alloc: Global, body: &[Form]) -> Result<Vec<OrderPair>, AllocError>
+    ensures { IfOk result (λ v. v.items ≡ pairs_in (forms_under is_precedes_item (map view body.now))) }
+{
+    let mut pairs = Vec::new(alloc);
+    for item in body {
+        if is_precedes(item) {
+            add_pairs(items_behind(item), &mut pairs)?;
+        }
+    }
+    Ok(pairs)
 }
 
 /// Whether the event at a node is a transmission.

@@ -20,28 +20,25 @@ struct Edge {
     to: usize,
 }
 
-/// For each node the numbers of those to which edges lead, and how many edges lead to it from nodes without a rank.
-#[derive(Drop)]
-struct Graph {
-    next: Vec<Vec<usize>>,
-    waiting: Vec<usize>,
-}
-
 /// The ends of the pairs, strand by strand, by their indices.
 fn ends_of(alloc: Global, pairs: &[OrderPair]) -> Result<Vec<End>, AllocError> {
-    let mut ends = Vec::new(alloc);
-    for (number, pair) in pairs.iter().enumerate() {
-        ends.push(End {
-            node: pair.earlier,
-            pair: number,
-            is_later: false,
-        })?;
-        ends.push(End {
-            node: pair.later,
-            pair: number,
-            is_later: true,
-        })?;
-    }
+    let mut ends: Vec<End> = pairs
+        .iter()
+        .enumerate()
+        .flat_map(|(pair, nodes)| {
+            let earlier = End {
+                node: nodes.earlier,
+                pair,
+                is_later: false,
+            };
+            let later = End {
+                node: nodes.later,
+                pair,
+                is_later: true,
+            };
+            [earlier, later]
+        })
+        .collect(alloc)?;
     ends.sort_by_key(|end| (end.node.strand, end.node.index))?;
     Ok(ends)
 }
@@ -81,65 +78,55 @@ fn edges_of(alloc: Global, count: usize, ends: &[End]) -> Result<Vec<Edge>, Allo
     Ok(edges)
 }
 
-/// Adds an edge to a graph.
-fn add_edge(graph: &mut Graph, edge: Edge) -> Result<(), AllocError> {
-    if let Some(waiting) = graph.waiting.get_mut(edge.to) {
-        *waiting = waiting.saturating_add(1);
-    }
-    if let Some(next) = graph.next.get_mut(edge.from) {
-        next.push(edge.to)?;
-    }
-    Ok(())
+/// The edges that lead from a node, among edges in the order of the nodes from which they lead.
+fn edges_from(edges: &[Edge], number: usize) -> &[Edge] {
+    let start = edges.partition_point(|edge| edge.from < number);
+    let end = edges.partition_point(|edge| edge.from <= number);
+    edges.get(start..end).unwrap_or(&[])
 }
 
-/// The graph with these edges, whose numbers are below `count`.
-fn graph_of(alloc: Global, count: usize, edges: &[Edge]) -> Result<Graph, AllocError> {
-    let mut graph = Graph {
-        next: Vec::new(alloc),
-        waiting: vec![in alloc; 0; count]?,
-    };
-    for _ in 0..count {
-        graph.next.push(Vec::new(alloc))?;
-    }
+/// For each of so many nodes, how many edges lead to it.
+fn counts_to(alloc: Global, count: usize, edges: &[Edge]) -> Result<Vec<usize>, AllocError> {
+    let mut counts: Vec<usize> = vec![in alloc; 0; count]?;
     for edge in edges {
-        add_edge(&mut graph, *edge)?;
-    }
-    Ok(graph)
-}
-
-/// The numbers that wait for no edge.
-fn ready_at_first(alloc: Global, waiting: &[usize]) -> Result<Vec<usize>, AllocError> {
-    let mut ready = Vec::new(alloc);
-    for (number, count) in waiting.iter().enumerate() {
-        if *count == 0 {
-            ready.push(number)?;
+        if let Some(count) = counts.get_mut(edge.to) {
+            *count = count.saturating_add(1);
         }
     }
-    Ok(ready)
+    Ok(counts)
 }
 
-/// Counts one edge less to each of these numbers; those with none left become ready.
+/// Counts one edge less to each node to which these lead; those with none left become ready.
 fn release(
-    next: &[usize],
+    edges: &[Edge],
     waiting: &mut [usize],
     ready: &mut Vec<usize>,
 ) -> Result<(), AllocError> {
-    for number in next {
-        if let Some(count) = waiting.get_mut(*number) {
+    for edge in edges {
+        if let Some(count) = waiting.get_mut(edge.to) {
             *count = count.saturating_sub(1);
             if *count == 0 {
-                ready.push(*number)?;
+                ready.push(edge.to)?;
             }
         }
     }
     Ok(())
 }
 
-/// The ranks of the numbers of a graph, which rise along its edges; `None` if there is a cycle.
-fn ranks_in(alloc: Global, graph: Graph) -> Result<Option<Vec<usize>>, AllocError> {
-    let Graph { next, mut waiting } = graph;
-    let count = waiting.len();
-    let mut ready = ready_at_first(alloc, &waiting)?;
+/// The ranks of so many nodes, which rise along the edges between them; `None` if there is a cycle.
+fn ranks_in(
+    alloc: Global,
+    count: usize,
+    mut edges: Vec<Edge>,
+) -> Result<Option<Vec<usize>>, AllocError> {
+    edges.sort_by_key(|edge| edge.from)?;
+    let mut waiting = counts_to(alloc, count, &edges)?;
+    let mut ready: Vec<usize> = waiting
+        .iter()
+        .enumerate()
+        .filter(|(_, count)| **count == 0)
+        .map(|(number, _)| number)
+        .collect(alloc)?;
     let mut ranks = vec![in alloc; 0; count]?;
     for rank in 0..count {
         let Some(number) = ready.pop() else {
@@ -148,17 +135,15 @@ fn ranks_in(alloc: Global, graph: Graph) -> Result<Option<Vec<usize>>, AllocErro
         if let Some(entry) = ranks.get_mut(number) {
             *entry = rank;
         }
-        if let Some(next) = next.get(number) {
-            release(next, &mut waiting, &mut ready)?;
-        }
+        release(edges_from(&edges, number), &mut waiting, &mut ready)?;
     }
     Ok(Some(ranks))
 }
 
-/// The rank of the node at which the edge with this number begins.
-fn rank_of(edges: &[Edge], ranks: &[usize], number: usize) -> usize {
-    match edges.get(number) {
-        Some(edge) => ranks.get(edge.from).copied().unwrap_or(0),
+/// The rank of the node with the number at this place.
+fn rank_at(numbers: &[usize], ranks: &[usize], place: usize) -> usize {
+    match numbers.get(place) {
+        Some(number) => ranks.get(*number).copied().unwrap_or(0),
         None => 0,
     }
 }
@@ -170,12 +155,12 @@ pub(crate) fn ranks_of(alloc: Global, pairs: &[OrderPair]) -> Result<Option<Vec<
 {
     let ends = ends_of(alloc, pairs)?;
     let edges = edges_of(alloc, pairs.len(), &ends)?;
-    let Some(ranks) = ranks_in(alloc, graph_of(alloc, ends.len(), &edges)?)? else {
+    let numbers: Vec<usize> = edges.iter().map(|edge| edge.from).collect(alloc)?;
+    let Some(ranks) = ranks_in(alloc, ends.len(), edges)? else {
         return Ok(None);
     };
-    let mut of_pairs = Vec::new(alloc);
-    for (number, _) in pairs.iter().enumerate() {
-        of_pairs.push(rank_of(&edges, &ranks, number))?;
-    }
-    Ok(Some(of_pairs))
+    (0..pairs.len())
+        .map(|place| rank_at(&numbers, &ranks, place))
+        .collect(alloc)
+        .map(Some)
 }

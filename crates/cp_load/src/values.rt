@@ -3,24 +3,22 @@ ghost use Rattle.std.specs.Prelude.{◌≡◌, [], map, IfOk, OnOk};
 ghost use Rattle.cp_model.specs.Problem.{numbers_from, variable_terms};
 ghost use Rattle.cp_sexpr.specs.View.{view};
 ghost use Rattle.cp_model.specs.Given.{atoms_onto, uniques_onto};
-ghost use Rattle.cp_language.specs.Problems.{unique_faults, own_uniques, own_assumptions, is_precedes_item, pairs_in, own_skeleton};
-ghost use Rattle.cp_language.specs.Roles.{headed, item_or_none, atoms_in, forms_under, is_unique_item};
+ghost use Rattle.cp_language.specs.Problems.{unique_faults, own_uniques, own_assumptions, own_skeleton};
+ghost use Rattle.cp_language.specs.Roles.{atoms_in, forms_under, is_unique_item};
 ghost use Rattle.cp_scope.specs.FirstFault.{first_onto};
 ghost use Rattle.cp_load.specs.UncheckedProblems.{skeleton_unchecked};
 ghost use Rattle.cp_scope.specs.Kinds.{is_of_kind};
 
-use crate::pairs::add_pairs;
+use crate::pairs::pairs_of;
 use crate::unchecked_problems::UncheckedSkeleton;
 use crate::unique_origins::{add_own_uniques, originates};
 use cp_base::Code;
 use cp_scope::{
-    FirstFault, ItemHead, Kind, Variable, atom_faults, atom_of, atoms_of, headed, item_head,
-    items_behind, place_of, variable_term,
+    FirstFault, Kind, Variable, atom_faults, atom_of, atoms_of, place_of, variable_term,
 };
 use cp_sexpr::Form;
 use cp_skel::{
-    Assumptions, Atom, Declaration, FromProblem, Order, OrderPair, Strand, UniqueAt, add_atoms,
-    add_given,
+    Assumptions, Atom, Declaration, FromProblem, Order, Strand, UniqueAt, add_atoms, add_given,
 };
 use cp_term::{Term, VarTable};
 use std::alloc::{AllocError, Global};
@@ -89,29 +87,6 @@ fn own_assumptions(
         own_atoms(alloc, declared, Kind::PenetratorNon, body)?,
         own_uniques(alloc, declared, strands, body)?,
     ))
-}
-
-/// Whether an item orders nodes.
-fn is_precedes(form: &Form) -> bool
-    ensures { result ≡ is_precedes_item (item_or_none (headed (view form.now))) }
-{
-    match headed(form) {
-        Some(list) => matches!(item_head(list.head), ItemHead::Precedes),
-        None => false,
-    }
-}
-
-/// The pairs that these items of a problem state.
-fn pairs_of(alloc: Global, body: &[Form]) -> Result<Vec<OrderPair>, AllocError>
-    ensures { IfOk result (λ v. v.items ≡ pairs_in (forms_under is_precedes_item (map view body.now))) }
-{
-    let mut pairs = Vec::new(alloc);
-    for item in body {
-        if is_precedes(item) {
-            add_pairs(items_behind(item), &mut pairs)?;
-        }
-    }
-    Ok(pairs)
 }
 
 /// The numbers of these strands.

@@ -1,5 +1,5 @@
 -- What lists of terms and bindings give variables.
-use Rattle.std.proofs.Common.{◌≡◌, ◌<◌, ◌+◌, ◌==◌, ◌&&◌, ℕ, zero, suc, Bool, true, false, List, [], ◌∷◌, Some, refl, ap, ap₂, ◌∙◌, subst, arith}
+use Rattle.std.proofs.Common.{◌≡◌, ◌<◌, ◌+◌, ◌==◌, ◌&&◌, ℕ, zero, suc, Bool, true, false, List, [], ◌∷◌, Some, refl, sym, ap, ap₂, ◌∙◌, subst, arith}
 use Rattle.std.proofs.lemmas.Bool.{and_from, both_ways, eq-eqb}
 use Rattle.std.specs.Prelude.{Option}
 use Rattle.cp_lists.specs.Lists.{item_at, IsIn, here, there}
@@ -64,12 +64,20 @@ by_bindings s (y ∷ ys) x (there i) = more_bound s (as_substitution (bindings_b
 -- ---- bindings by the numbers of a list
 
 -- What a list gives a variable whose term it has at the variable's number, or has not.
-abbrev value_in : Sort → ℕ → Option Term → Term
+abbrev pub value_in : Sort → ℕ → Option Term → Term
 value_in text_sort n o = atom_term (text_variable (text_in n o))
 value_in datum_sort n o = atom_term (datum_variable (datum_in n o))
 value_in name_sort n o = atom_term (name_variable (name_in n o))
 value_in skey_sort n o = atom_term (key_term (symmetric_term (skey_in n o)))
 value_in akey_sort n o = atom_term (key_term (asymmetric_term (akey_in n o).0 (akey_in n o).1))
+
+-- The substitution by a list gives a variable that.
+pub by_number : (ts : List Term) (sort : Sort) (n : ℕ) → apply_to (substitution_by ts) (variable_term (record { sort = sort; number = n })) ≡ value_in sort n (item_at ts n)
+by_number ts text_sort n = refl
+by_number ts datum_sort n = refl
+by_number ts name_sort n = refl
+by_number ts skey_sort n = refl
+by_number ts akey_sort n = refl
 
 -- A binding leaves the variables of other numbers.
 elsewhere : (t : Term) (bound : Sort) (n : ℕ) (r : Substitution) (sort : Sort) (m : ℕ) → (m ≡ n → ⊥) →
@@ -184,11 +192,4 @@ same_substitution s r h = λ i. record {
 
 -- The bindings of the terms of a list by their places are the substitution by the list.
 pub bindings_are : (ts : List Term) → as_substitution (bindings_of ts) ≡ substitution_by ts
-bindings_are ts = same_substitution (as_substitution (bindings_of ts)) (substitution_by ts) (λ sort n. at_number ts 0 n sort n (let same : n ≡ 0 + n = omega arith in same) ∙ given sort n)
-  where
-    given : (sort : Sort) (n : ℕ) → value_in sort n (item_at ts n) ≡ apply_to (substitution_by ts) (variable_term (record { sort = sort; number = n }))
-    given text_sort n = refl
-    given datum_sort n = refl
-    given name_sort n = refl
-    given skey_sort n = refl
-    given akey_sort n = refl
+bindings_are ts = same_substitution (as_substitution (bindings_of ts)) (substitution_by ts) (λ sort n. at_number ts 0 n sort n (let same : n ≡ 0 + n = omega arith in same) ∙ sym (by_number ts sort n))

@@ -38,6 +38,10 @@ pub data Term : Type 0 where
   pair_term : Term → Term → Term
   enc_term : Term → KeyTerm → Term
 
+-- A key as a term.
+abbrev pub key_as_term : KeyTerm → Term
+key_as_term k = atom_term (key_term k)
+
 abbrev pub inverse_term : KeyTerm → KeyTerm
 inverse_term (symmetric_term k) = symmetric_term k
 inverse_term (asymmetric_term flag k) = asymmetric_term (not flag) k

@@ -4,6 +4,7 @@ ghost use Rattle.std.specs.Option.{option_map, option_and_then};
 ghost use Rattle.cp_lists.specs.Lists.{item_at};
 ghost use Rattle.cp_model.specs.RunView.{trace_view, event_in, link_in, sender_in, row_view};
 
+use crate::lists::item_at;
 use crate::message::Msg;
 use crate::node::Node;
 use crate::strand::{Event, Strand};
@@ -24,19 +25,12 @@ pub struct Bundle {
     pub order: Vec<Node>,
 }
 
-/// The event at an index, from 0.
-fn event_on(events: &[Event<Msg>], place: usize) -> Option<&Event<Msg>>
-    ensures { option_map (λ e. e.now) result ≡ item_at events.now place }
-{
-    events.get(place)
-}
-
 /// The event at a node, if there is one.
 pub(crate) fn event_at(strands: &[Strand], node: Node) -> Option<&Event<Msg>>
     ensures { option_map (λ e. e.now) result ≡ event_in (map trace_view strands.now) node }
 {
     match strands.get(node.strand) {
-        Some(strand) => event_on(&strand.events, node.index),
+        Some(strand) => item_at(&strand.events, node.index),
         None => None,
     }
 }

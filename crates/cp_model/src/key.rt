@@ -73,12 +73,9 @@ impl Key {
             None => Ok(Key {
                 kind: KeyKind::Pubk(false, None, name),
             }),
-            Some(text) => {
-                let text = Text::new(alloc, text)?;
-                Ok(Key {
-                    kind: KeyKind::Pubk(false, Some(text), name),
-                })
-            }
+            Some(text) => Text::new(alloc, text).map(|text| Key {
+                kind: KeyKind::Pubk(false, Some(text), name),
+            }),
         }
     }
 

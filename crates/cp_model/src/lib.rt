@@ -28,7 +28,7 @@ pub use laws::{
     before_is_leading_to_another, embeddings_compose, embeds_in_itself, homomorphism_then_standing,
     origin_at_or_before, run_makes_a_bundle, value_after_substitution,
 };
-pub use lists::{Nodes, Numbers};
+pub use lists::{Nodes, Numbers, Sequence, item_at};
 pub use message::Msg;
 pub use node::{Node, OrderPair};
 pub use origin::origin_before;

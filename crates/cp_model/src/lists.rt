@@ -1,102 +1,80 @@
-// Lists of nodes and of numbers. Contracts see them as lists.
-ghost use Rattle.std.specs.Prelude.{◌≡◌, [], ◌∷◌, ◌++◌, IfOk, OnOk, OnErr};
+// Lists that contracts see as lists: of nodes, of numbers, and of whatever else a field holds several of.
+ghost use Rattle.std.specs.Prelude.{◌≡◌, [], ◌∷◌, ◌++◌, option_map, IfOk, OnOk, OnErr};
+ghost use Rattle.cp_lists.specs.Lists.{item_at};
 
 use crate::node::Node;
 use std::alloc::{AllocError, Global};
 use std::marker::Model;
 
-/// Nodes, in order. Contracts see their list.
+/// Items, in order. Contracts see their list.
 #[derive(Drop)]
-pub struct Nodes {
-    items: Vec<Node>,
+pub struct Sequence<T: Drop> {
+    items: Vec<T>,
 }
 
-impl Model for Nodes {
+impl<T: Drop> Model for Sequence<T> {
     ghost use Rattle.std.specs.Prelude.{List};
-    ghost use Rattle.cp_model.specs.declared.node.Node.{Node as Plain};
+    ghost use Rattle.std.specs.Coded.{coded_list};
 
-    ghost Value = { List Plain };
+    ghost Value = { List T };
 
-    ghost view = { λ n. n.items.items };
+    ghost coded = { coded_list T.code };
+
+    ghost view = { λ s. s.items.items };
 }
 
-impl Nodes {
-    /// No nodes.
-    pub fn new(alloc: Global) -> Nodes
+/// The item with this number, from 0, if there is one.
+pub fn item_at<T>(items: &[T], number: usize) -> Option<&T>
+    ensures { option_map (λ x. x.now) result ≡ item_at items.now number }
+{
+    items.get(number)
+}
+
+/// Nodes, in order.
+pub type Nodes = Sequence<Node>;
+
+/// Numbers of strands or of labels, in order.
+pub type Numbers = Sequence<usize>;
+
+impl<T: Drop> Sequence<T> {
+    /// No items.
+    pub fn new(alloc: Global) -> Sequence<T>
         ensures { result ≡ [] }
     {
-        Nodes {
+        Sequence {
             items: Vec::new(alloc),
         }
     }
 
-    /// These nodes.
-    pub fn of(items: Vec<Node>) -> Nodes
+    /// These items.
+    pub fn of(items: Vec<T>) -> Sequence<T>
         ensures { result ≡ items.items }
     {
-        Nodes { items }
+        Sequence { items }
     }
 
-    /// The nodes.
-    pub fn as_slice(&self) -> &[Node]
-        ensures { result.now ≡ self.now }
-    {
-        self.items.as_slice()
-    }
-}
-
-/// Numbers of strands or of labels, in order. Contracts see their list.
-#[derive(Drop)]
-pub struct Numbers {
-    items: Vec<usize>,
-}
-
-impl Model for Numbers {
-    ghost use Rattle.std.specs.Prelude.{List, ℕ};
-
-    ghost Value = { List ℕ };
-
-    ghost view = { λ n. n.items.items };
-}
-
-impl Numbers {
-    /// No numbers.
-    pub fn new(alloc: Global) -> Numbers
-        ensures { result ≡ [] }
-    {
-        Numbers {
-            items: Vec::new(alloc),
-        }
-    }
-
-    /// These numbers.
-    pub fn of(items: Vec<usize>) -> Numbers
-        ensures { result ≡ items.items }
-    {
-        Numbers { items }
-    }
-
-    /// Appends a number. On an error nothing is added.
-    pub fn push(&mut self, number: usize) -> Result<(), AllocError>
-        ensures ok { OnOk result (self.new ≡ self.old ++ number ∷ []) }
+    /// Appends an item. On an error nothing is added.
+    pub fn push(&mut self, item: T) -> Result<(), AllocError>
+        ensures ok { OnOk result (self.new ≡ self.old ++ item ∷ []) }
         ensures err { OnErr result (self.new ≡ self.old) }
     {
-        self.items.push(number)?;
+        self.items.push(item)?;
         Ok(())
     }
 
-    /// The numbers.
-    pub fn as_slice(&self) -> &[usize]
+    /// The items.
+    pub fn as_slice(&self) -> &[T]
         ensures { result.now ≡ self.now }
     {
         self.items.as_slice()
     }
+}
 
-    /// The same numbers.
-    pub fn copy(&self) -> Result<Numbers, AllocError>
-        ensures { IfOk result (λ n. n ≡ self.now) }
+impl<T: Copy + Drop> Sequence<T> {
+    /// The same items.
+    pub fn copy(&self) -> Result<Sequence<T>, AllocError>
+        ensures { IfOk result (λ s. s ≡ self.now) }
     {
-        let items = Vec::from_slice(*self.items.allocator(), self.items.as_slice())?;
-        Ok(Numbers { items })
+        Vec::from_slice(*self.items.allocator(), &self.items).map(Sequence::of)
     }
 }

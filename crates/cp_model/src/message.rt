@@ -91,8 +91,7 @@ impl Msg {
     pub fn copy(&self) -> Result<Msg, AllocError>
         ensures { IfOk result (λ m. m ≡ self.now) }
     {
-        let node = self.node.clone()?;
-        Ok(Msg { node })
+        self.node.clone().map(|node| Msg { node })
     }
 
     /// The tag with this text.

@@ -37,20 +37,18 @@ impl Event<Msg> {
         ensures { IfOk result (λ e. e ≡ self.now) }
     {
         match self {
-            Event::Send(message) => Ok(Event::Send(message.copy()?)),
-            Event::Receive(message) => Ok(Event::Receive(message.copy()?)),
+            Event::Send(message) => message.copy().map(Event::Send),
+            Event::Receive(message) => message.copy().map(Event::Receive),
         }
     }
 }
 
-fn copy_events(alloc: Global, events: &[Event<Msg>]) -> Result<Vec<Event<Msg>>, AllocError>
-    ensures { IfOk result (λ v. v.items ≡ events.now) }
-{
-    let mut copies = Vec::new(alloc);
-    for event in events {
-        copies.push(event.copy()?)?;
+impl Clone for Event<Msg> {
+    ghost is_clone = { λ a b. b ≡ a };
+
+    fn clone(&self) -> Result<Event<Msg>, AllocError> {
+        self.copy()
     }
-    Ok(copies)
 }
 
 impl Strand {
@@ -58,8 +56,7 @@ impl Strand {
     pub fn copy(&self, alloc: Global) -> Result<Strand, AllocError>
         ensures { IfOk result (λ s. trace_view s ≡ trace_view self.now) }
     {
-        let events = copy_events(alloc, &self.events)?;
-        Ok(Strand { events })
+        Vec::from_clones(alloc, &self.events).map(|events| Strand { events })
     }
 }
 
@@ -67,9 +64,8 @@ impl Strand {
 pub(crate) fn copy_strands(alloc: Global, strands: &[Strand]) -> Result<Vec<Strand>, AllocError>
     ensures { IfOk result (λ v. map trace_view v.items ≡ map trace_view strands.now) }
 {
-    let mut copies = Vec::new(alloc);
-    for strand in strands {
-        copies.push(strand.copy(alloc)?)?;
-    }
-    Ok(copies)
+    strands
+        .iter()
+        .map(|strand| strand.copy(alloc))
+        .try_collect(alloc)
 }

@@ -1,22 +1,13 @@
 // Flags for the variables that occur.
 ghost use Rattle.std.specs.Prelude.{◌≡◌, length, get_or, replicate, false, IfOk};
-ghost use Rattle.cp_model.specs.Same.{same_sort};
 ghost use Rattle.cp_model.specs.Strand.{variables_of_prefix};
 ghost use Rattle.cp_lists.specs.Lists.{item_at};
 ghost use Rattle.cp_names.specs.Flags.{flagged_variables, is_declared_of_sort, met_variables, AreFlagsAmong};
 
 use crate::occurrences::add_events;
-use cp_scope::Variable;
+use cp_scope::{Variable, is_same_sort};
 use cp_strand::{Declaration, Role, prefix_of};
-use cp_term::Sort;
 use std::alloc::{AllocError, Global};
-
-/// Whether the sorts are the same.
-pub fn is_same_sort(first: Sort, second: Sort) -> bool
-    ensures { result ≡ same_sort first second }
-{
-    first == second
-}
 
 /// For each number below the count whether a variable with that number is among these.
 pub(crate) fn flags_of(

@@ -7,9 +7,9 @@ ghost use Rattle.cp_names.specs.Flags.{AreFlagsOf};
 use crate::flags::flags_of;
 use crate::locals::add_patterns;
 use crate::names::{declarations, label_names};
-use crate::occurrences::{add_assumptions, add_strands, add_term, add_terms};
+use crate::occurrences::{add_events, add_term};
 use cp_scope::Variable;
-use cp_skel::{Declaration, Label, Test};
+use cp_skel::{Declaration, Label, Test, used_terms};
 use cp_term::Text;
 use std::alloc::{AllocError, Global};
 
@@ -30,11 +30,9 @@ const ROOM: usize = 60;
 fn occurring(alloc: Global, label: &Label) -> Result<Vec<Variable>, AllocError>
     ensures { IfOk result (λ xs. xs.items ≡ occurring label.now) }
 {
-    let skeleton = &label.skeleton;
+    let used = used_terms(alloc, &label.skeleton)?;
     let mut variables = Vec::with_capacity(alloc, ROOM)?;
-    add_strands(alloc, skeleton.strands(), &mut variables)?;
-    add_assumptions(skeleton.assumptions(), &mut variables)?;
-    add_terms(skeleton.from_problem().values(), &mut variables)?;
+    add_events(&used, &mut variables)?;
     add_test_variables(&label.test, &mut variables)?;
     add_patterns(alloc, label.escape.as_slice(), &mut variables)?;
     Ok(variables)

@@ -1,6 +1,6 @@
 // The names of variables in a report.
 ghost use Rattle.std.specs.Prelude.{◌≡◌, ◌++◌, [], ◌∷◌, IfOk, OnOk, if◌then◌else◌};
-ghost use Rattle.cp_language.specs.Names.{numbered_name, free_name, identifiers_in, names_onto, problem_names};
+ghost use Rattle.cp_language.specs.Names.{numbered_name, free_name, identifiers_in, problem_names};
 ghost use Rattle.cp_names.specs.Flags.{label_names_by};
 
 use crate::flags::is_flagged;
@@ -65,8 +65,7 @@ fn give(alloc: Global, name: Text, names: &mut Names) -> Result<(), AllocError>
 {
     let copy = Text::new(alloc, name.as_str())?;
     names.taken.push(alloc, copy)?;
-    names.names.push(name)?;
-    Ok(())
+    names.names.push(name).map_err(AllocError::from)
 }
 
 /// The identifiers of these variables, all of which are taken.
@@ -146,8 +145,7 @@ fn give_later(
         give(alloc, name, names)
     } else {
         let name = Text::new(alloc, "")?;
-        names.names.push(name)?;
-        Ok(())
+        names.names.push(name).map_err(AllocError::from)
     }
 }
 

@@ -1,5 +1,5 @@
 -- The loop that makes the branches of a skeleton, and what they are.
-use Rattle.std.proofs.Common.{◌≡◌, ◌⊎◌, inl, inr, ℕ, ◌+◌, ◌<◌, List, [], ◌∷◌, ◌++◌, length, get_or, take, map, sym, ap, ◌∙◌, subst}
+use Rattle.std.proofs.Common.{◌≡◌, ◌⊎◌, inl, inr, ℕ, ◌+◌, ◌<◌, List, [], ◌∷◌, ◌++◌, length, get_or, take, map, refl, sym, ap, ◌∙◌, subst}
 use Rattle.std.proofs.lemmas.List.{take_more, map-append}
 use Rattle.cp_lists.specs.Lists.{IsIn, here, there}
 use Rattle.cp_model.specs.Term.{AtomTerm, Term, atom_term, Substitution, apply_to}
@@ -10,6 +10,9 @@ use Rattle.cp_unify.specs.Bindings.{Binding, as_substitution}
 use Rattle.cp_unify.specs.Unifiers.{IsMostGeneralUnifier, HasNoUnifier}
 use Rattle.cp_collapse.specs.SameSkeletons.{SaysTheSame}
 use Rattle.cp_collapse.specs.Directed.{IsMostGeneralFor}
+use Rattle.cp_normal.specs.declared.rewriting.Candidate.{Candidate}
+use Rattle.cp_normal.specs.declared.rewriting.Candidate.TheVariants.{Open}
+use Rattle.cp_normal.specs.Candidates.{AreOpenBranches}
 use Rattle.cp_normal.specs.declared.form.Form.{Form}
 use Rattle.cp_normal.specs.Branches.{NeverEqualAtoms, HasBranch}
 use Rattle.cp_normal.specs.Branched.{AreInOrder, no_atoms, never_equal_to, unified_with, IsBranch, AreBranchesOf}
@@ -82,6 +85,24 @@ module _ (k : Form) (v : AtomTerm) where
 
       pub branch_added : (new : List Form) → new ≡ ls ++ l ∷ [] → AreBranchesOf k v (take (i + 1) xs) new
       branch_added new e = subst (λ ms. AreBranchesOf k v (take (i + 1) xs) ms) (sym e) (subst (λ ys. AreBranchesOf k v ys (ls ++ l ∷ [])) (sym taken) added_with)
+
+-- The same of candidates.
+module _ (k : Form) (v : AtomTerm) where
+  pub none_open_yet : (cs : List (Candidate Form Form)) → cs ≡ [] → AreOpenBranches k v [] cs
+  none_open_yet cs e = record { branches = []; all_open = e; are = none_yet k v [] refl }
+
+  module _ (xs : List AtomTerm) (i : ℕ) (a : AtomTerm) (lt : i < length xs) (is : a ≡ get_or xs i a) (cs : List (Candidate Form Form)) (so_far : AreOpenBranches k v (take i xs) cs) where
+    pub skipped_open : HasNoUnifier (atom_term v) (atom_term a) [] → AreOpenBranches k v (take (i + 1) xs) cs
+    skipped_open never = record { branches = so_far.branches; all_open = so_far.all_open; are = skipped k v xs i a lt is so_far.branches so_far.are never }
+
+    pub open_added : (r : List Binding) (l : Form) → IsMostGeneralUnifier (atom_term v) (atom_term a) [] r → SaysTheSame (skeleton_under (as_substitution r) k.skeleton) l.skeleton → l.skeleton.variables ≡ k.skeleton.variables →
+        ((t : Term) → apply_to (as_substitution l.substitution) t ≡ apply_to (as_substitution r) (apply_to (as_substitution k.substitution) t)) → (new : List (Candidate Form Form)) → new ≡ cs ++ Open l ∷ [] →
+        AreOpenBranches k v (take (i + 1) xs) new
+    open_added r l m same variables followed new e = record {
+      branches = so_far.branches ++ l ∷ [];
+      all_open = e ∙ ap (λ (ds : List (Candidate Form Form)). ds ++ Open l ∷ []) so_far.all_open ∙ sym (map-append Open so_far.branches (l ∷ []));
+      are = branch_added k v xs i a lt is so_far.branches so_far.are r l m same variables followed (so_far.branches ++ l ∷ []) refl;
+    }
 
 -- ---- the answers of unification
 

@@ -65,6 +65,10 @@ module _ (k : Skeleton) (all read : List LocatedEvent) (listed : all ≡ events_
       let at : term_event_at k.strands r.0.node ≡ Some r.0.event = listed_event k r.0 r.1 in
       or.1.first r.0.node.index r.0.event r.2.1 (subst (λ (s : ℕ). item_at (skeleton_trace_or_none (item_at k.strands s)) r.0.node.index ≡ Some r.0.event) r.2.0 at) r.2.2
 
+-- The value and the node are given by equations.
+pub same_origination : (k : Skeleton) (v w : AtomTerm) (x y : Node) → v ≡ w → x ≡ y → OriginatesAtTerm k w y → OriginatesAtTerm k v x
+same_origination k v w x y same at o = subst (λ (n : Node). OriginatesAtTerm k v n) (sym at) (subst (λ (u : AtomTerm). OriginatesAtTerm k u y) (sym same) o)
+
 -- ---- a strand that is an instance
 
 pub on_instance_if : (k : Skeleton) (n : Node) (o : Option SkeletonStrand) → item_at k.strands n.strand ≡ o → is_some_instance o ≡ true → IsOnInstance k n

@@ -1,5 +1,4 @@
 pub mod AllItems
-pub mod AnyItem
 pub mod Losses
 pub mod Found
 pub mod ListLoops
@@ -22,15 +21,10 @@ pub mod WithSubstitutions
 pub mod FormSkeletons
 pub mod Homomorphic
 pub mod StatedForms
-pub mod Greatest
 pub mod Heard
 pub mod MisplacedOriginations
 pub mod BranchLists
-pub mod Exactly
-pub mod TreeOfForms
-pub mod NarrowingRounds
-pub mod Gathered
-pub mod Ranked
+pub mod NarrowingSteps
 pub mod MisplacedText
 pub mod VariablesUnder
 pub mod VariablesOfForms
@@ -39,3 +33,5 @@ pub mod FormsOf
 pub mod BySubstitution
 pub mod SameFindings
 pub mod SoundForms
+pub mod Greatest
+pub mod RewritingRounds

@@ -29,13 +29,3 @@ mutual
   pub data EachHasForms : List Skeleton → List Skeleton → Type 0 where
     no_more : EachHasForms [] []
     and_then : {k : Skeleton} {ks rs ss : List Skeleton} → HasForms k rs → EachHasForms ks ss → EachHasForms (k ∷ ks) (rs ++ ss)
-
--- The second list are the normal forms of the skeletons of the first, one after the other. One that is refuted has none;
--- else the branches of one with a misplaced unique value, by the first such value, stand in its place; else it has none
--- where it contradicts itself, and is one with its normal pairs where it does not.
-pub data HaveForms : List Skeleton → List Skeleton → Type 0 where
-  no_skeletons : HaveForms [] []
-  refuted_one : {k : Skeleton} {ks rs : List Skeleton} → IsRefuted k → HaveForms ks rs → HaveForms (k ∷ ks) rs
-  misplaced_one : {k : Skeleton} {v : AtomTerm} {x : Node} {branches ks rs : List Skeleton} → (IsRefuted k → ⊥) → IsFirstMisplaced k v x → AreInOrder k v (heard_before k x) branches → HaveForms (branches ++ ks) rs → HaveForms (k ∷ ks) rs
-  cyclic_one : {k : Skeleton} {ks rs : List Skeleton} → IsSettled k → IsContradictory k → HaveForms ks rs → HaveForms (k ∷ ks) rs
-  normal_one : {k : Skeleton} {pairs : List OrderPair} {ks rs : List Skeleton} → IsSettled k → AreNormalPairs k pairs → (IsContradictory k → ⊥) → HaveForms ks rs → HaveForms (k ∷ ks) (with_pairs k pairs ∷ rs)

@@ -11,3 +11,4 @@ pub mod Candidates
 pub mod Example
 pub mod BySubstitution
 pub mod Formed
+pub mod Leaves

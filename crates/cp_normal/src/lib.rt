@@ -1,22 +1,23 @@
 //! Normal forms of skeletons: assumptions that contradict a skeleton, narrowing where a unique value originates elsewhere than at
-//! its recorded origin, and the order pairs that unique values add. The crate exports skeletons under substitutions and collapses
+//! its recorded origin, the order pairs that unique values add, and the rewriting by which both skeletons are narrowed and releases
+//! are solved. The crate exports skeletons under substitutions and collapses
 //! too. Every call that returns `AllocError` fails only when memory runs out.
 #![tactic(auto)]
 
-mod candidates;
 mod carried_values;
 mod examples;
 mod form;
 mod forms_law;
 mod laws;
 mod misplaced_values;
+mod narrowing;
 mod normal;
 mod normal_forms;
 mod origins;
 mod own_pairs;
 mod pairs;
 mod received_atoms;
-mod settled;
+mod rewriting;
 mod unified_branches;
 mod variables_laws;
 
@@ -35,6 +36,7 @@ pub use normal_forms::{normalise, normalise_beside};
 pub use origins::{has_two_origins, loses_origin};
 pub use own_pairs::all_lead;
 pub use pairs::added_pairs;
+pub use rewriting::{Candidate, Ranking, Rewriting, leaves};
 pub use variables_laws::{
     normal_forms_have_declared_variables, substitutions_keep_declared_variables,
 };

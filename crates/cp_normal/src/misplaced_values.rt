@@ -25,59 +25,56 @@ fn originates_elsewhere(
     occurrences: &[LocatedEvent],
     occurrence: &LocatedEvent,
     unique: &UniqueAt,
-) -> Result<bool, AllocError>
+) -> bool
     requires listed { occurrences.now ≡ events_of k.now }
     requires is_there { IsIn occurrence.now (events_of k.now) }
-    ensures { IfOk result (λ found. IsTrue found ↔ OriginatesElsewhere k.now occurrence.now.node unique.now) }
+    ensures { IsTrue result ↔ OriginatesElsewhere k.now occurrence.now.node unique.now }
 {
     if occurrence.node == unique.origin() {
-        return Ok(false);
+        return false;
     }
-    if !carries_value(occurrence, unique.value()) {
-        return Ok(false);
+    let value = unique.value();
+    if !carries_value(occurrence, value) {
+        return false;
     }
-    let here = UniqueAt::new(unique.value().copy()?, occurrence.node);
-    Ok(originates(k, occurrences, &here))
+    originates(k, occurrences, value, occurrence.node)
 }
 
 /// The value of the first entry that is misplaced at this event. `occurrences` are the events of the skeleton.
-fn first_at(
+fn first_at<'a>(
     k: &Skeleton,
     occurrences: &[LocatedEvent],
     occurrence: &LocatedEvent,
-    uniques: &[UniqueAt],
-) -> Result<Option<Atom>, AllocError>
+    uniques: &'a [UniqueAt],
+) -> Option<&'a Atom>
     requires listed { occurrences.now ≡ events_of k.now }
     requires is_there { IsIn occurrence.now (events_of k.now) }
-    ensures { IfOk result (λ found. MatchOption found
+    ensures { MatchOption result
         ((u : Plain) → IsIn u uniques.now → OriginatesElsewhere k.now occurrence.now.node u → ⊥)
-        (λ v. IsFirstMisplacedAt k.now occurrence.now.node uniques.now v)) }
+        (λ v. IsFirstMisplacedAt k.now occurrence.now.node uniques.now v.now) }
 {
     for unique in uniques {
-        if originates_elsewhere(k, occurrences, occurrence, unique)? {
-            return Ok(Some(unique.value().copy()?));
+        if originates_elsewhere(k, occurrences, occurrence, unique) {
+            return Some(unique.value());
         }
     }
-    Ok(None)
+    None
 }
 
 /// Whether some unique value is misplaced. `occurrences` are the events of the skeleton.
-pub(crate) fn some_is_misplaced(
-    k: &Skeleton,
-    occurrences: &[LocatedEvent],
-) -> Result<bool, AllocError>
+pub(crate) fn some_is_misplaced(k: &Skeleton, occurrences: &[LocatedEvent]) -> bool
     requires listed { occurrences.now ≡ events_of k.now }
-    ensures none { IfOk result (λ found. found ≡ false → IsSettled k.now) }
-    ensures some { IfOk result (λ found. IsTrue found → IsSettled k.now → ⊥) }
+    ensures none { result ≡ false → IsSettled k.now }
+    ensures some { IsTrue result → IsSettled k.now → ⊥ }
 {
     let uniques = k.assumptions().uniquely_originating();
     for occurrence in occurrences {
-        match first_at(k, occurrences, occurrence, uniques)? {
-            Some(_) => return Ok(true),
+        match first_at(k, occurrences, occurrence, uniques) {
+            Some(_) => return true,
             None => {}
         }
     }
-    Ok(false)
+    false
 }
 
 /// The first unique value that is misplaced. `occurrences` are the events of the skeleton, and the unique values are listed in
@@ -94,8 +91,9 @@ fn first_among(
         (λ s. IsFirstMisplaced k.now s.value s.node)) }
 {
     for occurrence in occurrences {
-        match first_at(k, occurrences, occurrence, uniques)? {
-            Some(value) => {
+        match first_at(k, occurrences, occurrence, uniques) {
+            Some(found) => {
+                let value = found.copy()?;
                 let node = occurrence.node;
                 return Ok(Some(Misplaced { value, node }));
             }
@@ -117,7 +115,7 @@ pub(crate) fn first_misplaced(
         (IsSettled k.now)
         (λ s. IsFirstMisplaced k.now s.value s.node)) }
 {
-    if !some_is_misplaced(k, occurrences)? {
+    if !some_is_misplaced(k, occurrences) {
         return Ok(None);
     }
     let assumptions = listed(alloc, k)?;

@@ -88,7 +88,7 @@ pub fn is_normal(alloc: Global, k: &Skeleton) -> Result<bool, AllocError>
     if is_refuted(k, &occurrences) {
         return Ok(false);
     }
-    if some_is_misplaced(k, &occurrences)? {
+    if some_is_misplaced(k, &occurrences) {
         return Ok(false);
     }
     let added = pairs_among(alloc, k, &occurrences)?;

@@ -1,70 +1,21 @@
 // The normal forms of a skeleton.
-ghost use Rattle.std.specs.Prelude.{◌≡◌, [], ◌∷◌, map, IfOk, OnOk};
+ghost use Rattle.std.specs.Prelude.{◌≡◌, map, IfOk};
 ghost use Rattle.cp_lists.specs.Lists.{IsIn};
 ghost use Rattle.cp_model.specs.Skeleton.{Skeleton as Plain, IsSkeleton, Skeleton};
 ghost use Rattle.cp_model.specs.Strand.{Protocol};
 ghost use Rattle.cp_theory.specs.Normal.{LosesNoStanding};
 ghost use Rattle.cp_normal.specs.BySubstitution.{ComeBySubstitutions};
-ghost use Rattle.cp_collapse.specs.Property.{Has};
-ghost use Rattle.cp_normal.specs.Candidates.{form_in, IsUnnarrowed, PutsForm, AreFormsOfSettled};
 ghost use Rattle.cp_normal.specs.Exact.{HasForms};
 ghost use Rattle.cp_normal.specs.Formed.{AreFormsBeside};
 ghost use Rattle.cp_normal.specs.NormalForms.{IsNormalFormOf};
-ghost use Rattle.cp_normal.specs.declared.candidates.Candidate.TheVariants as variants;
 
-use crate::candidates::{Candidate, round, some_is_open};
 use crate::form::Form;
+use crate::narrowing::Narrowing;
+use crate::rewriting::leaves;
 use cp_skel::Skeleton;
 use cp_unify::Subst;
 use std::alloc::{AllocError, Global};
-
-/// Appends the normal form of a settled candidate.
-fn add_form(alloc: Global, candidate: Candidate, forms: &mut Vec<Form>) -> Result<(), AllocError>
-    requires { IsUnnarrowed candidate → ⊥ }
-    ensures { OnOk result (PutsForm (form_in candidate) forms.old.items forms.new.items) }
-{
-    match candidate {
-        Candidate::Open(_) => unreachable!(),
-        Candidate::Settled(settled) => {
-            forms.push(settled.into_normal_form(alloc)?)?;
-            Ok(())
-        }
-    }
-}
-
-/// The normal forms of settled candidates, in order.
-fn forms_of(alloc: Global, candidates: Vec<Candidate>) -> Result<Vec<Form>, AllocError>
-    requires { Has IsUnnarrowed candidates.items → ⊥ }
-    ensures { IfOk result (λ forms. AreFormsOfSettled candidates.items forms.items) }
-{
-    let mut rest = candidates;
-    rest.reverse();
-    let mut forms = Vec::with_capacity(alloc, rest.len())?;
-    while let Some(candidate) = rest.pop() {
-        add_form(alloc, candidate, &mut forms)?;
-    }
-    Ok(forms)
-}
-
-/// The list of one open candidate.
-fn alone(alloc: Global, form: Form) -> Result<Vec<Candidate>, AllocError>
-    ensures { IfOk result (λ candidates. candidates.items ≡ variants.Open form ∷ []) }
-{
-    let mut candidates = Vec::with_capacity(alloc, 1)?;
-    candidates.push(Candidate::Open(form))?;
-    Ok(candidates)
-}
-
-/// The normal forms of a skeleton, each with its substitution.
-fn narrowed(alloc: Global, form: Form) -> Result<Vec<Form>, AllocError>
-    ensures { IfOk result (λ fs. AreFormsBeside form.skeleton form.substitution fs.items) }
-{
-    let mut candidates = alone(alloc, form)?;
-    while some_is_open(&candidates) {
-        candidates = round(alloc, candidates)?;
-    }
-    forms_of(alloc, candidates)
-}
+use std::marker::Brand;
 
 /// The normal forms of a skeleton, in the order of [`normalise`], each with a substitution: the given one, followed by the one by
 /// which the normal form comes from the skeleton, independent of any bundle. So if the given substitution maps terms to terms of
@@ -73,21 +24,19 @@ pub fn normalise_beside(alloc: Global, k: Skeleton, beside: &Subst) -> Result<Ve
     ensures forms { IfOk result (λ fs. AreFormsBeside k beside.now fs.items) }
 {
     let substitution = beside.copy(alloc)?;
-    let first = Form {
+    let form = Form {
         skeleton: k,
         substitution,
     };
-    narrowed(alloc, first)
+    leaves::<Narrowing, Brand>(alloc, &Narrowing, form)
 }
 
 /// The skeletons of forms, in their order.
 fn skeletons_of(alloc: Global, forms: Vec<Form>) -> Result<Vec<Skeleton>, AllocError>
     ensures { IfOk result (λ ks. ks.items ≡ map (λ f. f.skeleton) forms.items) }
 {
-    let mut rest = forms;
-    rest.reverse();
-    let mut skeletons = Vec::with_capacity(alloc, rest.len())?;
-    while let Some(form) = rest.pop() {
+    let mut skeletons = Vec::with_capacity(alloc, forms.len())?;
+    for form in forms {
         let Form { skeleton, .. } = form;
         skeletons.push(skeleton)?;
     }

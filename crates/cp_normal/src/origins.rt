@@ -10,7 +10,7 @@ ghost use Rattle.cp_normal.specs.Events.{HasOtherOrigin, IsSentAtOrigin, IsCarri
 ghost use Rattle.cp_normal.specs.Findings.{HasTwoOrigins, LosesOrigin};
 
 use crate::carried_values::carries_value;
-use cp_skel::{Event, LocatedEvent, Node, Skeleton, Strand, StrandShape, UniqueAt};
+use cp_skel::{Atom, Event, LocatedEvent, Node, Skeleton, Strand, StrandShape, UniqueAt};
 use std::alloc::{AllocError, Global};
 
 /// Whether the other entry has the same value and another origin.
@@ -51,40 +51,40 @@ pub fn has_two_origins(k: &Skeleton) -> bool
     some_has_two_origins(k.assumptions().uniquely_originating())
 }
 
-/// Whether the event is a transmission at the recorded origin of a unique value, and carries the value.
-fn is_sent_at_origin(occurrence: &LocatedEvent, unique: &UniqueAt) -> bool
-    ensures { IsTrue result ↔ IsSentAtOrigin unique.now occurrence.now }
+/// Whether the event is a transmission at the node, and carries the value.
+fn is_sent_at_origin(occurrence: &LocatedEvent, value: &Atom, origin: Node) -> bool
+    ensures { IsTrue result ↔ IsSentAtOrigin (record { value = value.now; origin = origin }) occurrence.now }
 {
     matches!(occurrence.event, Event::Send(_))
-        && occurrence.node == unique.origin()
-        && carries_value(occurrence, unique.value())
+        && occurrence.node == origin
+        && carries_value(occurrence, value)
 }
 
-/// Whether the event is before the recorded origin of a unique value on its strand, and carries the value.
-fn is_carried_before(occurrence: &LocatedEvent, unique: &UniqueAt) -> bool
-    ensures { IsTrue result ↔ IsCarriedBefore unique.now occurrence.now }
+/// Whether the event is before the node on its strand, and carries the value.
+fn is_carried_before(occurrence: &LocatedEvent, value: &Atom, origin: Node) -> bool
+    ensures { IsTrue result ↔ IsCarriedBefore (record { value = value.now; origin = origin }) occurrence.now }
 {
-    occurrence.node.strand == unique.origin().strand
-        && occurrence.node.index < unique.origin().index
-        && carries_value(occurrence, unique.value())
+    occurrence.node.strand == origin.strand
+        && occurrence.node.index < origin.index
+        && carries_value(occurrence, value)
 }
 
-/// Whether some event is a transmission at the recorded origin that carries the value.
-fn some_is_sent_at_origin(occurrences: &[LocatedEvent], unique: &UniqueAt) -> bool
-    ensures { IsTrue result ↔ Has (λ o. IsSentAtOrigin unique.now o) occurrences.now }
-{
-    occurrences
-        .iter()
-        .any(|occurrence| is_sent_at_origin(occurrence, unique))
-}
-
-/// Whether some event before the recorded origin, on its strand, carries the value.
-fn some_is_carried_before(occurrences: &[LocatedEvent], unique: &UniqueAt) -> bool
-    ensures { IsTrue result ↔ Has (λ o. IsCarriedBefore unique.now o) occurrences.now }
+/// Whether some event is a transmission at the node that carries the value.
+fn some_is_sent_at_origin(occurrences: &[LocatedEvent], value: &Atom, origin: Node) -> bool
+    ensures { IsTrue result ↔ Has (λ o. IsSentAtOrigin (record { value = value.now; origin = origin }) o) occurrences.now }
 {
     occurrences
         .iter()
-        .any(|occurrence| is_carried_before(occurrence, unique))
+        .any(|occurrence| is_sent_at_origin(occurrence, value, origin))
+}
+
+/// Whether some event before the node, on its strand, carries the value.
+fn some_is_carried_before(occurrences: &[LocatedEvent], value: &Atom, origin: Node) -> bool
+    ensures { IsTrue result ↔ Has (λ o. IsCarriedBefore (record { value = value.now; origin = origin }) o) occurrences.now }
+{
+    occurrences
+        .iter()
+        .any(|occurrence| is_carried_before(occurrence, value, origin))
 }
 
 /// Whether the strand with this number exists and is a role strand.
@@ -104,18 +104,23 @@ fn is_on_instance(k: &Skeleton, node: Node) -> bool
     is_instance_at(k.strands(), node.strand)
 }
 
-/// Whether a unique value originates at its recorded origin. `occurrences` are the events of the skeleton.
-pub(crate) fn originates(k: &Skeleton, occurrences: &[LocatedEvent], unique: &UniqueAt) -> bool
+/// Whether the value originates at the node. `occurrences` are the events of the skeleton.
+pub(crate) fn originates(
+    k: &Skeleton,
+    occurrences: &[LocatedEvent],
+    value: &Atom,
+    origin: Node,
+) -> bool
     requires listed { occurrences.now ≡ events_of k.now }
-    ensures { IsTrue result ↔ OriginatesAtTerm k.now unique.now.value unique.now.origin }
+    ensures { IsTrue result ↔ OriginatesAtTerm k.now value.now origin }
 {
-    if !is_on_instance(k, unique.origin()) {
+    if !is_on_instance(k, origin) {
         return false;
     }
-    if !some_is_sent_at_origin(occurrences, unique) {
+    if !some_is_sent_at_origin(occurrences, value, origin) {
         return false;
     }
-    !some_is_carried_before(occurrences, unique)
+    !some_is_carried_before(occurrences, value, origin)
 }
 
 /// Whether some of these unique values does not originate at its recorded origin. `occurrences` are the events of the skeleton.
@@ -124,7 +129,7 @@ fn one_loses_origin(k: &Skeleton, occurrences: &[LocatedEvent], uniques: &[Uniqu
     ensures { IsTrue result ↔ Has (λ u. OriginatesAtTerm k.now u.value u.origin → ⊥) uniques.now }
 {
     for unique in uniques {
-        if !originates(k, occurrences, unique) {
+        if !originates(k, occurrences, unique.value(), unique.origin()) {
             return true;
         }
     }

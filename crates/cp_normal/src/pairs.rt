@@ -1,10 +1,9 @@
 // The pairs from recorded origins of unique values to receptions that carry them.
-ghost use Rattle.std.specs.Prelude.{◌≡◌, ◌↔◌, IfOk, OnOk, IfSome, IfNone};
+ghost use Rattle.std.specs.Prelude.{◌≡◌, ◌↔◌, IfOk, IfSome, IfNone};
 ghost use Rattle.cp_lists.specs.Lists.{IsIn};
 ghost use Rattle.cp_model.specs.declared.node.OrderPair.{OrderPair as Plain};
 ghost use Rattle.cp_skel.specs.Events.{events_of};
-ghost use Rattle.cp_collapse.specs.Property.{Has};
-ghost use Rattle.cp_normal.specs.Events.{Gathers, IsPairBetween};
+ghost use Rattle.cp_normal.specs.Events.{IsPairBetween};
 ghost use Rattle.cp_normal.specs.Findings.{IsAddedPair};
 
 use crate::carried_values::carries_value;
@@ -30,36 +29,6 @@ fn pair_between(occurrence: &LocatedEvent, unique: &UniqueAt) -> Option<OrderPai
     }
 }
 
-/// Appends the pairs from recorded origins to one event.
-fn add_pairs_to(
-    occurrence: &LocatedEvent,
-    uniques: &[UniqueAt],
-    pairs: &mut Vec<OrderPair>,
-) -> Result<(), AllocError>
-    ensures { OnOk result (Gathers (λ u p. IsPairBetween occurrence.now u p) uniques.now pairs.old.items pairs.new.items) }
-{
-    for unique in uniques {
-        if let Some(pair) = pair_between(occurrence, unique) {
-            pairs.push(pair)?;
-        }
-    }
-    Ok(())
-}
-
-/// Appends the pairs from recorded origins to these events.
-fn add_pairs(
-    occurrences: &[LocatedEvent],
-    uniques: &[UniqueAt],
-    pairs: &mut Vec<OrderPair>,
-) -> Result<(), AllocError>
-    ensures { OnOk result (Gathers (λ o p. Has (λ u. IsPairBetween o u p) uniques.now) occurrences.now pairs.old.items pairs.new.items) }
-{
-    for occurrence in occurrences {
-        add_pairs_to(occurrence, uniques, pairs)?;
-    }
-    Ok(())
-}
-
 /// The pairs that unique values add. `occurrences` are the events of the skeleton.
 pub(crate) fn pairs_among(
     alloc: Global,
@@ -69,12 +38,16 @@ pub(crate) fn pairs_among(
     requires listed { occurrences.now ≡ events_of k.now }
     ensures { IfOk result (λ pairs. (p : Plain) → IsIn p pairs.items ↔ IsAddedPair k.now p) }
 {
+    let uniques = k.assumptions().uniquely_originating();
     let mut pairs = Vec::new(alloc);
-    add_pairs(
-        occurrences,
-        k.assumptions().uniquely_originating(),
-        &mut pairs,
-    )?;
+    for occurrence in occurrences {
+        for unique in uniques {
+            match pair_between(occurrence, unique) {
+                Some(pair) => pairs.push(pair)?,
+                None => continue,
+            }
+        }
+    }
     Ok(pairs)
 }
 

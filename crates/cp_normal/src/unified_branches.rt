@@ -1,12 +1,13 @@
-// One step of narrowing.
+// Branches of a skeleton.
 ghost use Rattle.std.specs.Prelude.{◌≡◌, IfOk};
 ghost use Rattle.cp_model.specs.Term.{Term, apply_to};
 ghost use Rattle.cp_theory.specs.Normal.{skeleton_under};
 ghost use Rattle.cp_unify.specs.Bindings.{as_substitution};
 ghost use Rattle.cp_collapse.specs.SameSkeletons.{SaysTheSame};
-ghost use Rattle.cp_normal.specs.Branched.{AreBranchesOf};
+ghost use Rattle.cp_normal.specs.Candidates.{AreOpenBranches};
 
 use crate::form::Form;
+use crate::rewriting::Candidate;
 use cp_collapse::under;
 use cp_skel::Atom;
 use cp_unify::{Subst, compose, unify};
@@ -29,14 +30,14 @@ fn branch_by(alloc: Global, form: &Form, s: &Subst) -> Result<Form, AllocError>
 }
 
 /// For each atom that unifies with the value, in order: the skeleton under their most general unifier, and its substitution
-/// followed by that unifier.
+/// followed by that unifier, to be narrowed further.
 pub(crate) fn branches(
     alloc: Global,
     form: &Form,
     value: &Atom,
     atoms: &[Atom],
-) -> Result<Vec<Form>, AllocError>
-    ensures { IfOk result (λ ls. AreBranchesOf form.now value.now atoms.now ls.items) }
+) -> Result<Vec<Candidate<Form, Form>>, AllocError>
+    ensures { IfOk result (λ made. AreOpenBranches form.now value.now atoms.now made.items) }
 {
     let nothing = Subst::new(alloc);
     let mut branches = Vec::new(alloc);
@@ -45,7 +46,7 @@ pub(crate) fn branches(
             Some(s) => s,
             None => continue,
         };
-        branches.push(branch_by(alloc, form, &s)?)?;
+        branches.push(Candidate::Open(branch_by(alloc, form, &s)?))?;
     }
     Ok(branches)
 }

@@ -11,7 +11,7 @@ ghost use Rattle.cp_order.specs.Rows.{AreTopsAlongOne, AreRows, AreRowsOn, AreRo
 
 use crate::closure::{closed_pairs, with_pair};
 use crate::predecessors::is_at_or_before;
-use crate::tops::{is_below, raise};
+use crate::tops::is_below;
 use cp_model::{Node, OrderPair};
 use std::alloc::{AllocError, Global};
 use std::collections::HashMap;
@@ -54,10 +54,10 @@ fn row_to(
 {
     let mut row = HashMap::new(alloc);
     for pair in pairs {
-        if !is_at_or_before(pair.later, node) {
+        if !is_at_or_before(pair.later, node) || is_below(&row, pair.earlier) {
             continue;
         }
-        raise(&mut row, pair.earlier)?;
+        row.insert(pair.earlier.strand, pair.earlier.index)?;
     }
     Ok(row)
 }
@@ -90,13 +90,11 @@ fn next_row(
     };
     if let Some(row) = rows.last() {
         if !some_ends_at(pairs, node) {
-            let row = row.clone()?;
-            return Ok(row);
+            return row.clone();
         }
     }
     let row = row_to(alloc, pairs, node)?;
-    let row = Rc::new(alloc, row)?;
-    Ok(row)
+    Ok(Rc::new(alloc, row)?)
 }
 
 /// The greatest index of a strand at which one of the pairs ends, or 0.
@@ -134,14 +132,11 @@ fn rows_on(
 fn ends_on(alloc: Global, pairs: &[OrderPair], strand: usize) -> Result<Vec<OrderPair>, AllocError>
     ensures { IfOk result (λ v. v.items ≡ filter (ends_on strand) pairs.now) }
 {
-    let mut ends = Vec::new(alloc);
-    for pair in pairs {
-        if pair.later.strand != strand {
-            continue;
-        }
-        ends.push(*pair)?;
-    }
-    Ok(ends)
+    pairs
+        .iter()
+        .copied()
+        .filter(|pair| pair.later.strand == strand)
+        .collect(alloc)
 }
 
 /// The rows of each strand on which a pair ends.
@@ -179,17 +174,18 @@ fn is_in_rows(rows: &[Rc<HashMap<usize, usize>>], index: usize, node: Node) -> b
 
 impl ClosedPairs {
     /// Keeps these pairs, which must be closed.
-    fn new(alloc: Global, pairs: Vec<OrderPair>) -> Result<ClosedPairs, AllocError>
+    fn new(alloc: Global, pairs: Vec<OrderPair>) -> Result<Rc<ClosedPairs>, AllocError>
         requires { IsTransitive pairs.items }
-        ensures { IfOk result (λ c. c ≡ pairs.items) }
+        ensures { IfOk result (λ c. c.value ≡ pairs.items) }
     {
         let rows = rows_of(alloc, &pairs)?;
-        Ok(ClosedPairs { pairs, rows })
+        let closed = ClosedPairs { pairs, rows };
+        Ok(Rc::new(alloc, closed)?)
     }
 
     /// Closed pairs with the same order as these.
-    pub(crate) fn of(alloc: Global, pairs: &[OrderPair]) -> Result<ClosedPairs, AllocError>
-        ensures { IfOk result (λ c. IsClosureOf pairs.now c) }
+    pub(crate) fn of(alloc: Global, pairs: &[OrderPair]) -> Result<Rc<ClosedPairs>, AllocError>
+        ensures { IfOk result (λ c. IsClosureOf pairs.now c.value) }
     {
         let closed = closed_pairs(alloc, pairs)?;
         ClosedPairs::new(alloc, closed)
@@ -200,8 +196,8 @@ impl ClosedPairs {
         &self,
         alloc: Global,
         pair: OrderPair,
-    ) -> Result<ClosedPairs, AllocError>
-        ensures { IfOk result (λ c. IsClosureOf (pair ∷ self.now) c) }
+    ) -> Result<Rc<ClosedPairs>, AllocError>
+        ensures { IfOk result (λ c. IsClosureOf (pair ∷ self.now) c.value) }
     {
         let closed = with_pair(alloc, &self.pairs, pair)?;
         ClosedPairs::new(alloc, closed)

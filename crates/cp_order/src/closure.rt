@@ -15,8 +15,7 @@ fn join(pairs: &mut Vec<OrderPair>, pair: OrderPair) -> Result<(), AllocError>
     if leads_along_one(pairs, pair.earlier, pair.later) {
         return Ok(());
     }
-    pairs.push(pair)?;
-    Ok(())
+    pairs.push(pair).map_err(AllocError::from)
 }
 
 /// Joins the pairs that lead from the first node to the second and on along one of the closed pairs.
@@ -68,8 +67,7 @@ pub(crate) fn with_pair(
     ensures closed { IfOk result (λ v. IsTransitive v.items) }
     ensures keeps { IfOk result (λ v. KeepsOrder (pair ∷ closed.now) v.items) }
 {
-    let pairs = with_composed(alloc, closed, pair)?;
-    Ok(pairs)
+    with_composed(alloc, closed, pair)
 }
 
 /// Closed pairs with the same order as these.

@@ -57,7 +57,7 @@ impl Order {
         let mut order = Order::of(pairs);
         if self.closure.is_some() {
             let closed = ClosedPairs::of(alloc, &order.pairs)?;
-            order.closure = Some(Rc::new(alloc, closed)?);
+            order.closure = Some(closed);
         }
         Ok(order)
     }
@@ -85,12 +85,9 @@ impl Order {
         ensures { IfOk result (λ c. IsClosureOf self.now c.value) }
     {
         if let Some(closed) = &self.closure {
-            let closed = closed.clone()?;
-            return Ok(closed);
+            return closed.clone();
         }
-        let closed = ClosedPairs::of(alloc, &self.pairs)?;
-        let closed = Rc::new(alloc, closed)?;
-        Ok(closed)
+        ClosedPairs::of(alloc, &self.pairs)
     }
 
     /// Closes the order: its pairs become closed ones. What reaches what stays the same, and is looked up from now on.
@@ -102,8 +99,7 @@ impl Order {
         ensures unchanged { OnErr result (self.new ≡ self.old) }
     {
         let closed = self.closed_pairs(alloc)?;
-        let pairs = Vec::from_slice(alloc, closed.pairs())?;
-        self.pairs = pairs;
+        self.pairs = Vec::from_slice(alloc, closed.pairs())?;
         self.closure = Some(closed);
         Ok(())
     }
@@ -120,7 +116,6 @@ impl Order {
             return Ok(None);
         };
         let closed = closed.with_pair(alloc, pair)?;
-        let closed = Rc::new(alloc, closed)?;
         Ok(Some(closed))
     }
 

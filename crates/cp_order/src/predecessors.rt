@@ -103,35 +103,11 @@ fn take(
     ensures { OnOk result (TakesNode pairs.now node (tops_in tops.old) (tops_in tops.new) work.old.items work.new.items) }
 {
     let top = tops.top(node.strand);
-    if !is_within(top, node.index) {
-        tops.put(node)?;
-        push_reached(pairs, top, node, work)?;
+    if is_within(top, node.index) {
+        return Ok(());
     }
-    Ok(())
-}
-
-/// The greatest indices of the predecessors of a node along these pairs.
-fn tops_to(alloc: Global, pairs: &[OrderPair], node: Node) -> Result<Tops, AllocError>
-    requires { AreSorted pairs.now }
-    ensures { IfOk result (λ tops. AreTops pairs.now node (tops_in tops)) }
-{
-    let mut tops = Tops::new(alloc, pairs.len().saturating_add(1))?;
-    let mut work = Vec::new(alloc);
-    work.push(node)?;
-    while let Some(next) = work.pop() {
-        take(pairs, next, &mut tops, &mut work)?;
-    }
-    Ok(tops)
-}
-
-/// The pairs sorted by their later nodes.
-fn sorted(alloc: Global, pairs: &[OrderPair]) -> Result<Vec<OrderPair>, AllocError>
-    ensures order { IfOk result (λ v. AreSorted v.items) }
-    ensures same { IfOk result (λ v. IsPermutation pairs.now v.items) }
-{
-    let mut sorted = Vec::from_slice(alloc, pairs)?;
-    sorted.sort_by_key(|pair| (pair.later.strand, pair.later.index))?;
-    Ok(sorted)
+    tops.put(node)?;
+    push_reached(pairs, top, node, work)
 }
 
 impl<'a> SortedPairs<'a> {
@@ -139,7 +115,8 @@ impl<'a> SortedPairs<'a> {
     pub fn new(alloc: Global, pairs: &'a [OrderPair]) -> Result<SortedPairs<'a>, AllocError>
         ensures { IfOk result (λ s. s ≡ pairs.now) }
     {
-        let sorted = sorted(alloc, pairs)?;
+        let mut sorted = Vec::from_slice(alloc, pairs)?;
+        sorted.sort_by_key(|pair| (pair.later.strand, pair.later.index))?;
         Ok(SortedPairs { pairs, sorted })
     }
 
@@ -147,7 +124,13 @@ impl<'a> SortedPairs<'a> {
     pub fn predecessors_of(&self, alloc: Global, node: Node) -> Result<Predecessors<'a>, AllocError>
         ensures { IfOk result (λ l. l ≡ record { pairs = self.now; node = node }) }
     {
-        let tops = tops_to(alloc, &self.sorted, node)?;
+        let sorted = self.sorted.as_slice();
+        let mut tops = Tops::new(alloc);
+        let mut work = Vec::new(alloc);
+        work.push(node)?;
+        while let Some(next) = work.pop() {
+            take(sorted, next, &mut tops, &mut work)?;
+        }
         Ok(Predecessors {
             pairs: self.pairs,
             node,
@@ -165,8 +148,7 @@ impl<'a> Predecessors<'a> {
     ) -> Result<Predecessors<'a>, AllocError>
         ensures { IfOk result (λ l. l ≡ record { pairs = pairs.now; node = node }) }
     {
-        let sorted = SortedPairs::new(alloc, pairs)?;
-        sorted.predecessors_of(alloc, node)
+        SortedPairs::new(alloc, pairs)?.predecessors_of(alloc, node)
     }
 
     /// Whether a node reaches the node whose predecessors these are.

@@ -1,10 +1,10 @@
 // The greatest indices of nodes on strands.
-ghost use Rattle.std.specs.Prelude.{◌≡◌, ◌==◌, ◌<◌, ◌||◌, ℕ, None, Some, if◌then◌else◌, vec_len, IfOk, OnOk};
+ghost use Rattle.std.specs.Prelude.{◌≡◌, ◌==◌, ◌<◌, ℕ, None, Some, if◌then◌else◌, OnOk};
 ghost use Rattle.cp_model.specs.declared.node.Node.{Node};
-ghost use Rattle.cp_model.specs.OrderTests.{at_or_after};
 ghost use Rattle.cp_order.specs.PredecessorNodes.{tops_of, tops_at, tops_in, is_within, is_under_tops};
 
 use cp_model::Node;
+use smallvec::SmallVec;
 use std::alloc::{AllocError, Global};
 use std::collections::HashMap;
 
@@ -25,16 +25,6 @@ pub(crate) fn is_below(tops: &HashMap<usize, usize>, node: Node) -> bool
     is_within(tops.get(&node.strand).copied(), node.index)
 }
 
-/// Raises the top of a node's strand to the node, if the node is after it.
-pub(crate) fn raise(tops: &mut HashMap<usize, usize>, node: Node) -> Result<(), AllocError>
-    ensures { OnOk result ((x : Node) → is_under_tops (tops_of tops.new) x ≡ (is_under_tops (tops_of tops.old) x || at_or_after x node)) }
-{
-    if !is_below(tops, node) {
-        tops.insert(node.strand, node.index)?;
-    }
-    Ok(())
-}
-
 /// The tops of strands below this number are kept in a list.
 const LISTED: usize = 64;
 
@@ -42,7 +32,7 @@ const LISTED: usize = 64;
 /// a map, since unchecked pairs can state any number.
 #[derive(Drop)]
 pub(crate) struct Tops {
-    low: Vec<Option<usize>>,
+    low: SmallVec<Option<usize>, 8>,
     high: HashMap<usize, usize>,
 }
 
@@ -56,34 +46,26 @@ fn top_at(tops: &[Option<usize>], strand: usize) -> Option<usize>
     }
 }
 
-/// Makes room for the top of a strand.
-fn make_room(tops: &mut Vec<Option<usize>>, strand: usize) -> Result<(), AllocError>
-    ensures room { OnOk result (strand < vec_len tops.new) }
-    ensures same { OnOk result ((s : ℕ) → tops_at tops.new.items s ≡ tops_at tops.old.items s) }
-{
-    while tops.len() <= strand {
-        tops.push(None)?;
-    }
-    Ok(())
-}
-
 /// Sets the top of a node's strand to the node, in a list of tops by strand.
-fn put_at(tops: &mut Vec<Option<usize>>, node: Node) -> Result<(), AllocError>
+fn put_at(tops: &mut SmallVec<Option<usize>, 8>, node: Node) -> Result<(), AllocError>
     ensures { OnOk result ((s : ℕ) → tops_at tops.new.items s ≡ (if s == node.strand then Some node.index else tops_at tops.old.items s)) }
 {
-    make_room(tops, node.strand)?;
-    tops[node.strand] = Some(node.index);
+    while tops.len() <= node.strand {
+        tops.push(None)?;
+    }
+    tops.as_mut_slice()[node.strand] = Some(node.index);
     Ok(())
 }
 
 impl Tops {
-    /// No strand has a top. There is room for the tops of a few strands.
-    pub(crate) fn new(alloc: Global, few: usize) -> Result<Tops, AllocError>
-        ensures { IfOk result (λ tops. (s : ℕ) → tops_in tops s ≡ None) }
+    /// No strand has a top.
+    pub(crate) fn new(alloc: Global) -> Tops
+        ensures { (s : ℕ) → tops_in result s ≡ None }
     {
-        let low = Vec::with_capacity(alloc, few.min(LISTED))?;
-        let high = HashMap::new(alloc);
-        Ok(Tops { low, high })
+        Tops {
+            low: SmallVec::new(alloc),
+            high: HashMap::new(alloc),
+        }
     }
 
     /// The top of a strand, if it has one.
@@ -91,7 +73,7 @@ impl Tops {
         ensures { result ≡ tops_in self.now strand }
     {
         if strand < LISTED {
-            return top_at(&self.low, strand);
+            return top_at(self.low.as_slice(), strand);
         }
         self.high.get(&strand).copied()
     }

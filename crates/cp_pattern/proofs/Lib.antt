@@ -12,5 +12,4 @@ pub mod Each
 pub mod GuardParts
 pub mod Patterns
 pub mod TransmissionsBefore
-pub mod VariablesOfLists
 pub mod AllWithin

@@ -1,13 +1,10 @@
 -- Variables among others, and patterns that may guard tests.
-use Rattle.std.specs.Prelude.{◌&&◌, ◌||◌, List, [], ◌∷◌, ◌++◌, Bool, true, false}
+use Rattle.std.specs.Prelude.{◌&&◌, ◌||◌, List, [], ◌∷◌, Bool, true, false}
 use Rattle.cp_lists.specs.Lists.{IsIn}
-use Rattle.cp_model.specs.Term.{variables_of}
 use Rattle.cp_model.specs.declared.variable.Variable.{Variable}
-use Rattle.cp_model.specs.Strand.{payload}
 use Rattle.cp_model.specs.Same.{has_variable}
 use Rattle.cp_model.specs.Tree.{Pattern}
 use Rattle.cp_model.specs.Pattern.{IsPattern}
-use Rattle.cp_skel.specs.declared.events.LocatedEvent.{LocatedEvent}
 use Rattle.cp_theory.specs.Matches.{IsFreeIn}
 use Rattle.cp_theory.specs.Guards.{HoldsNoLocalInItsKey}
 
@@ -20,11 +17,6 @@ has_all_but locals xs (y ∷ ys) = (has_variable locals y || has_variable xs y) 
 abbrev pub has_some : List Variable → List Variable → Bool
 has_some xs [] = false
 has_some xs (y ∷ ys) = has_variable xs y || has_some xs ys
-
--- The variables that occur in the messages of these events.
-abbrev pub variables_of_occurrences : List LocatedEvent → List Variable
-variables_of_occurrences [] = []
-variables_of_occurrences (o ∷ os) = variables_of (payload o.event) ++ variables_of_occurrences os
 
 -- The pattern may guard tests, where these variables are used: it is one, whose own key holds no local, and its other variables
 -- are used.

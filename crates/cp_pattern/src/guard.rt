@@ -4,9 +4,8 @@ ghost use Rattle.cp_theory.specs.Guards.{Guards};
 
 use crate::pattern::all_may_guard;
 use crate::sent::send_inside_alone;
-use crate::used::used_in;
 use crate::within::all_within;
-use cp_skel::{Node, Skeleton};
+use cp_skel::{Node, Skeleton, used_terms};
 use cp_term::{Pattern, Term};
 use std::alloc::{AllocError, Global};
 
@@ -22,12 +21,12 @@ pub fn is_guarded(
 ) -> Result<bool, AllocError>
     ensures { IfOk result (λ answer. IsTrue answer ↔ Guards patterns.now k.now node critical.now) }
 {
-    let used = used_in(alloc, k)?;
+    let used = used_terms(alloc, k)?;
     if !all_within(&used, &[], critical) {
         return Ok(false);
     }
     if !all_may_guard(&used, patterns) {
         return Ok(false);
     }
-    send_inside_alone(alloc, k, node, critical, patterns)
+    send_inside_alone(alloc, patterns, critical, k, node)
 }

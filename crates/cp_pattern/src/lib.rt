@@ -13,7 +13,6 @@ mod pattern_matches;
 mod sent;
 mod term_unifier;
 mod test_terms;
-mod used;
 mod within;
 
 pub use candidates::positions_for;

@@ -51,10 +51,10 @@ fn is_there(alloc: Global, k: &Skeleton, node: Node) -> Result<bool, AllocError>
 /// Whether each transmission of a role strand before the node carries the critical term inside the patterns alone.
 pub(crate) fn send_inside_alone(
     alloc: Global,
+    patterns: &[Pattern],
+    critical: &Term,
     k: &Skeleton,
     node: Node,
-    critical: &Term,
-    patterns: &[Pattern],
 ) -> Result<bool, AllocError>
     ensures { IfOk result (λ answer. IsTrue answer ↔ SendInsideAlone patterns.now k.now node critical.now) }
 {

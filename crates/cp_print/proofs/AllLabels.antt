@@ -8,7 +8,7 @@ use Rattle.cp_language.proofs.ChosenLabels.{all_forms, all_text}
 use Rattle.cp_model.specs.Tree.{Tree}
 use Rattle.cp_sexpr.specs.Spelling.{AppendsFront}
 use Rattle.cp_print.specs.Chosen.{chosen_by}
-use Rattle.cp_print.specs.declared.report.Labels.TheVariants.{All, Shapes}
+use Rattle.cp_print.specs.declared.report.Chosen.TheVariants.{All, Shapes}
 use Rattle.cp_print.specs.WrittenForms.{ends_from, HasAppendedForms}
 
 module _ {E : Type 0} (entries : List Entry) (trees : List Tree) (a ea b eb : List ℕ) where

@@ -1,5 +1,5 @@
 -- What is made of flagged variables is what is made of those that occur.
-use Rattle.std.proofs.Common.{◌≡◌, ℕ, suc, ◌+◌, ◌≤◌, List, [], ◌∷◌, length, get_or, Bool, false, refl, sym, ap, ◌∙◌, arith, add-one}
+use Rattle.std.proofs.Common.{◌≡◌, ℕ, suc, ◌+◌, ◌≤◌, List, [], ◌∷◌, length, get_or, Bool, false, refl, sym, ap, ◌∙◌, arith, add-one, codes}
 use Rattle.std.specs.Prelude.{Some}
 use Rattle.cp_lists.specs.Lists.{item_at}
 use Rattle.cp_model.specs.Term.{Term, apply_to, variable_term}
@@ -10,8 +10,10 @@ use Rattle.cp_model.specs.declared.variable.Variable.{Variable}
 use Rattle.cp_model.specs.declared.variable.Declaration.{Declaration}
 use Rattle.cp_sexpr.specs.Syntax.{Form}
 use Rattle.cp_language.specs.Names.{has_number, sort_text}
-use Rattle.cp_language.specs.Printed.{term_form, variable, word, plain_list}
-use Rattle.cp_language.specs.Report.{name_or_none, vars_from, maplets_from}
+use Rattle.cp_language.specs.Printed.{term_form, variable, word, numeral, headed_list, plain_list}
+use Rattle.cp_language.specs.Report.{name_or_none, vars_from, maplets_from, strand_form}
+use Rattle.cp_model.specs.Strand.{Role, variables_of_prefix}
+use Rattle.cp_model.specs.Skeleton.{instance}
 use Rattle.cp_model.specs.Same.{has_variable}
 use Rattle.cp_names.specs.Flags.{AreFlagsOf, AreFlagsAmong}
 use Rattle.cp_names.proofs.NamesByFlags.{branch}
@@ -53,3 +55,13 @@ pub instance_maplets : (named : Variable → Form) (prefix : List Variable) (all
     → fs ≡ maplets_by named flags (substitution_by values) 0 all → AreFlagsAmong prefix all flags → fs ≡ maplets_from named prefix (bindings_of values) 0 all
 instance_maplets named prefix all flags values fs e m =
     e ∙ sym (ap (λ s. maplets_by named flags s 0 all) (bindings_are values)) ∙ maplets-by named prefix all flags m (bindings_of values)
+
+-- an instance, item by item
+pub defstrand_is : (named : Variable → Form) (role of_instance : Role) (name : List ℕ) (h g n : ℕ) (vs ws : List Term) → role ≡ of_instance → name ≡ role.name → h ≡ n → g ≡ n → vs ≡ ws
+    → headed_list (codes "defstrand") (word name ∷ numeral g ∷ maplets_from named (variables_of_prefix role h) (bindings_of vs) 0 role.variables) ≡ strand_form named (instance of_instance n (bindings_of ws))
+defstrand_is named role of_instance name h g n vs ws r a b d e =
+    ap (λ (t : List ℕ). headed_list (codes "defstrand") (word t ∷ numeral g ∷ maplets_from named (variables_of_prefix role h) (bindings_of vs) 0 role.variables)) a
+    ∙ ap (λ (k : ℕ). headed_list (codes "defstrand") (word role.name ∷ numeral k ∷ maplets_from named (variables_of_prefix role h) (bindings_of vs) 0 role.variables)) d
+    ∙ ap (λ (k : ℕ). headed_list (codes "defstrand") (word role.name ∷ numeral n ∷ maplets_from named (variables_of_prefix role k) (bindings_of vs) 0 role.variables)) b
+    ∙ ap (λ (us : List Term). strand_form named (instance role n (bindings_of us))) e
+    ∙ ap (λ (x : Role). strand_form named (instance x n (bindings_of ws))) r

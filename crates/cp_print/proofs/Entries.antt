@@ -1,5 +1,5 @@
 -- The report entry by entry.
-use Rattle.std.proofs.Common.{◌≡◌, ℕ, ◌+◌, ◌<◌, ◌≤◌, List, [], ◌∷◌, ◌++◌, length, get_or, drop, map, refl, sym, ap, ap₂, ◌∙◌, add-one}
+use Rattle.std.proofs.Common.{◌≡◌, ℕ, ◌+◌, ◌<◌, ◌≤◌, List, [], ◌∷◌, ◌++◌, length, get_or, drop, map, refl, sym, ap, ap₂, ◌∙◌, add-one, subst}
 use Rattle.std.specs.Prelude.{Bool, true, false, if◌then◌else◌, Option, Some, None}
 use Rattle.std.proofs.lemmas.List.{drop_all}
 use Rattle.cp_lists.proofs.Members.{drop_read}
@@ -7,17 +7,29 @@ use Rattle.cp_model.specs.Tree.{Label, Tree}
 use Rattle.cp_sexpr.specs.Syntax.{Form}
 use Rattle.cp_language.specs.Problems.{Problem}
 use Rattle.cp_language.specs.Input.{form_of, stated}
-use Rattle.cp_language.specs.Report.{label_form}
-use Rattle.cp_language.specs.ShapesText.{chosen_from, chosen_report_from, chosen_report_forms}
+use Rattle.cp_language.specs.Report.{label_form, text_of_forms}
+use Rattle.cp_sexpr.specs.Spelling.{AppendsFront}
+use Rattle.cp_language.specs.ShapesText.{chosen_from, chosen_tree_forms, chosen_report_from, chosen_report_forms}
 use Rattle.cp_load.specs.declared.input.Entry as loaded
 use Rattle.cp_load.specs.Inputs.{entry_view}
 use Rattle.cp_print.specs.WrittenForms.{HasAppendedForms, Leaves, entry_forms, trees_behind}
-use Rattle.cp_print.proofs.Writings.{leaves_none}
+use Rattle.cp_print.proofs.Writings.{front_first, leaves_none}
 
 entry-first : (chosen : Label → Bool) (f : Form) (o : Option Problem) (ts : List Tree) (rest : List Tree → List Form) → chosen_report_from chosen f o ts rest ≡ entry_forms chosen f o ts ++ rest (trees_behind o ts)
 entry-first chosen f None ts rest = refl
 entry-first chosen f (Some p) [] rest = refl
 entry-first chosen f (Some p) (t ∷ ts) rest = refl
+
+module _ (chosen : Label → Bool) (f g : Form) (e : g ≡ f) where
+  -- its form alone was not written whole
+  pub entry_failed : (o : Option Problem) (ts : List Tree) (a b : List ℕ) → AppendsFront a b (text_of_forms (g ∷ [])) → AppendsFront a b (text_of_forms (entry_forms chosen f o ts))
+  entry_failed None ts a b h = subst (λ (x : Form). AppendsFront a b (text_of_forms (x ∷ []))) e h
+  entry_failed (Some p) [] a b h = subst (λ (x : Form). AppendsFront a b (text_of_forms (x ∷ []))) e h
+  entry_failed (Some p) (t ∷ ts) a b h = front_first a b (f ∷ []) (chosen_tree_forms chosen p t) (subst (λ (x : Form). AppendsFront a b (text_of_forms (x ∷ []))) e h)
+
+  -- its form, and the tree of the problem that it states
+  pub entry_is : (o : Option Problem) (ts : List Tree) (p : Problem) (t : Tree) (rest : List Tree) → o ≡ Some p → ts ≡ t ∷ rest → entry_forms chosen f o ts ≡ (g ∷ []) ++ chosen_tree_forms chosen p t
+  entry_is o ts p t rest h i = ap₂ (λ (q : Option Problem) (us : List Tree). entry_forms chosen f q us) h i ∙ ap (λ (x : Form). x ∷ chosen_tree_forms chosen p t) (sym e)
 
 -- The top forms from entry number k on, of a report with these trees for the problems among them.
 abbrev pub entries_left : (Label → Bool) → List loaded.Entry → ℕ → List Tree → List Form

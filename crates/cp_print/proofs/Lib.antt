@@ -1,14 +1,17 @@
+pub mod GrownForms
 pub mod Spines
 pub mod Writings
 pub mod AllLabels
 pub mod ByFlags
 pub mod CoveringPairs
 pub mod Entries
+pub mod StatusForms
 pub mod PatternForms
 pub mod MarkedForms
 pub mod ValueForms
 pub mod Values
 pub mod CountedNodes
+pub mod CoveredForms
 pub mod CoveringByFlags
 pub mod NodesOnPairs
 pub mod TreeForms

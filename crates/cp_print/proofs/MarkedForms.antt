@@ -1,7 +1,9 @@
 -- The flagged variables of a label and of an instance, one by one.
-use Rattle.std.proofs.Common.{◌≡◌, ℕ, suc, ◌+◌, ◌<◌, List, [], ◌∷◌, ◌++◌, length, get_or, drop, Bool, false, if◌then◌else◌, sym, ap, ◌∙◌, add-one, arith}
+use Rattle.std.proofs.Common.{◌≡◌, ℕ, suc, ◌+◌, ◌<◌, ◌≤◌, List, [], ◌∷◌, ◌++◌, length, get_or, drop, Bool, true, false, if◌then◌else◌, sym, ap, ◌∙◌, add-one}
 use Rattle.cp_lists.specs.Lists.{item_at}
+use Rattle.std.proofs.lemmas.List.{drop_all}
 use Rattle.cp_lists.proofs.Fronts.{some_item}
+use Rattle.cp_lists.proofs.Members.{drop_read}
 use Rattle.cp_model.specs.Term.{apply_to, variable_term, Substitution}
 use Rattle.cp_model.specs.declared.variable.Variable.{Variable}
 use Rattle.cp_sexpr.specs.Syntax.{Form}
@@ -32,3 +34,27 @@ module _ (flags : List Bool) (n : ℕ) (ds : List Declaration) (lt : n < length 
       let here : maplets_by named flags terms n (drop n ds) ≡ rest
       = ap (λ (es : List Declaration). maplets_by named flags terms n es) i.1 ∙ ap (λ b. if b then x ∷ rest else rest) e in
       ap (λ k. before ++ maplets_by named flags terms (n + 1) (drop k ds)) (add-one n) ∙ ap (λ fs. before ++ fs) (sym here) ∙ h
+
+-- a flagged variable, and those behind it
+module _ (flags : List Bool) (n : ℕ) (ds : List Declaration) (lt : n < length ds) (e : get_or flags n false ≡ true) (d : Declaration) (is : d ≡ get_or ds n d) where
+  pub var_taken : (names : List (List ℕ)) (name : List ℕ) → name ≡ name_or_none (item_at names n)
+      → vars_by names flags n (drop n ds) ≡ (plain_list (word name ∷ word (sort_text d.sort) ∷ []) ∷ []) ++ vars_by names flags (n + 1) (drop (n + 1) ds)
+  var_taken names name h =
+      let x : Form = plain_list (word (name_or_none (item_at names n)) ∷ word (sort_text d.sort) ∷ []) in
+      let rest : List Form = vars_by names flags (n + 1) (drop (n + 1) ds) in
+      ap (λ (es : List Declaration). vars_by names flags n es) (drop_read ds n d lt is) ∙ ap (λ b. if b then x ∷ rest else rest) e
+      ∙ ap (λ (t : List ℕ). plain_list (word t ∷ word (sort_text d.sort) ∷ []) ∷ rest) (sym h)
+
+  pub maplet_taken : (named : Variable → Form) (terms : Substitution)
+      → maplets_by named flags terms n (drop n ds) ≡ (plain_list (word d.identifier ∷ term_form named (apply_to terms (variable_term (variable d.sort n))) ∷ []) ∷ []) ++ maplets_by named flags terms (n + 1) (drop (n + 1) ds)
+  maplet_taken named terms =
+      let x : Form = plain_list (word d.identifier ∷ term_form named (apply_to terms (variable_term (variable d.sort n))) ∷ []) in
+      let rest : List Form = maplets_by named flags terms (n + 1) (drop (n + 1) ds) in
+      ap (λ (es : List Declaration). maplets_by named flags terms n es) (drop_read ds n d lt is) ∙ ap (λ b. if b then x ∷ rest else rest) e
+
+-- at the end no variable is left
+pub no_vars : (names : List (List ℕ)) (flags : List Bool) (n : ℕ) (ds : List Declaration) → length ds ≤ n → vars_by names flags n (drop n ds) ≡ []
+no_vars names flags n ds h = ap (λ (es : List Declaration). vars_by names flags n es) (drop_all n ds h)
+
+pub no_maplets : (named : Variable → Form) (flags : List Bool) (terms : Substitution) (n : ℕ) (ds : List Declaration) → length ds ≤ n → maplets_by named flags terms n (drop n ds) ≡ []
+no_maplets named flags terms n ds h = ap (λ (es : List Declaration). maplets_by named flags terms n es) (drop_all n ds h)

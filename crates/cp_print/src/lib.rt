@@ -4,6 +4,7 @@
 #![tactic(auto)]
 
 mod assumptions;
+mod forms;
 mod items;
 mod labels;
 mod makers;

@@ -1,10 +1,11 @@
-// The makers of a report's forms.
-ghost use Rattle.std.specs.Prelude.{◌≡◌, [], ◌∷◌, map, IfOk};
-ghost use Rattle.cp_sexpr.specs.Syntax.{string};
+// The makers of a report's forms. What a form is to hold is given as it was made, or as the error if memory ran out.
+ghost use Rattle.std.specs.Prelude.{◌≡◌, [], ◌∷◌, List, map, IfOk};
+ghost use Rattle.cp_sexpr.specs.Syntax.{Form as Plain, string};
 ghost use Rattle.cp_sexpr.specs.View.{view};
 ghost use Rattle.cp_language.specs.Printed.{no_place, word, numeral, headed_list, plain_list};
 
-use cp_base::{Place, Text};
+use crate::forms::add;
+use cp_base::{Growing, Place, Text};
 use cp_sexpr::Form;
 use std::alloc::{AllocError, Global};
 
@@ -32,47 +33,70 @@ pub(crate) fn quoted(alloc: Global, text: &str) -> Result<Form, AllocError>
 }
 
 /// A number.
-pub(crate) fn numeral(number: usize) -> Result<Form, AllocError>
-    ensures { IfOk result (λ f. view f ≡ numeral number) }
+pub(crate) fn numeral(number: usize) -> Form
+    ensures { view result ≡ numeral number }
 {
-    Ok(Form::Number(no_place(), number))
+    Form::Number(no_place(), number)
 }
 
-/// A list of these items.
-pub(crate) fn plain_list(items: Vec<Form>) -> Form
+/// A list of items.
+fn plain_list(items: Vec<Form>) -> Form
     ensures { view result ≡ plain_list (map view items.items) }
 {
     Form::List(no_place(), items)
+}
+
+/// A list of these items.
+pub(crate) fn list(items: Result<Vec<Form>, AllocError>) -> Result<Form, AllocError>
+    ensures { (fs : List Plain) → IfOk items (λ gs. map view gs.items ≡ fs) → IfOk result (λ f. view f ≡ plain_list fs) }
+{
+    let items = items?;
+    Ok(plain_list(items))
+}
+
+/// A form in front of others.
+pub(crate) fn in_front(
+    first: Result<Form, AllocError>,
+    others: Result<Vec<Form>, AllocError>,
+) -> Result<Vec<Form>, AllocError>
+    ensures { (f : Plain) (fs : List Plain) → IfOk first (λ g. view g ≡ f) → IfOk others (λ gs. map view gs.items ≡ fs) → IfOk result (λ gs. map view gs.items ≡ f ∷ fs) }
+{
+    let mut forms = others?;
+    let first = first?;
+    forms.insert(0, first)?;
+    Ok(forms)
 }
 
 /// A list of a word and these items.
 pub(crate) fn headed_list(
     alloc: Global,
     head: &str,
-    mut items: Vec<Form>,
+    items: Result<Vec<Form>, AllocError>,
 ) -> Result<Form, AllocError>
-    ensures { IfOk result (λ f. view f ≡ headed_list head.now (map view items.items)) }
+    ensures { (fs : List Plain) → IfOk items (λ gs. map view gs.items ≡ fs) → IfOk result (λ f. view f ≡ headed_list head.now fs) }
 {
-    let head = word(alloc, head)?;
-    items.insert(0, head)?;
-    Ok(Form::List(no_place(), items))
+    list(in_front(word(alloc, head), items))
 }
 
 /// One form, with room for a head.
-pub(crate) fn one(alloc: Global, form: Form) -> Result<Vec<Form>, AllocError>
-    ensures { IfOk result (λ forms. forms.items ≡ form ∷ []) }
+pub(crate) fn one(alloc: Global, form: Result<Form, AllocError>) -> Result<Vec<Form>, AllocError>
+    ensures { (f : Plain) → IfOk form (λ g. view g ≡ f) → IfOk result (λ gs. map view gs.items ≡ f ∷ []) }
 {
-    let mut forms = Vec::with_capacity(alloc, 2)?;
-    forms.push(form)?;
-    Ok(forms)
+    let mut forms = Growing::with_capacity(alloc, 2);
+    add(form, &mut forms);
+    forms.finish()
 }
 
 /// Two forms, with room for a head.
-pub(crate) fn two(alloc: Global, first: Form, second: Form) -> Result<Vec<Form>, AllocError>
-    ensures { IfOk result (λ forms. forms.items ≡ first ∷ second ∷ []) }
+pub(crate) fn two(
+    alloc: Global,
+    first: Result<Form, AllocError>,
+    second: Result<Form, AllocError>,
+) -> Result<Vec<Form>, AllocError>
+    ensures { (f g : Plain) → IfOk first (λ h. view h ≡ f) → IfOk second (λ h. view h ≡ g) → IfOk result (λ gs. map view gs.items ≡ f ∷ g ∷ []) }
 {
-    let mut forms = Vec::with_capacity(alloc, 3)?;
-    forms.push(first)?;
-    forms.push(second)?;
-    Ok(forms)
+    let mut forms = Growing::with_capacity(alloc, 3);
+    add(first, &mut forms);
+    add(second, &mut forms);
+    forms.finish()
 }

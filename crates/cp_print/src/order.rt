@@ -1,14 +1,17 @@
 // The covering pairs of a skeleton's order.
-ghost use Rattle.std.specs.Prelude.{◌≡◌, ◌++◌, ◌&&◌, [], map, length, get_or, false, not, IfOk, OnOk};
+ghost use Rattle.std.specs.Prelude.{◌≡◌, ◌++◌, ◌&&◌, [], map, length, get_or, false, not, IfOk};
+ghost use Rattle.cp_base.specs.Growing.{Grows, seen};
 ghost use Rattle.cp_language.specs.Problems.{reaches_within};
 ghost use Rattle.cp_language.specs.Report.{nodes_from, covering_pairs};
 ghost use Rattle.cp_model.specs.Same.{same_node};
 ghost use Rattle.cp_model.specs.Skeleton.{skeleton_trace};
 ghost use Rattle.cp_sexpr.specs.View.{view};
-ghost use Rattle.cp_print.specs.Order.{nodes_counted, ordered_view, flags_before, in_order, any_between, covers, covered, all_covered, is_on_pair, is_on_pairs, nodes_on_pairs};
+ghost use Rattle.cp_print.specs.Order.{nodes_counted, ordered_view, in_order, any_between, covers, covered, all_covered, is_on_pair, is_on_pairs, nodes_on_pairs};
 
+use crate::forms::add;
 use crate::items::node_form;
-use crate::makers::{plain_list, two};
+use crate::makers::{list, two};
+use cp_base::Growing;
 use cp_names::is_flagged;
 use cp_sexpr::Form;
 use cp_skel::{Node, OrderPair, Predecessors, Skeleton, SortedPairs, Strand, StrandShape};
@@ -35,21 +38,22 @@ fn is_before(leading: &Predecessors<'_>, x: Node, y: Node) -> bool
     x != y && leads(leading, x)
 }
 
-/// For each of these nodes whether it is before y.
-fn flags_before(
+/// The node y, and for each of these nodes whether it is before y.
+fn ordered_node(
     alloc: Global,
     sorted: &SortedPairs<'_>,
     nodes: &[Node],
     y: Node,
-) -> Result<Vec<bool>, AllocError>
-    ensures { IfOk result (λ flags. flags.items ≡ flags_before sorted.now y nodes.now) }
+) -> Result<Ordered, AllocError>
+    ensures { IfOk result (λ o. ordered_view o ≡ in_order sorted.now nodes.now y) }
 {
     let leading = sorted.predecessors_of(alloc, y)?;
-    let mut flags = Vec::with_capacity(alloc, nodes.len())?;
+    let mut before = Growing::with_capacity(alloc, nodes.len());
     for x in nodes {
-        flags.push(is_before(&leading, *x, y))?;
+        before.push(is_before(&leading, *x, y));
     }
-    Ok(flags)
+    let before = before.finish()?;
+    Ok(Ordered { node: y, before })
 }
 
 /// The nodes with what is before them.
@@ -57,15 +61,10 @@ fn in_order(alloc: Global, pairs: &[OrderPair], nodes: &[Node]) -> Result<Vec<Or
     ensures { IfOk result (λ all. map ordered_view all.items ≡ map (in_order pairs.now nodes.now) nodes.now) }
 {
     let sorted = SortedPairs::new(alloc, pairs)?;
-    let mut all = Vec::with_capacity(alloc, nodes.len())?;
-    for node in nodes {
-        let before = flags_before(alloc, &sorted, nodes, *node)?;
-        all.push(Ordered {
-            node: *node,
-            before,
-        })?;
-    }
-    Ok(all)
+    nodes
+        .iter()
+        .map(|node| ordered_node(alloc, &sorted, nodes, *node))
+        .try_collect(alloc)
 }
 
 /// Whether the node z, of the second number, is after the node of the first and before y.
@@ -95,23 +94,16 @@ fn is_covering(all: &[Ordered], number: usize, x: Node, y: &Ordered) -> bool
 }
 
 /// Appends the covering pairs that begin with the node of this number, x.
-fn add_covered(
-    alloc: Global,
-    all: &[Ordered],
-    number: usize,
-    x: Node,
-    forms: &mut Vec<Form>,
-) -> Result<(), AllocError>
-    ensures { OnOk result (map view forms.new.items ≡ map view forms.old.items ++ covered (map ordered_view all.now) number x (map ordered_view all.now)) }
+fn add_covered(alloc: Global, all: &[Ordered], number: usize, x: Node, forms: &mut Growing<Form>)
+    ensures { Grows (seen view forms.old) (seen view forms.new) (covered (map ordered_view all.now) number x (map ordered_view all.now)) }
 {
     for y in all {
-        if is_covering(all, number, x, y) {
-            let earlier = node_form(alloc, x)?;
-            let later = node_form(alloc, y.node)?;
-            forms.push(plain_list(two(alloc, earlier, later)?))?;
+        if !is_covering(all, number, x, y) {
+            continue;
         }
+        let pair = two(alloc, node_form(alloc, x), node_form(alloc, y.node));
+        add(list(pair), forms);
     }
-    Ok(())
 }
 
 /// How many events a strand has.
@@ -126,13 +118,12 @@ fn length_of(strand: &Strand) -> usize
 }
 
 /// Appends the nodes of a strand.
-fn add_nodes_on(strand: usize, count: usize, nodes: &mut Vec<Node>) -> Result<(), AllocError>
-    ensures { OnOk result (nodes.new.items ≡ nodes.old.items ++ nodes_counted strand 0 count) }
+fn add_nodes_on(strand: usize, count: usize, nodes: &mut Growing<Node>)
+    ensures { nodes.new.ran_out ≡ false → (nodes.old.ran_out ≡ false) × (nodes.new.items ≡ nodes.old.items ++ nodes_counted strand 0 count) }
 {
     for index in 0..count {
-        nodes.push(Node { strand, index })?;
+        nodes.push(Node { strand, index });
     }
-    Ok(())
 }
 
 /// The nodes of these strands, by strand and index.
@@ -140,11 +131,11 @@ fn add_nodes_on(strand: usize, count: usize, nodes: &mut Vec<Node>) -> Result<()
 fn nodes_of(alloc: Global, strands: &[Strand]) -> Result<Vec<Node>, AllocError>
     ensures { IfOk result (λ nodes. nodes.items ≡ nodes_from 0 strands.now) }
 {
-    let mut nodes = Vec::new(alloc);
+    let mut nodes = Growing::with_capacity(alloc, strands.len());
     for number in 0..strands.len() {
-        add_nodes_on(number, length_of(&strands[number]), &mut nodes)?;
+        add_nodes_on(number, length_of(&strands[number]), &mut nodes);
     }
-    Ok(nodes)
+    nodes.finish()
 }
 
 /// Whether the node's strand is one of the pair's.
@@ -174,24 +165,25 @@ fn nodes_on_pairs(
 ) -> Result<Vec<Node>, AllocError>
     ensures { IfOk result (λ found. found.items ≡ nodes_on_pairs pairs.now nodes.now) }
 {
-    let mut found = Vec::with_capacity(alloc, nodes.len())?;
+    let mut found = Growing::with_capacity(alloc, nodes.len());
     for node in nodes {
         if is_on_pairs(pairs, *node) {
-            found.push(*node)?;
+            found.push(*node);
         }
     }
-    Ok(found)
+    found.finish()
 }
 
 /// The covering pairs of nodes with what is before them.
+#[tactic(auto, using(crate::proofs::GrownForms::made_none))]
 fn covered(alloc: Global, all: &[Ordered]) -> Result<Vec<Form>, AllocError>
     ensures { IfOk result (λ fs. map view fs.items ≡ all_covered (map ordered_view all.now) 0 (map ordered_view all.now)) }
 {
-    let mut forms = Vec::with_capacity(alloc, all.len().saturating_add(1))?;
+    let mut forms = Growing::with_capacity(alloc, all.len().saturating_add(1));
     for number in 0..all.len() {
-        add_covered(alloc, all, number, all[number].node, &mut forms)?;
+        add_covered(alloc, all, number, all[number].node, &mut forms);
     }
-    Ok(forms)
+    forms.finish()
 }
 
 /// The covering pairs between different strands, by first node and then by second.

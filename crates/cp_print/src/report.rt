@@ -1,5 +1,6 @@
 // The report.
-ghost use Rattle.std.specs.Prelude.{◌≡◌, ◌++◌, [], ◌∷◌, length, map, IfOk, OnOk, OnErr};
+ghost use Rattle.std.specs.Prelude.{◌≡◌, ◌++◌, [], ◌∷◌, length, IfOk, OnOk, OnErr};
+ghost use Rattle.cp_base.specs.Growing.{Grows, seen};
 ghost use Rattle.cp_language.specs.Input.{form_of, stated};
 ghost use Rattle.cp_language.specs.Printed.{word, numeral};
 ghost use Rattle.cp_language.specs.Report.{status_form, report_forms, report_text, shape_count, text_of_forms};
@@ -11,9 +12,11 @@ ghost use Rattle.cp_sexpr.specs.View.{view};
 ghost use Rattle.cp_print.specs.Chosen.{chosen_by};
 ghost use Rattle.cp_print.specs.WrittenForms.{ends_from, HasAppendedForms, entry_forms, trees_behind};
 
-use crate::items::outcome_words;
+use crate::forms::add;
+use crate::items::with_outcome;
 use crate::labels::label_form;
 use crate::makers::{headed_list, numeral, word};
+use cp_base::Growing;
 use cp_load::{Entry, Input, Problem};
 use cp_names::problem_names;
 use cp_sexpr::{Form, write_top};
@@ -23,18 +26,18 @@ use std::alloc::{AllocError, Global};
 
 /// Which labels of a tree are printed.
 #[derive(Clone, Copy)]
-enum Labels {
+enum Chosen {
     All,
     Shapes,
 }
 
 /// Whether the label is one of those that are printed.
-fn is_chosen(labels: Labels, label: &Label) -> bool
-    ensures { result ≡ chosen_by labels label.now }
+fn is_chosen(chosen: Chosen, label: &Label) -> bool
+    ensures { result ≡ chosen_by chosen label.now }
 {
-    match labels {
-        Labels::All => true,
-        Labels::Shapes => matches!(label.mark, Some(Mark::Shape)),
+    match chosen {
+        Chosen::All => true,
+        Chosen::Shapes => matches!(label.mark, Some(Mark::Shape)),
     }
 }
 
@@ -52,7 +55,7 @@ fn put(form: &Form, out: &mut Vec<u8>, ends: &mut Vec<usize>) -> Result<(), Allo
 /// Writes the chosen labels of a tree. `of_problem` are the names of the problem's variables.
 fn put_labels(
     alloc: Global,
-    chosen: Labels,
+    chosen: Chosen,
     of_problem: &[Text],
     labels: &[Label],
     out: &mut Vec<u8>,
@@ -99,17 +102,11 @@ fn shape_count(labels: &[Label]) -> usize
 }
 
 /// Appends a word and a number.
-fn add_count(
-    alloc: Global,
-    text: &str,
-    count: usize,
-    words: &mut Vec<Form>,
-) -> Result<(), AllocError>
-    ensures { OnOk result (map view words.new.items ≡ map view words.old.items ++ word text.now ∷ numeral count ∷ []) }
+fn add_count(alloc: Global, text: &str, count: usize, words: &mut Growing<Form>)
+    ensures { Grows (seen view words.old) (seen view words.new) (word text.now ∷ numeral count ∷ []) }
 {
-    words.push(word(alloc, text)?)?;
-    words.push(numeral(count)?)?;
-    Ok(())
+    add(word(alloc, text), words);
+    add(Ok(numeral(count)), words);
 }
 
 /// The outcome, the number of labels, how many were expanded, and how many are shapes.
@@ -117,10 +114,11 @@ fn status_form(alloc: Global, tree: &Tree) -> Result<Form, AllocError>
     ensures { IfOk result (λ f. view f ≡ status_form tree.now) }
 {
     let labels = tree.labels.as_slice();
-    let mut words = outcome_words(alloc, tree.outcome)?;
-    add_count(alloc, "labels", labels.len(), &mut words)?;
-    add_count(alloc, "expanded", expanded_count(labels), &mut words)?;
-    add_count(alloc, "shapes", shape_count(labels), &mut words)?;
+    let mut counts = Growing::with_capacity(alloc, 9);
+    add_count(alloc, "labels", labels.len(), &mut counts);
+    add_count(alloc, "expanded", expanded_count(labels), &mut counts);
+    add_count(alloc, "shapes", shape_count(labels), &mut counts);
+    let words = with_outcome(alloc, tree.outcome, counts.finish());
     headed_list(alloc, "status", words)
 }
 
@@ -128,7 +126,7 @@ fn status_form(alloc: Global, tree: &Tree) -> Result<Form, AllocError>
 #[tactic(auto, using(crate::proofs::Writings::front_none))]
 fn put_tree(
     alloc: Global,
-    chosen: Labels,
+    chosen: Chosen,
     problem: &Problem,
     tree: &Tree,
     out: &mut Vec<u8>,
@@ -140,33 +138,14 @@ fn put_tree(
     let names = problem_names(alloc, problem.declared, problem.skeleton.variables())?;
     let status = status_form(alloc, tree)?;
     put_labels(alloc, chosen, &names, tree.labels.as_slice(), out, ends)?;
-    put(&status, out, ends)?;
-    Ok(())
-}
-
-/// Writes the form of a problem, and its tree.
-fn put_problem(
-    alloc: Global,
-    chosen: Labels,
-    form: &Form,
-    problem: &Problem,
-    tree: &Tree,
-    out: &mut Vec<u8>,
-    ends: &mut Vec<usize>,
-) -> Result<(), AllocError>
-    ensures ok { OnOk result (HasAppendedForms out.old.items ends.old.items out.new.items ends.new.items (view form.now ∷ chosen_tree_forms (chosen_by chosen) (problem_view problem.now) tree.now)) }
-    ensures err { OnErr result (AppendsFront out.old.items out.new.items (text_of_forms (view form.now ∷ chosen_tree_forms (chosen_by chosen) (problem_view problem.now) tree.now))) }
-{
-    put(form, out, ends)?;
-    put_tree(alloc, chosen, problem, tree, out, ends)?;
-    Ok(())
+    put(&status, out, ends)
 }
 
 /// Writes the form of an entry and, if it states a problem, the first of these trees, if there is one. Returns the
 /// trees that follow.
 fn put_entry<'a>(
     alloc: Global,
-    chosen: Labels,
+    chosen: Chosen,
     entry: &Entry<'_>,
     trees: &'a [Tree],
     out: &mut Vec<u8>,
@@ -176,23 +155,21 @@ fn put_entry<'a>(
     ensures rest { IfOk result (λ rest. rest.now ≡ trees_behind (stated (entry_view entry.now)) trees.now) }
     ensures err { OnErr result (AppendsFront out.old.items out.new.items (text_of_forms (entry_forms (chosen_by chosen) (form_of (entry_view entry.now)) (stated (entry_view entry.now)) trees.now))) }
 {
-    let form = entry.form();
+    put(entry.form(), out, ends)?;
     let Some(problem) = entry.problem() else {
-        put(form, out, ends)?;
         return Ok(trees);
     };
     let Some((tree, rest)) = trees.split_first() else {
-        put(form, out, ends)?;
         return Ok(trees);
     };
-    put_problem(alloc, chosen, form, problem, tree, out, ends)?;
+    put_tree(alloc, chosen, problem, tree, out, ends)?;
     Ok(rest)
 }
 
 /// Writes the report of the chosen labels.
 fn put_report(
     alloc: Global,
-    chosen: Labels,
+    chosen: Chosen,
     input: &Input<'_>,
     trees: &[Tree],
     out: &mut Vec<u8>,
@@ -222,7 +199,7 @@ pub fn print_pieces(
     ensures ends { OnOk result (ends.new.items ≡ ends.old.items ++ ends_from (length out.old.items) (report_forms (input_entries input.now) trees.now)) }
     ensures err { OnErr result (AppendsFront out.old.items out.new.items (report_text (input_entries input.now) trees.now)) }
 {
-    put_report(alloc, Labels::All, input, trees, out, ends)
+    put_report(alloc, Chosen::All, input, trees, out, ends)
 }
 
 /// Appends the text of the report on the input with these trees, one for each problem in order. If memory runs out, a
@@ -237,8 +214,7 @@ pub fn print(
     ensures err { OnErr result (AppendsFront out.old.items out.new.items (report_text (input_entries input.now) trees.now)) }
 {
     let mut ends = Vec::new(alloc);
-    print_pieces(alloc, input, trees, out, &mut ends)?;
-    Ok(())
+    print_pieces(alloc, input, trees, out, &mut ends)
 }
 
 /// Appends the text of the report without the labels that are not marked as shapes. Appends to `ends`, for each top
@@ -255,7 +231,7 @@ pub fn print_shape_pieces(
     ensures ends { OnOk result (ends.new.items ≡ ends.old.items ++ ends_from (length out.old.items) (shapes_forms (input_entries input.now) trees.now)) }
     ensures err { OnErr result (AppendsFront out.old.items out.new.items (shapes_text (input_entries input.now) trees.now)) }
 {
-    put_report(alloc, Labels::Shapes, input, trees, out, ends)
+    put_report(alloc, Chosen::Shapes, input, trees, out, ends)
 }
 
 /// Appends the text of the report on the input with these trees, one for each problem in order, without the labels that
@@ -270,6 +246,5 @@ pub fn print_shapes(
     ensures err { OnErr result (AppendsFront out.old.items out.new.items (shapes_text (input_entries input.now) trees.now)) }
 {
     let mut ends = Vec::new(alloc);
-    print_shape_pieces(alloc, input, trees, out, &mut ends)?;
-    Ok(())
+    print_shape_pieces(alloc, input, trees, out, &mut ends)
 }

@@ -1,41 +1,28 @@
 // The variables and the strands of a label form.
-ghost use Rattle.std.specs.Prelude.{◌≡◌, ◌++◌, [], ◌∷◌, count_by, map, IfOk, OnOk};
+ghost use Rattle.std.specs.Prelude.{◌≡◌, [], map, IfOk};
+ghost use Rattle.cp_base.specs.Growing.{Grows, seen};
 ghost use Rattle.cp_model.specs.Homomorphism.{substitution_by};
 ghost use Rattle.cp_model.specs.Term.{variable_term, apply_to};
-ghost use Rattle.cp_language.specs.Names.{sort_text};
-ghost use Rattle.cp_language.specs.Printed.{variable, word, plain_list, term_form};
+ghost use Rattle.cp_language.specs.Printed.{variable, term_form};
 ghost use Rattle.cp_language.specs.Report.{strand_form};
 ghost use Rattle.cp_sexpr.specs.View.{view};
 ghost use Rattle.cp_strand.specs.View.{instance_view};
 ghost use Rattle.cp_print.specs.MarkedForms.{vars_by, maplets_by};
 ghost use Rattle.cp_print.specs.Named.{named_in};
 
-use crate::makers::{headed_list, numeral, one, plain_list, two, word};
+use crate::forms::add;
+use crate::makers::{headed_list, in_front, list, numeral, one, two, word};
 use crate::terms::term_form;
 use crate::variable_names::{Naming, name_of, sort_text};
+use cp_base::Growing;
 use cp_names::{is_flagged, prefix_flags};
 use cp_sexpr::Form;
 use cp_strand::{Declaration, Instance, Role, Strand, StrandShape, applied};
 use cp_term::{Sort, Term, Text, VarId, var};
 use std::alloc::{AllocError, Global};
 
-/// A variable: its name and its sort.
-fn var_form(alloc: Global, name: &str, sort: Sort) -> Result<Form, AllocError>
-    ensures { IfOk result (λ f. view f ≡ plain_list (word name.now ∷ word (sort_text sort) ∷ [])) }
-{
-    let name = word(alloc, name)?;
-    let sort = word(alloc, sort_text(sort))?;
-    Ok(plain_list(two(alloc, name, sort)?))
-}
-
-/// How many flags are set.
-fn flagged_count(flags: &[bool]) -> usize
-    ensures { result ≡ count_by (λ mark. mark) flags.now }
-{
-    flags.iter().filter(|mark| **mark).count()
-}
-
 /// The flagged variables, each with its sort.
+#[tactic(auto, using(crate::proofs::GrownForms::made_none))]
 pub(crate) fn vars(
     alloc: Global,
     names: &[Text],
@@ -44,16 +31,17 @@ pub(crate) fn vars(
 ) -> Result<Vec<Form>, AllocError>
     ensures { IfOk result (λ fs. map view fs.items ≡ vars_by names.now flags.now 0 variables.now) }
 {
-    let mut forms = Vec::with_capacity(alloc, flagged_count(flags).saturating_add(1))?;
+    let mut forms = Growing::with_capacity(alloc, variables.len().saturating_add(1));
     for number in 0..variables.len() {
         if !is_flagged(flags, number) {
             continue;
         }
         let variable = &variables[number];
-        let form = var_form(alloc, name_of(names, number), variable.sort)?;
-        forms.push(form)?;
+        let name = word(alloc, name_of(names, number));
+        let sort = word(alloc, sort_text(variable.sort));
+        add(list(two(alloc, name, sort)), &mut forms);
     }
-    Ok(forms)
+    forms.finish()
 }
 
 /// The value of a role's variable under the terms of an instance.
@@ -71,22 +59,8 @@ fn value_form(
     term_form(alloc, naming, &value)
 }
 
-/// The maplet of the role's variable with this number: its identifier and its value.
-fn maplet(
-    alloc: Global,
-    naming: &Naming<'_>,
-    values: &[Term],
-    declared: &Declaration,
-    number: usize,
-) -> Result<Form, AllocError>
-    ensures { IfOk result (λ f. view f ≡ plain_list (word declared.now.identifier ∷ term_form (named_in naming.now) (apply_to (substitution_by values.now) (variable_term (variable declared.now.sort number))) ∷ [])) }
-{
-    let identifier = word(alloc, declared.identifier.as_str())?;
-    let value = value_form(alloc, naming, values, declared.sort, number)?;
-    Ok(plain_list(two(alloc, identifier, value)?))
-}
-
-/// The maplets of the flagged variables of a role.
+/// The maplets of the flagged variables of a role: each identifier with its value.
+#[tactic(auto, using(crate::proofs::GrownForms::made_none))]
 fn maplets(
     alloc: Global,
     naming: &Naming<'_>,
@@ -96,19 +70,20 @@ fn maplets(
 ) -> Result<Vec<Form>, AllocError>
     ensures { IfOk result (λ fs. map view fs.items ≡ maplets_by (named_in naming.now) flags.now (substitution_by values.now) 0 variables.now) }
 {
-    let mut forms = Vec::with_capacity(alloc, flagged_count(flags).saturating_add(3))?;
+    let mut forms = Growing::with_capacity(alloc, variables.len().saturating_add(3));
     for number in 0..variables.len() {
         if !is_flagged(flags, number) {
             continue;
         }
-        let form = maplet(alloc, naming, values, &variables[number], number)?;
-        forms.push(form)?;
+        let variable = &variables[number];
+        let identifier = word(alloc, variable.identifier.as_str());
+        let value = value_form(alloc, naming, values, variable.sort, number);
+        add(list(two(alloc, identifier, value)), &mut forms);
     }
-    Ok(forms)
+    forms.finish()
 }
 
 /// An instance as a form.
-#[tactic(auto, using(crate::proofs::ByFlags::instance_maplets))]
 fn instance_form(
     alloc: Global,
     naming: &Naming<'_>,
@@ -118,10 +93,10 @@ fn instance_form(
 {
     let role: &Role = instance.role();
     let flags = prefix_flags(alloc, role, instance.height())?;
-    let mut items = maplets(alloc, naming, instance.values(), &flags, role.variables())?;
-    items.insert(0, numeral(instance.height())?)?;
-    items.insert(0, word(alloc, role.name().as_str())?)?;
-    headed_list(alloc, "defstrand", items)
+    let maplets = maplets(alloc, naming, instance.values(), &flags, role.variables());
+    let items = in_front(Ok(numeral(instance.height())), maplets);
+    let name = word(alloc, role.name().as_str());
+    headed_list(alloc, "defstrand", in_front(name, items))
 }
 
 /// A strand as a form.
@@ -131,8 +106,8 @@ fn strand_form(alloc: Global, naming: &Naming<'_>, strand: &Strand) -> Result<Fo
     match strand.shape() {
         StrandShape::Instance(instance) => instance_form(alloc, naming, instance),
         StrandShape::Listener(message) => {
-            let message = term_form(alloc, naming, message)?;
-            headed_list(alloc, "deflistener", one(alloc, message)?)
+            let message = term_form(alloc, naming, message);
+            headed_list(alloc, "deflistener", one(alloc, message))
         }
     }
 }
@@ -142,12 +117,11 @@ pub(crate) fn add_strand_forms(
     alloc: Global,
     naming: &Naming<'_>,
     strands: &[Strand],
-    items: &mut Vec<Form>,
-) -> Result<(), AllocError>
-    ensures { OnOk result (map view items.new.items ≡ map view items.old.items ++ map (strand_form (named_in naming.now)) strands.now) }
+    items: &mut Growing<Form>,
+)
+    ensures { Grows (seen view items.old) (seen view items.new) (map (strand_form (named_in naming.now)) strands.now) }
 {
     for strand in strands {
-        items.push(strand_form(alloc, naming, strand)?)?;
+        add(strand_form(alloc, naming, strand), items);
     }
-    Ok(())
 }

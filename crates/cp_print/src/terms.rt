@@ -1,15 +1,18 @@
 // Terms and atoms as forms.
-ghost use Rattle.std.specs.Prelude.{◌≡◌, ◌++◌, [], ◌∷◌, map, codes, true, IfOk};
+ghost use Rattle.std.specs.Prelude.{◌≡◌, ◌++◌, [], ◌∷◌, map, codes, IfOk};
 ghost use Rattle.std.specs.Option.{option_map};
-ghost use Rattle.cp_language.specs.Printed.{headed_list, name_items, symmetric_form, asymmetric_form, atom_form, spine, term_form};
-ghost use Rattle.cp_model.specs.Term.{ltk_term, akey_variable, pubk_term};
+ghost use Rattle.cp_language.specs.Printed.{headed_list, name_items, asymmetric_form, atom_form, spine, term_form};
+ghost use Rattle.cp_model.specs.Term.{pubk_term};
+ghost use Rattle.cp_sexpr.specs.Syntax.{Form as Plain};
 ghost use Rattle.cp_sexpr.specs.View.{view, views};
 ghost use Rattle.cp_strand.specs.Atoms.{atom_of};
 ghost use Rattle.cp_print.specs.Named.{named_in};
 ghost use Rattle.cp_print.specs.Parts.{as_one};
 
-use crate::makers::{headed_list, one, plain_list, quoted, two, word};
+use crate::forms::add;
+use crate::makers::{headed_list, one, quoted, two, word};
 use crate::variable_names::Naming;
+use cp_base::Growing;
 use cp_sexpr::Form;
 use cp_term::{Shape, Sort, Term, VarId};
 use std::alloc::{AllocError, Global};
@@ -23,31 +26,11 @@ fn name_items(
 ) -> Result<Vec<Form>, AllocError>
     ensures { IfOk result (λ fs. map view fs.items ≡ name_items (named_in naming.now) (option_map (λ t. t.now) purpose.entry) name) }
 {
-    let name = naming.named(alloc, Sort::Name, name)?;
+    let name = naming.named(alloc, Sort::Name, name);
     match purpose {
-        Some(purpose) => {
-            let purpose = quoted(alloc, purpose)?;
-            two(alloc, purpose, name)
-        }
+        Some(purpose) => two(alloc, quoted(alloc, purpose), name),
         None => one(alloc, name),
     }
-}
-
-/// The inverse of a variable of sort akey.
-fn inverse_form(alloc: Global, naming: &Naming<'_>, id: VarId) -> Result<Form, AllocError>
-    ensures { IfOk result (λ f. view f ≡ asymmetric_form (named_in naming.now) true (akey_variable id)) }
-{
-    let variable = naming.named(alloc, Sort::Akey, id)?;
-    headed_list(alloc, "invk", one(alloc, variable)?)
-}
-
-/// The long-term key of two names.
-fn ltk_form(alloc: Global, naming: &Naming<'_>, a: VarId, b: VarId) -> Result<Form, AllocError>
-    ensures { IfOk result (λ f. view f ≡ symmetric_form (named_in naming.now) (ltk_term a b)) }
-{
-    let first = naming.named(alloc, Sort::Name, a)?;
-    let second = naming.named(alloc, Sort::Name, b)?;
-    headed_list(alloc, "ltk", two(alloc, first, second)?)
 }
 
 /// The public or private key of a name.
@@ -60,7 +43,7 @@ fn name_key_form(
 ) -> Result<Form, AllocError>
     ensures { IfOk result (λ f. view f ≡ asymmetric_form (named_in naming.now) private (pubk_term (option_map (λ t. t.now) purpose.entry) name)) }
 {
-    let items = name_items(alloc, naming, purpose, name)?;
+    let items = name_items(alloc, naming, purpose, name);
     if private {
         headed_list(alloc, "privk", items)
     } else {
@@ -74,8 +57,15 @@ pub(crate) fn atom_form(alloc: Global, naming: &Naming<'_>, term: &Term) -> Resu
 {
     match term.shape() {
         Shape::Variable(id, sort) => naming.named(alloc, sort, id),
-        Shape::Inverse(id) => inverse_form(alloc, naming, id),
-        Shape::Ltk(a, b) => ltk_form(alloc, naming, a, b),
+        Shape::Inverse(id) => {
+            let variable = naming.named(alloc, Sort::Akey, id);
+            headed_list(alloc, "invk", one(alloc, variable))
+        }
+        Shape::Ltk(a, b) => {
+            let first = naming.named(alloc, Sort::Name, a);
+            let second = naming.named(alloc, Sort::Name, b);
+            headed_list(alloc, "ltk", two(alloc, first, second))
+        }
         Shape::Pubk(private, purpose, name) => {
             name_key_form(alloc, naming, private, purpose, name)
         }
@@ -91,7 +81,7 @@ fn gathered(alloc: Global, mut parts: Vec<Form>) -> Result<Form, AllocError>
     ensures { IfOk result (λ f. view f ≡ as_one (views parts.items)) }
 {
     if parts.len() > 1 {
-        return headed_list(alloc, "cat", parts);
+        return headed_list(alloc, "cat", Ok(parts));
     }
     match parts.pop() {
         Some(part) => Ok(part),
@@ -100,44 +90,44 @@ fn gathered(alloc: Global, mut parts: Vec<Form>) -> Result<Form, AllocError>
 }
 
 /// An encryption of these parts under this key.
-fn encryption_form(alloc: Global, mut parts: Vec<Form>, key: Form) -> Result<Form, AllocError>
-    ensures { IfOk result (λ f. view f ≡ headed_list (codes "enc") (map view parts.items ++ view key ∷ [])) }
+fn encryption_form(
+    alloc: Global,
+    mut parts: Vec<Form>,
+    key: Result<Form, AllocError>,
+) -> Result<Form, AllocError>
+    ensures { (k : Plain) → IfOk key (λ f. view f ≡ k) → IfOk result (λ f. view f ≡ headed_list (codes "enc") (map view parts.items ++ k ∷ [])) }
 {
+    let key = key?;
     parts.push(key)?;
-    headed_list(alloc, "enc", parts)
+    headed_list(alloc, "enc", Ok(parts))
 }
 
 /// The parts along the right spine of a pair; a term that is no pair is its only part.
-#[tactic(auto, using(crate::proofs::Spines::pair_more, crate::proofs::Spines::last_part, crate::proofs::Spines::last_encryption))]
 fn spine(alloc: Global, naming: &Naming<'_>, term: &Term) -> Result<Vec<Form>, AllocError>
     ensures { IfOk result (λ fs. views fs.items ≡ spine (named_in naming.now) term.now) }
 {
-    let mut parts = Vec::new(alloc);
+    let mut parts = Growing::with_capacity(alloc, 1);
     let mut rest = term;
     loop {
         match rest.shape() {
             Shape::Pair(left, right) => {
                 let left = spine(alloc, naming, left)?;
-                let part = gathered(alloc, left)?;
-                parts.push(part)?;
+                add(gathered(alloc, left), &mut parts);
                 rest = right;
             }
             Shape::Encryption(body, key) => {
                 let body = spine(alloc, naming, body)?;
-                let key = atom_form(alloc, naming, key)?;
-                let part = encryption_form(alloc, body, key)?;
-                parts.push(part)?;
-                return Ok(parts);
+                let key = atom_form(alloc, naming, key);
+                add(encryption_form(alloc, body, key), &mut parts);
+                return parts.finish();
             }
             Shape::Tag(text) => {
-                let part = quoted(alloc, text)?;
-                parts.push(part)?;
-                return Ok(parts);
+                add(quoted(alloc, text), &mut parts);
+                return parts.finish();
             }
             Shape::Variable(..) | Shape::Inverse(_) | Shape::Ltk(..) | Shape::Pubk(..) => {
-                let part = atom_form(alloc, naming, rest)?;
-                parts.push(part)?;
-                return Ok(parts);
+                add(atom_form(alloc, naming, rest), &mut parts);
+                return parts.finish();
             }
         }
     }

@@ -8,8 +8,7 @@ ghost use Rattle.cp_sexpr.specs.View.{view};
 ghost use Rattle.cp_print.specs.Named.{named_in};
 
 use crate::makers::{headed_list, numeral, two, word};
-use cp_names::is_same_sort;
-use cp_scope::Variable;
+use cp_scope::{Variable, is_same_sort};
 use cp_sexpr::Form;
 use cp_term::{Sort, Text, VarId};
 use std::alloc::{AllocError, Global};
@@ -65,9 +64,8 @@ impl Naming<'_> {
         let number = id.number();
         match place_among(self.locals, sort, number) {
             Some(place) => {
-                let sort = word(alloc, sort_text(sort))?;
-                let place = numeral(place)?;
-                headed_list(alloc, "any", two(alloc, sort, place)?)
+                let sort = word(alloc, sort_text(sort));
+                headed_list(alloc, "any", two(alloc, sort, Ok(numeral(place))))
             }
             None => word(alloc, name_of(self.names, number)),
         }

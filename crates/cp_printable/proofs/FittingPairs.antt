@@ -1,5 +1,5 @@
 -- The trees of forms that are a report have labels whose pairs go from transmissions to receptions of other strands.
-use Rattle.std.proofs.Common.{◌≡◌, ℕ, suc, List, [], ◌∷◌, ◌++◌, length, Bool, true, false, ◌&&◌, refl, sym, ap, ◌∙◌, subst, if◌then◌else◌, ⊎_elim}
+use Rattle.std.proofs.Common.{◌≡◌, ℕ, suc, List, [], ◌∷◌, ◌++◌, length, Bool, true, false, ◌&&◌, refl, sym, subst, if◌then◌else◌, ⊎_elim}
 use Rattle.std.specs.Prelude.{Option, Some, None, map, not, codes}
 use Rattle.cp_base.specs.declared.place.Place.{Place}
 use Rattle.cp_lists.specs.Lists.{IsIn}
@@ -16,38 +16,16 @@ use Rattle.cp_language.specs.Roles.{headed}
 use Rattle.cp_language.specs.Problems.{Problem, is_some_transmission, is_some_reception, on_one_strand, between_strands, pair_of, pairs_in}
 use Rattle.cp_language.specs.Input.{stated_problem, protocols_behind, faults_of}
 use Rattle.cp_language.proofs.Bodies.{is_sent, is_received, differ}
-use Rattle.cp_report.specs.Misfits.{misfit_unless, unless_misfit, where_fitting, first_or, list_misfits, entries_misfits, lacking}
-use Rattle.cp_report.specs.Heads.{has_head, heads_behind_strands, forms_after_head, item_with, entries_or_none, optional_misfits, mark_heads, up_to_strands, Line, lines_from, lines_behind, lines_of_label, order_misfits}
-use Rattle.cp_report.specs.Skeletons.{node_misfits, has_pair, is_further_pair, pair_stated, pair_misfits, pairs_misfits, precedes_misfits, strands_of_label, map_misfits, scope_of, vars_item_misfits, strands_misfits, around_strands_misfits}
-use Rattle.cp_report.specs.Labels.{missing_misfits, no_parent_misfits, parent_misfits, operation_misfits, about_strands_misfits, escape_misfits, children_misfits, mark_misfits, behind_number, items_misfits, numbered_misfits, label_misfits, label_by, label_of}
+use Rattle.cp_report.specs.Misfits.{misfit_unless, first_or, list_misfits, entries_misfits, lacking}
+use Rattle.cp_report.specs.Heads.{forms_after_head, item_with, entries_or_none, optional_misfits, lines_of_label, order_misfits}
+use Rattle.cp_report.specs.Skeletons.{node_misfits, has_pair, is_further_pair, pair_stated, pair_misfits, pairs_misfits, precedes_misfits, strands_of_label, map_misfits, scope_of, around_strands_misfits}
+use Rattle.cp_report.specs.Labels.{behind_number, items_misfits, numbered_misfits, label_misfits, label_by, label_of}
 use Rattle.cp_report.specs.ReadBack.{Section, sections_of, input_forms, labels_in_front, behind_labels, places_of, labels_misfits, if_whole, ending_misfits, tree_misfits, next_place, trees_misfits, fault_places, first_place, misfits, tree_of, tree_onto, trees_from, report_of}
+use Rattle.cp_report.proofs.NoMisfits.{none_of_unless, holds}
+use Rattle.cp_report.proofs.PartsFit.{items_fit}
 use Rattle.cp_printable.specs.TrueTrees.{HasOrderPairs}
 
 -- ---- lists without misfits
-
--- If two lists have no misfit, and the second is asked only if the first has none, the first has none,
-first_none : (ps qs : List Place) → unless_misfit ps qs ≡ [] → ps ≡ []
-first_none [] qs e = refl
-first_none (p ∷ ps) qs e = absurd (cc)
-
--- and the second has none.
-second_none : (ps qs : List Place) → unless_misfit ps qs ≡ [] → qs ≡ []
-second_none [] qs e = e
-second_none (p ∷ ps) qs e = absurd (cc)
-
--- If other forms are asked because the first list has no misfit, they have none.
-others_none : (ps qs : List Place) → where_fitting ps qs ≡ [] → ps ≡ [] → qs ≡ []
-others_none [] qs e n = e
-others_none (p ∷ ps) qs e n = absurd (cc)
-
--- A test that leaves no misfit holds.
-test_holds : (b : Bool) (at : Place) → misfit_unless b at ≡ [] → b ≡ true
-test_holds true at e = refl
-test_holds false at e = absurd (cc)
-
--- Two empty lists, one after the other, are empty.
-both_none : (ps qs : List Place) → ps ≡ [] → qs ≡ [] → ps ++ qs ≡ []
-both_none ps qs e f = ap (λ (xs : List Place). xs ++ qs) e ∙ f
 
 -- ---- one pair
 
@@ -86,8 +64,8 @@ module _ (strands : List SkeletonStrand) where
   pairs_between before [] e q i = elim i [ ]
   pairs_between before (f ∷ fs) e q i =
       let of_pair = none_before (pair_misfits strands before f) (pairs_misfits strands (before ++ pair_of f) fs) e in
-      let tested = second_none (list_misfits (entries_misfits (node_misfits strands ∷ node_misfits strands ∷ [])) f) (misfit_unless (is_further_pair strands before (pair_stated f)) (place_of f)) of_pair in
-      ⊎_elim (λ j. pair_between before (pair_stated f) (test_holds (is_further_pair strands before (pair_stated f)) (place_of f) tested) q j)
+      let tested = (none_of_unless (list_misfits (entries_misfits (node_misfits strands ∷ node_misfits strands ∷ [])) f) (misfit_unless (is_further_pair strands before (pair_stated f)) (place_of f)) of_pair).1 in
+      ⊎_elim (λ j. pair_between before (pair_stated f) (holds (is_further_pair strands before (pair_stated f)) (place_of f) tested) q j)
       (λ j. pairs_between (before ++ pair_of f) fs (none_behind (pair_misfits strands before f) (pairs_misfits strands (before ++ pair_of f) fs) e) q j)
       (in_append (pair_of f) (pairs_in fs) i)
 
@@ -98,18 +76,6 @@ module _ (strands : List SkeletonStrand) where
 
 -- ---- one label
 
--- If all items stand in the order, those up to the strands do.
-front_in_order : (lines : List Line) (fs : List Form) → order_misfits lines fs ≡ [] → order_misfits lines (up_to_strands fs) ≡ []
-front_in_order lines [] e = refl
-front_in_order lines (f ∷ fs) e =
-    by (has_head heads_behind_strands f)
-    (both_none _ (order_misfits (lines_behind lines (lines_from f lines)) (up_to_strands fs)) (none_before _ (order_misfits (lines_behind lines (lines_from f lines)) fs) e)
-    (front_in_order (lines_behind lines (lines_from f lines)) fs (none_behind _ (order_misfits (lines_behind lines (lines_from f lines)) fs) e)))
-  where
-    by : (b : Bool) → order_misfits lines (f ∷ up_to_strands fs) ≡ [] → order_misfits lines (if b then [] else f ∷ up_to_strands fs) ≡ []
-    by true h = refl
-    by false h = h
-
 module _ (p : Problem) where
   -- What is asked of the pairs of one label.
   abbrev HavePairs : Label → Type 0
@@ -117,58 +83,7 @@ module _ (p : Problem) where
 
   -- The items around the strands, of items that fit.
   around_none : (tree : Option (List Form)) (i : ℕ) (at : Place) (items : List Form) → items_misfits p tree i at items ≡ [] → around_strands_misfits p (first_or at (order_misfits lines_of_label items)) items ≡ []
-  around_none tree i at items e = none_before around (about_strands_misfits p items) (others_none (front ++ strands_misfits p items) (around ++ about_strands_misfits p items) guarded (both_none front (strands_misfits p items) front_none strands_none))
-    where
-      around : List Place
-      around = around_strands_misfits p (first_or at (order_misfits lines_of_label items)) items
-
-      front : List Place
-      front = order_misfits lines_of_label (up_to_strands items)
-
-      to_order : List Place
-      to_order = unless_misfit (order_misfits lines_of_label items) (missing_misfits at items)
-
-      to_root : List Place
-      to_root = to_order ++ optional_misfits (no_parent_misfits items) (item_with (codes "parent" ∷ []) items)
-
-      to_parent : List Place
-      to_parent = to_root ++ optional_misfits (parent_misfits tree i) (item_with (codes "parent" ∷ []) items)
-
-      to_operation : List Place
-      to_operation = to_parent ++ optional_misfits (operation_misfits p) (item_with (codes "by" ∷ []) items)
-
-      to_variables : List Place
-      to_variables = to_operation ++ vars_item_misfits items
-
-      to_strands : List Place
-      to_strands = to_variables ++ strands_misfits p items
-
-      to_around : List Place
-      to_around = to_strands ++ where_fitting (front ++ strands_misfits p items) (around ++ about_strands_misfits p items)
-
-      to_escape : List Place
-      to_escape = to_around ++ optional_misfits (escape_misfits items) (item_with (codes "escape" ∷ []) items)
-
-      to_children : List Place
-      to_children = to_escape ++ optional_misfits (λ q fs. lacking 1 q fs ++ children_misfits tree i [] fs) (item_with (codes "children" ∷ []) items)
-
-      around_are : to_around ≡ []
-      around_are = none_before to_around _ (none_before to_escape _ (none_before to_children (mark_misfits tree items (item_with mark_heads items)) e))
-
-      guarded : where_fitting (front ++ strands_misfits p items) (around ++ about_strands_misfits p items) ≡ []
-      guarded = none_behind to_strands _ around_are
-
-      strands_are : to_strands ≡ []
-      strands_are = none_before to_strands _ around_are
-
-      strands_none : strands_misfits p items ≡ []
-      strands_none = none_behind to_variables _ strands_are
-
-      order_are : to_order ≡ []
-      order_are = none_before to_order _ (none_before to_root _ (none_before to_parent _ (none_before to_operation _ (none_before to_variables _ strands_are))))
-
-      front_none : front ≡ []
-      front_none = front_in_order lines_of_label items (first_none (order_misfits lines_of_label items) (missing_misfits at items) order_are)
+  around_none tree i at items e = (items_fit p tree i at items e).around
 
   -- If these items have no misfit, the item that states the order has none.
   order_none : (at : Place) (items : List Form) → around_strands_misfits p at items ≡ [] → optional_misfits (precedes_misfits (strands_of_label p items)) (item_with (codes "precedes" ∷ []) items) ≡ []

@@ -15,7 +15,8 @@ use Rattle.cp_derive.specs.Unrealised.{ListsUnrealised}
 use Rattle.cp_roots.specs.declared.root.Root.{Root}
 use Rattle.cp_tree.specs.Candidates.{IsCandidate}
 use Rattle.cp_tree.specs.Made.{Made, LabelLink, link_of}
-use Rattle.cp_tree.specs.Searched.{mark_by_children, Becomes, is_dead, is_seen, is_realised, is_generalised, above_bound, at_limit, is_tested, IsMarkedAmong, as_shape, as_instance, IsTreeFrom}
+use Rattle.cp_tree.specs.Searched.{mark_by_children, IsMarkedAmong, as_shape, as_instance, IsTreeFrom}
+use Rattle.cp_tree.proofs.Cases.{Becomes, is_dead, is_seen, is_realised, is_generalised, above_bound, at_limit, is_tested}
 use Rattle.cp_tree.proofs.Picked.{item_of}
 use Rattle.cp_tree.proofs.Settled.{IsUnexpanded, IsExpanded, IsOfMade, unexpanded}
 use Rattle.cp_tree.proofs.SoundLabels.{settled_here, becomes_here, of_made_here}

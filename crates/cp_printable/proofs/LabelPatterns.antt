@@ -26,7 +26,8 @@ use Rattle.cp_expansion.proofs.Tables.{skeleton_in_table}
 use Rattle.cp_expansion.proofs.TestsAreTests.{is_test}
 use Rattle.cp_general.proofs.SoundGeneralisations.{same_table, are_declared}
 use Rattle.cp_tree.specs.Made.{Made, made_of_root, LabelLink, link_of}
-use Rattle.cp_tree.specs.Searched.{IsMarkedAmong, Becomes, is_dead, is_seen, is_realised, is_generalised, above_bound, at_limit, is_tested, IsTreeFrom}
+use Rattle.cp_tree.specs.Searched.{IsMarkedAmong, IsTreeFrom}
+use Rattle.cp_tree.proofs.Cases.{Becomes, is_dead, is_seen, is_realised, is_generalised, above_bound, at_limit, is_tested}
 use Rattle.cp_tree.proofs.AskedOn.{IsWellAsked, last_asked}
 use Rattle.cp_tree.proofs.Settled.{IsMadeOfChild, IsMadeOfGeneralisation, made_from}
 use Rattle.cp_tree.proofs.OwnVariables.{own_declared}

@@ -18,7 +18,8 @@ use Rattle.cp_roots.specs.Sound.{AreSound}
 use Rattle.cp_expansion.specs.Expansion.{Expansion, IsExpansionOf}
 use Rattle.cp_general.proofs.SoundGeneralisations.{same_table}
 use Rattle.cp_tree.specs.Made.{Made, made_of_root, LabelLink, link_of}
-use Rattle.cp_tree.specs.Searched.{IsMarkedAmong, Becomes, is_dead, is_seen, is_realised, is_generalised, above_bound, at_limit, is_tested, IsTreeFrom, IsTreeOf}
+use Rattle.cp_tree.specs.Searched.{IsMarkedAmong, IsTreeFrom, IsTreeOf}
+use Rattle.cp_tree.proofs.Cases.{Becomes, is_dead, is_seen, is_realised, is_generalised, above_bound, at_limit, is_tested}
 use Rattle.cp_tree.proofs.Settled.{IsMadeOfChild, IsMadeOfGeneralisation, made_from}
 use Rattle.cp_tree.proofs.SoundOrGeneralised.{IsSoundLabel, where_unrealised}
 use Rattle.cp_tree.proofs.SoundExpansions.{well_asked, expands_soundly}

@@ -125,25 +125,23 @@ module _ (put : Option Mark → Skeleton → List Skeleton → List Skeleton) (p
       by (inl add) rest = put_first add (head_or_behind (subst (IsIn k) (of_label l ls ∙ add l.skeleton (kept ls)) i)) rest
       by (inr skip) rest = further (rest (subst (IsIn k) (of_label l ls ∙ skip l.skeleton (kept ls)) i)) (λ x q. subst (IsIn x) (sym (whole ∙ skip m.skeleton (kept ms))) q)
 
+-- What holds of no mark and of each mark holds of all.
+of_marks : (P : Option Mark → Type 0) → P None → P (Some shape) → P (Some dead) → ((n : ℕ) → P (Some (seen n))) → ((n : ℕ) → P (Some (instance_of n))) → P (Some limit_steps) → P (Some limit_strands) → (o : Option Mark) → P o
+of_marks P none is_shape is_dead is_seen is_instance at_steps at_strands None = none
+of_marks P none is_shape is_dead is_seen is_instance at_steps at_strands (Some shape) = is_shape
+of_marks P none is_shape is_dead is_seen is_instance at_steps at_strands (Some dead) = is_dead
+of_marks P none is_shape is_dead is_seen is_instance at_steps at_strands (Some (seen n)) = is_seen n
+of_marks P none is_shape is_dead is_seen is_instance at_steps at_strands (Some (instance_of n)) = is_instance n
+of_marks P none is_shape is_dead is_seen is_instance at_steps at_strands (Some limit_steps) = at_steps
+of_marks P none is_shape is_dead is_seen is_instance at_steps at_strands (Some limit_strands) = at_strands
+
 -- So it is for the skeletons of shapes,
 shape_puts : (o : Option Mark) → Puts if_shape o
-shape_puts None = inr (λ k ks. refl)
-shape_puts (Some shape) = inl (λ k ks. refl)
-shape_puts (Some dead) = inr (λ k ks. refl)
-shape_puts (Some (seen n)) = inr (λ k ks. refl)
-shape_puts (Some (instance_of n)) = inr (λ k ks. refl)
-shape_puts (Some limit_steps) = inr (λ k ks. refl)
-shape_puts (Some limit_strands) = inr (λ k ks. refl)
+shape_puts = of_marks (Puts if_shape) (inr (λ k ks. refl)) (inl (λ k ks. refl)) (inr (λ k ks. refl)) (λ n. inr (λ k ks. refl)) (λ n. inr (λ k ks. refl)) (inr (λ k ks. refl)) (inr (λ k ks. refl))
 
 -- and for the skeletons of shapes and of labels at a limit.
 left_puts : (o : Option Mark) → Puts if_left o
-left_puts None = inr (λ k ks. refl)
-left_puts (Some shape) = inl (λ k ks. refl)
-left_puts (Some dead) = inr (λ k ks. refl)
-left_puts (Some (seen n)) = inr (λ k ks. refl)
-left_puts (Some (instance_of n)) = inr (λ k ks. refl)
-left_puts (Some limit_steps) = inl (λ k ks. refl)
-left_puts (Some limit_strands) = inl (λ k ks. refl)
+left_puts = of_marks (Puts if_left) (inr (λ k ks. refl)) (inl (λ k ks. refl)) (inr (λ k ks. refl)) (λ n. inr (λ k ks. refl)) (λ n. inr (λ k ks. refl)) (inl (λ k ks. refl)) (inl (λ k ks. refl))
 
 -- ---- trees
 

@@ -28,15 +28,17 @@ module _ (p : Problem) (limits : Limits) (t : Tree) (declares : (role : Role) â†
       record {
         variables = variables l listed;
         few = few l listed;
-        skeleton = truth.skeletons i l at;
-        maps_all = maps_all p l.skeleton own (truth.from_problem i l at);
         stated = truth.stated i l at;
-        operation = placed.operation;
-        parent = placed.parents;
-        unrealised = label_unrealised p.protocol p.variables limits of.roots t from i l at;
-        test = label_test p.protocol p.variables limits of.roots t from i l at;
-        patterns = label_patterns p.protocol declares p.variables p.skeleton limits of.roots t own of.are_roots from truth.skeletons i l at;
-        escape = label_escape p.protocol p.variables limits of.roots t from i l at;
-        children = label_children p limits of.roots t of.are_roots from i l at;
-        mark = label_mark p.protocol p.variables limits of.roots t from i l at;
+        consistent = record {
+          skeleton = truth.skeletons i l at;
+          maps_all = maps_all p l.skeleton own (truth.from_problem i l at);
+          operation = placed.operation;
+          parent = placed.parents;
+          unrealised = label_unrealised p.protocol p.variables limits of.roots t from i l at;
+          test = label_test p.protocol p.variables limits of.roots t from i l at;
+          patterns = label_patterns p.protocol declares p.variables p.skeleton limits of.roots t own of.are_roots from truth.skeletons i l at;
+          escape = label_escape p.protocol p.variables limits of.roots t from i l at;
+          children = label_children p limits of.roots t of.are_roots from i l at;
+          mark = label_mark p.protocol p.variables limits of.roots t from i l at;
+        };
       }

@@ -25,11 +25,12 @@ use Rattle.cp_report.specs.ReadBack.{labels_misfits}
 use Rattle.cp_report.proofs.DistinctNames.{AreDifferent}
 use Rattle.cp_stated.proofs.FittingMap.{strands_there}
 use Rattle.cp_stated.proofs.FittingValues.{inside_fits}
-use Rattle.cp_stated.proofs.NoMisfits.{holds, none_in_five}
+use Rattle.cp_report.proofs.NoMisfits.{holds, none_in_five}
 use Rattle.cp_stated.proofs.SoundStated.{stated_skeleton}
 use Rattle.cp_readback.specs.AcceptedLabels.{IsAcceptedIn}
 use Rattle.cp_readback.proofs.FittingImages.{keeps_listed}
-use Rattle.cp_readback.proofs.FittingItems.{head_found, ItemsFit, items_fit}
+use Rattle.cp_report.proofs.PartsFit.{ItemsFit, items_fit}
+use Rattle.cp_readback.proofs.FittingItems.{head_found}
 use Rattle.cp_readback.proofs.FittingMaps.{map_is}
 use Rattle.cp_readback.proofs.FittingNumbers.{children_agree, mark_or_children}
 use Rattle.cp_readback.proofs.FittingOperations.{operation_fits, word_names, parent_fits}
@@ -143,17 +144,19 @@ module _ (p : Problem) (well : (role : Role) → IsIn role p.protocol.roles → 
         let map_fits = map_is ds p differ strands (item_with (codes "map" ∷ []) items) lacks_none.way around_fits.way in
         record {
           declared = all_declared;
-          skeleton = is_skeleton;
-          maps_all = record { strands = map_fits.as_many; values = map_fits.paired };
           stated = keeps_listed p items is_skeleton (strands_there strands p (scope_of items) (item_with (codes "map" ∷ []) items) around_fits.way);
-          operation = operation_fits p (skeleton_stated p items) by_item lacks_none.operation fit.operation about_fits.operation;
-          parent = parent_fits p forms i (word_of_label items) (drop 1 (entries_under (codes "by") items)) (item_with (codes "parent" ∷ []) items) (word_names p by_item lacks_none.operation fit.operation) fit.no_parent fit.parent lacks_none.parent;
-          unrealised = unrealised_there strands (item_with (codes "unrealised" ∷ []) items) about_fits.unrealised;
-          test = test_there (scope_of items) (skeleton_stated p items) (item_with (codes "test" ∷ []) items) about_fits.test;
-          patterns = patterns_are ds tested (item_with (codes "escape" ∷ []) items) fit.escape;
-          escape = none_untested ds (scope_of items) (item_with (codes "test" ∷ []) items) (item_with (codes "escape" ∷ []) items) fit.escape;
-          children = children_agree p forms i (item_with (codes "children" ∷ []) items) fit.children;
-          mark = mark_or_children p forms i (item_with mark_heads items) (item_with (codes "children" ∷ []) items) (head_found mark_heads items) lacks_none.one fit.mark fit.children;
+          consistent = record {
+            skeleton = is_skeleton;
+            maps_all = record { strands = map_fits.as_many; values = map_fits.paired };
+            operation = operation_fits p (skeleton_stated p items) by_item lacks_none.operation fit.operation about_fits.operation;
+            parent = parent_fits p forms i (word_of_label items) (drop 1 (entries_under (codes "by") items)) (item_with (codes "parent" ∷ []) items) (word_names p by_item lacks_none.operation fit.operation) fit.no_parent fit.parent lacks_none.parent;
+            unrealised = unrealised_there strands (item_with (codes "unrealised" ∷ []) items) about_fits.unrealised;
+            test = test_there (scope_of items) (skeleton_stated p items) (item_with (codes "test" ∷ []) items) about_fits.test;
+            patterns = patterns_are ds tested (item_with (codes "escape" ∷ []) items) fit.escape;
+            escape = none_untested ds (scope_of items) (item_with (codes "test" ∷ []) items) (item_with (codes "escape" ∷ []) items) fit.escape;
+            children = children_agree p forms i (item_with (codes "children" ∷ []) items) fit.children;
+            mark = mark_or_children p forms i (item_with mark_heads items) (item_with (codes "children" ∷ []) items) (head_found mark_heads items) lacks_none.one fit.mark fit.children;
+          };
         }
 
   -- ---- all labels

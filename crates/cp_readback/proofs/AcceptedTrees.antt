@@ -1,22 +1,19 @@
 -- The trees that forms without misfits denote, and when these trees can be stated.
-use Rattle.std.proofs.Common.{◌≡◌, ℕ, zero, suc, ◌+◌, ◌<◌, ◌^◌, List, [], ◌∷◌, ◌++◌, length, refl, sym, ap, ◌∙◌, subst, arith}
+use Rattle.std.proofs.Common.{◌≡◌, ℕ, ◌+◌, ◌<◌, ◌^◌, List, [], ◌∷◌, ◌++◌, length, sym, ap, ◌∙◌, subst, arith}
 use Rattle.std.specs.Prelude.{Option, Some, None, map}
 use Rattle.std.proofs.lemmas.List.{length-append}
 use Rattle.cp_base.specs.declared.place.Place.{Place}
-use Rattle.cp_lists.specs.Lists.{item_at, IsIn, here, there}
+use Rattle.cp_lists.specs.Lists.{IsIn, here, there}
 use Rattle.cp_lists.proofs.Appended.{none_before, none_behind}
 use Rattle.cp_lists.proofs.Items.{at_place}
-use Rattle.cp_model.specs.declared.variable.Variable.{Variable}
 use Rattle.cp_model.specs.Strand.{Role, Protocol}
-use Rattle.cp_model.specs.declared.variable.Declaration.{Declaration}
 use Rattle.cp_model.specs.PointOfView.{IsPointOfView}
 use Rattle.cp_model.specs.Senders.{ArePaired}
 use Rattle.cp_model.specs.Tree.{Label, Tree}
 use Rattle.cp_sexpr.specs.Syntax.{Form, Forms}
 use Rattle.cp_language.specs.Faults.{items_of}
 use Rattle.cp_language.specs.Roles.{headed}
-use Rattle.cp_language.specs.Names.{identifiers_in, first_of, problem_names}
-use Rattle.cp_language.specs.Terms.{variable_named}
+use Rattle.cp_language.specs.Names.{problem_names}
 use Rattle.cp_language.specs.Problems.{Problem}
 use Rattle.cp_language.specs.Input.{stated_problem, protocols_behind, faults_of, entries_from, input_of}
 use Rattle.cp_language.specs.Role.{IsWellFormedRole}
@@ -27,11 +24,12 @@ use Rattle.cp_report.specs.FittingTrees.{TreeFits, problem_onto, problems_in}
 use Rattle.cp_report.specs.Laws.{ArePrinted, CanBeStated}
 use Rattle.cp_report.specs.UpToNames.{IsReport}
 use Rattle.cp_report.proofs.DistinctNames.{AreDifferent, problem_different}
-use Rattle.cp_report.proofs.Premises.{problem_listed, reads_back}
+use Rattle.cp_report.proofs.Premises.{first_different, problem_listed, reads_back}
 use Rattle.cp_report.proofs.PrintedStrands.{items_back}
 use Rattle.cp_readback.specs.AcceptedLabels.{IsAcceptedIn, TreeIsAccepted, HasWholeLabels}
 use Rattle.cp_readback.proofs.FittingImages.{keeps_all}
 use Rattle.cp_readback.proofs.AcceptedForms.{forms_accepted}
+use Rattle.cp_readback.proofs.Reported.{no_faults}
 
 -- ---- one tree
 
@@ -82,29 +80,6 @@ trees_accepted first above (s ∷ ss) e =
     by (Some p) h rest = (tree_accepted p (next_place first ss) s.behind h, rest)
 
 -- ---- the problems
-
--- Where no fault has a place there is none.
-no_faults : (rs : List _) → fault_places rs ≡ [] → rs ≡ []
-no_faults [] e = refl
-no_faults (r ∷ rs) e = absurd (cc)
-
--- An identifier among the first ones is that of a declared variable.
-first_declared : (n : ℕ) (ds : List Declaration) (i : ℕ) (t : List ℕ) → item_at (identifiers_in (first_of n ds)) i ≡ Some t → (d : Declaration) × (i < n) × (item_at ds i ≡ Some d) × (d.identifier ≡ t)
-first_declared zero ds i t e = absurd (cc)
-first_declared (suc n) [] i t e = absurd (cc)
-first_declared (suc n) (d ∷ ds) zero t e = let same : d.identifier ≡ t = cc in (d, omega arith, refl, same)
-first_declared (suc n) (d ∷ ds) (suc i) t e = let r = first_declared n ds i t e in (r.0, omega (arith, r.1), r.2, r.3)
-
--- Identifiers that name their own variables are different.
-first_different : (declared : ℕ) (ds : List Declaration) → ((n : ℕ) (d : Declaration) → n < declared → item_at ds n ≡ Some d → variable_named ds d.identifier ≡ Some (record { sort = d.sort; number = n }))
-    → AreDifferent (identifiers_in (first_of declared ds))
-first_different declared ds own i j t e f =
-    let a = first_declared declared ds i t e in
-    let b = first_declared declared ds j t f in
-    same_number (sym (own i a.0 a.1 a.2) ∙ ap (variable_named ds) (a.3 ∙ sym b.3) ∙ own j b.0 b.1 b.2)
-  where
-    same_number : {x y : Variable} → Some x ≡ Some y → x.number ≡ y.number
-    same_number h = let g = h in cc
 
 -- The problems of well-formed input are so.
 pub problem_well_formed : (input : Forms) → faults_of input ≡ [] → (p : Problem) → IsIn p (problems_in (input_of input)) → IsWellFormed p
@@ -160,17 +135,8 @@ module _ (fs : Forms) (none : misfits fs ≡ []) where
       record {
         variables = record { later = w.later; variables = w.variables; declared = a.declared };
         few = w.few;
-        skeleton = a.skeleton;
-        maps_all = a.maps_all;
         stated = keeps_all p.skeleton l.skeleton a.stated w.stated;
-        operation = a.operation;
-        parent = a.parent;
-        unrealised = a.unrealised;
-        test = a.test;
-        patterns = a.patterns;
-        escape = a.escape;
-        children = a.children;
-        mark = a.mark;
+        consistent = a.consistent;
       }
 
   -- The trees fit, if all labels are whole.

@@ -1,7 +1,7 @@
 -- All items of a label form, one after another.
 use Rattle.std.proofs.Common.{◌≡◌, ℕ, ◌&&◌, Bool, List, [], ◌∷◌, ◌++◌, ◌==◌, length, map, refl, sym, ap, ◌∙◌}
 use Rattle.std.specs.Prelude.{Option, Some, None, codes, if◌then◌else◌}
-use Rattle.cp_lists.proofs.Appended.{none_before, none_behind}
+use Rattle.cp_lists.proofs.Appended.{none_behind}
 use Rattle.cp_base.specs.declared.place.Place.{Place}
 use Rattle.cp_sexpr.specs.Syntax.{Form}
 use Rattle.cp_sexpr.specs.View.{view}
@@ -14,7 +14,7 @@ use Rattle.cp_report.specs.Heads.{forms_after_head, entries_or_none, item_with, 
 use Rattle.cp_report.specs.Skeletons.{declarations_of_label, vars_item_misfits, strands_misfits, around_strands_misfits}
 use Rattle.cp_report.specs.Spelled.{pattern_misfits}
 use Rattle.cp_report.specs.Labels.{missing_misfits, operation_misfits, about_strands_misfits, mark_misfits, has_children, items_misfits, behind_number, items_of_label, numbered_misfits, label_misfits}
-use Rattle.cp_report.proofs.LabelItems.{front_in_order}
+use Rattle.cp_report.proofs.PartsFit.{items_fit}
 use Rattle.cp_spelled.specs.FirstMisfit.{first_onto}
 use Rattle.cp_scope.proofs.FirstOf.{first_then}
 use Rattle.cp_items.specs.Parts.{is_fitting, operation_item_misfits}
@@ -114,61 +114,17 @@ numbered-read p tree i f entries g rest its at o q r split are stands items by_n
 
 -- ---- what fits where there is no misfit
 
-unless_none : (rs others : List Place) → unless_misfit rs others ≡ [] → rs ≡ []
-unless_none [] others e = refl
-unless_none (r ∷ rs) others e = absurd (cc)
-
-where_both : (rs ss others : List Place) → rs ≡ [] → ss ≡ [] → where_fitting (rs ++ ss) others ≡ [] → others ≡ []
-where_both [] [] others e g h = h
-where_both [] (s ∷ ss) others e g h = absurd (cc)
-where_both (r ∷ rs) ss others e g h = absurd (cc)
-
 patterns_fit : (ds : List Declaration) (known : Place → List Place) (o : Option Form)
     → optional_misfits (λ at fs. known at ++ lacking 1 at fs ++ each_misfits (pattern_misfits ds) fs) o ≡ [] → each_misfits (pattern_misfits ds) (entries_or_none o) ≡ []
 patterns_fit ds known None e = refl
 patterns_fit ds known (Some f) e = none_behind (known (place_of f) ++ lacking 1 (place_of f) (forms_after_head f)) (each_misfits (pattern_misfits ds) (forms_after_head f)) e
 
-module _ (p : Problem) (tree : Option (List Form)) (i : ℕ) (at : Place) (items : List Form) (e : items_misfits p tree i at items ≡ []) where
-  fits_children : to_children p tree i at items ≡ []
-  fits_children = none_before (to_children p tree i at items) (mark_misfits tree items (item_with mark_heads items)) e
-
-  fits_escape : to_escape p tree i at items ≡ []
-  fits_escape = none_before (to_escape p tree i at items) (children_item_misfits tree i items) fits_children
-
-  fits_others : to_others p tree i at items ≡ []
-  fits_others = none_before (to_others p tree i at items) (escape_of_items_misfits items) fits_escape
-
-  fits_strands : to_strands p tree i at items ≡ []
-  fits_strands = none_before (to_strands p tree i at items) (where_fitting (front_ordering p tree i at items ++ strands_misfits p items) (around p tree i at items)) fits_others
-
-  fits_variables : to_variables p tree i at items ≡ []
-  fits_variables = none_before (to_variables p tree i at items) (strands_misfits p items) fits_strands
-
-  fits_operation : to_operation p tree i at items ≡ []
-  fits_operation = none_before (to_operation p tree i at items) (vars_item_misfits items) fits_variables
-
-  fits_parent : to_parent p tree i at items ≡ []
-  fits_parent = none_before (to_parent p tree i at items) (optional_misfits (operation_misfits p) (item_with (codes "by" ∷ []) items)) fits_operation
-
-  fits_root : to_root p tree i at items ≡ []
-  fits_root = none_before (to_root p tree i at items) (parent_item_misfits tree i items) fits_parent
-
-  fits_order : ordering p tree i at items ≡ []
-  fits_order = unless_none (ordering p tree i at items) (missing_misfits at items) (none_before (to_order p tree i at items) (no_parent_item_misfits items) fits_root)
-
-  strands_are : strands_misfits p items ≡ []
-  strands_are = none_behind (to_variables p tree i at items) (strands_misfits p items) fits_strands
-
-  around_are : around p tree i at items ≡ []
-  around_are =
-      where_both (front_ordering p tree i at items) (strands_misfits p items) (around p tree i at items) (front_in_order lines_of_label items fits_order) strands_are
-      (none_behind (to_strands p tree i at items) (where_fitting (front_ordering p tree i at items ++ strands_misfits p items) (around p tree i at items)) fits_others)
-
-  -- items without misfits have what a label is made of
-  pub has-fitting : HasFitting p items
-  has-fitting = record {
-    strands = strands_are;
-    others = (first_or at (ordering p tree i at items), none_before (around_strands_misfits p (first_or at (ordering p tree i at items)) items) (about_strands_misfits p items) around_are);
-    patterns = patterns_fit (declarations_of_label items) (λ q. misfit_unless (is_known (item_with (codes "test" ∷ []) items)) q) (item_with (codes "escape" ∷ []) items)
-        (none_behind (to_others p tree i at items) (escape_of_items_misfits items) fits_escape);
-  }
+-- items without misfits have what a label is made of
+pub has-fitting : (p : Problem) (tree : Option (List Form)) (i : ℕ) (at : Place) (items : List Form) → items_misfits p tree i at items ≡ [] → HasFitting p items
+has-fitting p tree i at items e =
+    let fit = items_fit p tree i at items e in
+    record {
+      strands = fit.strands;
+      others = (first_or at (order_misfits lines_of_label items), fit.around);
+      patterns = patterns_fit (declarations_of_label items) (λ q. misfit_unless (is_known (item_with (codes "test" ∷ []) items)) q) (item_with (codes "escape" ∷ []) items) fit.escape;
+    }

@@ -13,6 +13,7 @@ use Rattle.cp_sexpr.specs.declared.form.Form as program
 use Rattle.cp_language.specs.Words.{is_one_of}
 use Rattle.cp_language.specs.Roles.{text_of_symbol}
 use Rattle.cp_language.specs.Problems.{is_known, Problem}
+use Rattle.cp_language.specs.ShapesText.{is_shape_mark}
 use Rattle.cp_report.specs.Misfits.{misfit, unless_misfit, entries_misfits, symbol_misfits}
 use Rattle.cp_report.specs.Heads.{item_with, forms_after_head}
 use Rattle.cp_report.specs.Spelled.{Scope}
@@ -21,7 +22,7 @@ use Rattle.cp_language.specs.Faults.{place_of}
 use Rattle.cp_report.specs.Labels.{items_of_label, test_of, mark_in, label_of}
 use Rattle.cp_report.specs.ReadBack as report
 use Rattle.cp_report.specs.ReadBack.{word_misfits, count_misfits, behind_outcome}
-use Rattle.cp_readback.specs.Counts.{AreCountsOf, AreCountsIn, is_tested, is_shape_mark, is_shape_form, count_of, count_kinds, status_misfits_by_counts, status_form_misfits}
+use Rattle.cp_readback.specs.Counts.{AreCountsOf, AreCountsIn, is_tested, is_shape_form, count_of, count_kinds, status_misfits_by_counts, status_form_misfits}
 use Rattle.cp_readback.specs.declared.status.Counts.{Counts}
 use Rattle.cp_items.specs.Parts.{is_fitting}
 use Rattle.cp_items.proofs.FitItems.{symbol-fits, symbol-unknown}

@@ -1,20 +1,21 @@
 -- The small reports have no misfit; the label of the first is whole, and those of the others do not fit.
-use Rattle.std.proofs.Common.{◌≡◌, List, [], ◌∷◌, Bool, true, false, refl, ap, arith}
+use Rattle.std.proofs.Common.{◌≡◌, List, [], ◌∷◌, Bool, true, false, refl, ap, subst, arith}
 use Rattle.std.specs.Prelude.{codes, None}
 use Rattle.std.specs.Fmt.{digits}
 use Rattle.cp_lists.specs.Lists.{IsIn, here}
 use Rattle.cp_lists.proofs.Members.{of_each}
 use Rattle.cp_model.specs.Term.{AtomTerm, name_variable, key_term, asymmetric_term, pubk_term, atom_term, apply_to_atom}
-use Rattle.cp_model.specs.Homomorphism.{substitution_by}
+use Rattle.cp_model.specs.Homomorphism.{map_from_problem, substitution_by}
 use Rattle.cp_model.specs.declared.variable.Declaration.{Declaration}
 use Rattle.cp_model.specs.Senders.{ArePaired}
+use Rattle.cp_model.specs.Skeleton.{Skeleton}
 use Rattle.cp_model.specs.Same.{same_text}
 use Rattle.cp_model.specs.Tree.{Label}
 use Rattle.cp_model.specs.declared.tree.Outcome.TheVariants.{Complete as complete}
 use Rattle.cp_language.specs.Problems.{Problem}
 use Rattle.cp_report.specs.FittingTrees.{TreeFits, problems_in}
 use Rattle.cp_report.specs.ReadBack.{misfits, report_of}
-use Rattle.cp_readback.specs.AcceptedLabels.{IsWholeLabel, HasWholeLabels, IsCompleteLabel, HasCompleteLabels}
+use Rattle.cp_readback.specs.AcceptedLabels.{HasAllStated, IsWholeLabel, HasWholeLabels, IsCompleteLabel, HasCompleteLabels}
 use Rattle.cp_readback.specs.SmallReports.{listed_report, renamed_report, unlisted_report}
 
 -- The first report has no misfit,
@@ -36,6 +37,20 @@ unlisted_accepted = refl
 abbrev private_key : AtomTerm
 private_key = key_term (asymmetric_term true (pubk_term None 0))
 
+-- The image of the key is listed.
+key_there : (v : AtomTerm) → IsIn v (private_key ∷ []) → IsIn (apply_to_atom (substitution_by (atom_term (name_variable 0) ∷ [])) v) (private_key ∷ [])
+key_there v i = of_each (λ w. IsIn (apply_to_atom (substitution_by (atom_term (name_variable 0) ∷ [])) w) (private_key ∷ [])) here (λ j. elim j [ ]) i
+
+-- A skeleton has all that a problem states if that is values that originate nowhere, and it has their images.
+has_key : (problem k : Skeleton) → ((v : AtomTerm) → IsIn v problem.from_problem.assumptions.non_originating → IsIn (apply_to_atom (map_from_problem k).terms v) k.assumptions.non_originating)
+    → problem.from_problem.assumptions.penetrator_non_originating ≡ [] → problem.from_problem.assumptions.uniquely_originating ≡ [] → problem.from_problem.pairs ≡ [] → HasAllStated problem k
+has_key problem k non no_penetrator_non no_unique no_pairs = record {
+  non = non;
+  penetrator_non = λ v i. let j : IsIn v [] = subst (IsIn v) no_penetrator_non i in elim j [ ];
+  unique = λ u i. let j : IsIn u [] = subst (IsIn u) no_unique i in elim j [ ];
+  pairs = λ q one apart. let j : IsIn one.item [] = subst (IsIn one.item) no_pairs one.listed in elim j [ ];
+}
+
 -- A tree of one label has whole labels if it is whole.
 single_whole : (p : Problem) (l : Label) → IsWholeLabel p l → HasWholeLabels p (record { labels = l ∷ []; outcome = complete })
 single_whole p l whole m i = of_each (IsWholeLabel p) whole (λ j. elim j [ ]) i
@@ -48,12 +63,7 @@ listed_whole = (
     later = [];
     variables = refl;
     few = omega arith;
-    stated = record {
-      non = λ v i. of_each (λ w. IsIn (apply_to_atom (substitution_by (atom_term (name_variable 0) ∷ [])) w) (private_key ∷ [])) here (λ j. elim j [ ]) i;
-      penetrator_non = λ v i. elim i [ ];
-      unique = λ u i. elim i [ ];
-      pairs = λ q one apart. absurd (let i = one.listed in elim i [ ]);
-    };
+    stated = has_key _ _ key_there refl refl refl;
   }),
   tt,
 )
@@ -68,12 +78,7 @@ unfolding digits
 renamed_complete = (
   single_complete _ _ (record {
     few = omega arith;
-    stated = record {
-      non = λ v i. of_each (λ w. IsIn (apply_to_atom (substitution_by (atom_term (name_variable 0) ∷ [])) w) (private_key ∷ [])) here (λ j. elim j [ ]) i;
-      penetrator_non = λ v i. elim i [ ];
-      unique = λ u i. elim i [ ];
-      pairs = λ q one apart. absurd (let i = one.listed in elim i [ ]);
-    };
+    stated = has_key _ _ key_there refl refl refl;
   }),
   tt,
 )

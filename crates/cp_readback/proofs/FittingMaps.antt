@@ -28,7 +28,7 @@ use Rattle.cp_report.proofs.CoveringPairs.{AreApart}
 use Rattle.cp_report.proofs.ApartIdentifiers.{apart_named, all_found}
 use Rattle.cp_report.proofs.DistinctNames.{AreDifferent, as_many_names}
 use Rattle.cp_report.proofs.PrintedMaps.{named_identifiers}
-use Rattle.cp_stated.proofs.NoMisfits.{none_of_unless, holds}
+use Rattle.cp_report.proofs.NoMisfits.{none_of_unless, holds}
 use Rattle.cp_readback.proofs.PlainTerms.{IsValue, value_fits}
 
 -- The entries behind the first.

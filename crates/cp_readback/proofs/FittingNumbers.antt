@@ -21,7 +21,7 @@ use Rattle.cp_report.specs.Misfits.{misfit_unless, lacking, entries_misfits, num
 use Rattle.cp_report.specs.Heads.{is_headed_by, has_head, forms_after_head, entries_or_none, entries_under, optional_misfits, mark_heads}
 use Rattle.cp_report.specs.Labels.{is_among, is_number, stated_number, number_in_front, numbers_in, items_of_label, stated_parent, stated_children, has_parent, has_child, has_parent_in, has_child_in, is_label_in, parent_misfits, children_misfits, number_stated, mark_kinds, mark_named, mark_of, headed_mark_misfits, label_of}
 use Rattle.cp_report.specs.FittingTrees.{HasChild, HasParent, AreChildrenOf, IsMarkIn, HasMarkOrChildren}
-use Rattle.cp_stated.proofs.NoMisfits.{holds}
+use Rattle.cp_report.proofs.NoMisfits.{holds}
 use Rattle.cp_readback.proofs.FittingItems.{number_fits}
 
 -- ---- numbers among others

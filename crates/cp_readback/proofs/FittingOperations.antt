@@ -20,7 +20,7 @@ use Rattle.cp_report.specs.declared.operations.OperationWord.{OperationWord}
 use Rattle.cp_report.specs.declared.operations.OperationWord.TheVariants.{Problem as problem_word, Collapsed as collapsed_word, Contracted as contracted_word, Displaced as displaced_word, AddedStrand as added_strand_word, AddedListener as added_listener_word, Generalised as generalised_word, Unknown as no_operation_word}
 use Rattle.cp_report.specs.Labels.{is_number, number_in_front, operation_word, is_operation, makes_root, block_misfits, block_checks, operation_kinds, operation_misfits, index_misfits, operation_place_misfits, operation_by, parent_misfits, label_of}
 use Rattle.cp_report.specs.FittingTrees.{IsOperationOn, IsParentOf}
-use Rattle.cp_stated.proofs.NoMisfits.{none_of_unless, holds}
+use Rattle.cp_report.proofs.NoMisfits.{none_of_unless, holds}
 use Rattle.cp_readback.proofs.FittingItems.{number_fits}
 use Rattle.cp_readback.proofs.FittingNumbers.{number_is, parent_there}
 

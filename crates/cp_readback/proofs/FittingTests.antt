@@ -22,7 +22,7 @@ use Rattle.cp_report.specs.Skeletons.{there_misfits, node_misfits, node_or_first
 use Rattle.cp_report.specs.Labels.{unrealised_misfits, test_misfits, test_of}
 use Rattle.cp_report.specs.FittingTrees.{IsTestOn}
 use Rattle.cp_spelled.proofs.ReadPatterns.{pattern-is}
-use Rattle.cp_stated.proofs.NoMisfits.{holds, none_of_each}
+use Rattle.cp_report.proofs.NoMisfits.{holds, none_of_each}
 
 -- ---- nodes
 

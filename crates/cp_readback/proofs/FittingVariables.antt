@@ -39,7 +39,7 @@ use Rattle.cp_report.proofs.PrintedStrands.{value_taken}
 use Rattle.cp_report.proofs.PrintedVariables.{declared_there}
 use Rattle.cp_spelled.proofs.Gathered.{each-found}
 use Rattle.cp_spelled.proofs.Patterned.{IsOf, named, stated, term-agrees}
-use Rattle.cp_stated.proofs.NoMisfits.{none_of_unless, none_of_each}
+use Rattle.cp_report.proofs.NoMisfits.{none_of_unless, none_of_each}
 use Rattle.cp_readback.proofs.FittingTests.{patterns_misfits}
 use Rattle.cp_readback.proofs.PlainTerms.{IsValue, term_sound, atom_declared}
 use Rattle.cp_readback.proofs.FittingMaps.{mapping_values, behind_first}

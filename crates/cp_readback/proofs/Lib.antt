@@ -20,7 +20,7 @@ mod FittingMaps
 mod FittingVariables
 mod FittingImages
 mod AcceptedForms
-mod AcceptedTrees
+pub mod AcceptedTrees
 mod ExampleReports
 mod ShiftedSkeletons
 mod ShiftedLabels

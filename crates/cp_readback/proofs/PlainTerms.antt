@@ -1,7 +1,6 @@
 -- A term that fits outside patterns has the sort that its head says, and its variables are declared.
-use Rattle.std.proofs.Common.{◌≡◌, ℕ, List, [], ◌∷◌, ◌++◌, Bool, true, false, ◌&&◌, ◌||◌, refl, sym, ap, subst, if◌then◌else◌, ⊎_elim}
+use Rattle.std.proofs.Common.{◌≡◌, ℕ, List, [], ◌∷◌, ◌++◌, Bool, true, false, ◌&&◌, ◌||◌, refl, sym, ap, subst, if◌then◌else◌}
 use Rattle.std.specs.Prelude.{Option, Some, None, codes}
-use Rattle.std.proofs.lemmas.Bool.{or_cases}
 use Rattle.cp_base.specs.declared.place.Place.{Place}
 use Rattle.cp_lists.proofs.Appended.{none_before, none_behind, none_of_three, none_of_four, some_behind}
 use Rattle.cp_model.specs.Term.{variable_term, ltk_term, pubk_term, symmetric_term, asymmetric_term, inverse_term, AtomTerm, text_variable, datum_variable, name_variable, key_term, Term, tag_term, atom_term, enc_term, variables_of_key, variables_of_atom, variables_of}
@@ -25,20 +24,12 @@ use Rattle.cp_language.specs.declared.sorts.TermSort.TheVariants.{Atoms as of_at
 use Rattle.cp_language.specs.Terms.{variable_named, sort_of_variable, is_sort, admits_atom, term_of_variable, paired, all_but_last, last_of, as_key, as_name, as_atom, key_as_term, long_term, inverted, key_of_name, applied}
 use Rattle.cp_report.specs.Misfits.{misfit, misfit_unless, unless_misfit, lacking, all_misfits}
 use Rattle.cp_report.specs.Spelled.{Scope, plain_scope, local_by, variable_of_local, is_found_of_sort, sort_of_head, known_or, sort_in, sort_misfits, atom_misfits, atom_in, variable_misfits, variables_misfits, name_misfits, spread_misfits, last_key_misfits, local_misfits, applied_misfits, term_misfits, each_term_misfits, term_in, terms_in}
-use Rattle.cp_language.proofs.Terms.{AreDeclared, none_declared, one_declared, both_declared, named_is_declared, IsOfSort, variable_of_sort, variable_declared, IsSound, sound_of_sort}
-use Rattle.cp_stated.proofs.NoMisfits.{holds}
+use Rattle.cp_language.proofs.Terms.{AreDeclared, none_declared, one_declared, both_declared, named_is_declared, IsOfSort, variable_of_sort, variable_declared, IsSound, sound_of_sort, compound_is_sound, atom_is_sound, key_declared, AllDeclared, paired_declared, front_declared}
+use Rattle.cp_report.proofs.NoMisfits.{holds}
 
 module _ (ds : List Declaration) where
   abbrev s : Scope
   s = plain_scope ds
-
-  -- A term that is no atom is sound if its variables are declared,
-  compound_sound : (t : Term) → AreDeclared ds (variables_of t) → IsSound ds (Some of_all) t
-  compound_sound t d = record { declared = d; sorted = λ r e. absurd (cc); known = λ e. cc }
-
-  -- and an atom if it also has that sort.
-  atom_sound : (r : Sort) (t : Term) → AreDeclared ds (variables_of t) → IsOfSort r t → IsSound ds (Some (of_atoms r)) t
-  atom_sound r t d o = record { declared = d; sorted = λ q e. let p : r ≡ q = cc in subst (λ x. IsOfSort x t) p o; known = λ e. cc }
 
   -- ---- variables
 
@@ -85,44 +76,13 @@ module _ (ds : List Declaration) where
 
   -- ---- terms that are put together
 
-  -- All of these terms have declared variables.
-  abbrev AllDeclared : List Term → Type 0
-  AllDeclared [] = Unit {0}
-  AllDeclared (t ∷ ts) = AreDeclared ds (variables_of t) × AllDeclared ts
-
-  -- So has what they are paired,
-  paired_declared : (ts : List Term) → AllDeclared ts → AreDeclared ds (variables_of (paired ts))
-  paired_declared [] h = none_declared ds
-  paired_declared (t ∷ []) h = h.0
-  paired_declared (t ∷ u ∷ us) h = both_declared ds (variables_of t) (variables_of (paired (u ∷ us))) h.0 (paired_declared (u ∷ us) h.1)
-
-  -- and all but the last.
-  front_declared : (ts : List Term) → AllDeclared ts → AllDeclared (all_but_last ts)
-  front_declared [] h = tt
-  front_declared (t ∷ []) h = tt
-  front_declared (t ∷ u ∷ us) h = (h.0, front_declared (u ∷ us) h.1)
-
-  -- A sound term that passes as a key has a key whose variables are declared.
-  key_declared : (o : Option TermSort) (t : Term) → IsSound ds o t → (is_sort skey_sort o || is_sort akey_sort o) ≡ true → AreDeclared ds (variables_of_key (as_key t))
-  key_declared o t h e = ⊎_elim symmetric asymmetric (or_cases (is_sort skey_sort o) (is_sort akey_sort o) e)
-    where
-      symmetric : is_sort skey_sort o ≡ true → AreDeclared ds (variables_of_key (as_key t))
-      symmetric p =
-          let k = sound_of_sort ds skey_sort o t h p in
-          subst (λ x. AreDeclared ds (variables_of_key (as_key x))) (sym k.1) (subst (λ x. AreDeclared ds (variables_of x)) k.1 h.declared)
-
-      asymmetric : is_sort akey_sort o ≡ true → AreDeclared ds (variables_of_key (as_key t))
-      asymmetric p =
-          let k = sound_of_sort ds akey_sort o t h p in
-          subst (λ x. AreDeclared ds (variables_of_key (as_key x))) (sym k.2) (subst (λ x. AreDeclared ds (variables_of x)) k.2 h.declared)
-
   -- Each item that fits is sound.
   abbrev AreSound : Forms → Type 0
   AreSound none = Unit {0}
   AreSound (more f fs) = (term_misfits s f ≡ [] → IsSound ds (sort_in s f) (term_in s f)) × AreSound fs
 
   -- The variables of items that fit are declared.
-  all_declared : (fs : Forms) → AreSound fs → all_misfits (each_term_misfits s fs) ≡ [] → AllDeclared (terms_in s fs)
+  all_declared : (fs : Forms) → AreSound fs → all_misfits (each_term_misfits s fs) ≡ [] → AllDeclared ds (terms_in s fs)
   all_declared none h e = tt
   all_declared (more f fs) h e =
       ((h.0 (none_before (term_misfits s f) (all_misfits (each_term_misfits s fs)) e)).declared, all_declared fs h.1 (none_behind (term_misfits s f) (all_misfits (each_term_misfits s fs)) e))
@@ -130,7 +90,7 @@ module _ (ds : List Declaration) where
   -- So are those of the key, which stands last.
   last_key_declared : (f : Form) (fs : Forms) → AreSound (more f fs) → all_misfits (each_term_misfits s (more f fs)) ≡ [] → last_key_misfits s (last_form (items_of (more f fs))) ≡ [] → AreDeclared ds (variables_of_key (as_key (last_of (terms_in s (more f fs)))))
   last_key_declared f none h e k =
-      key_declared (sort_in s f) (term_in s f) (h.0 (none_before (term_misfits s f) [] e)) (holds (is_sort skey_sort (sort_in s f) || is_sort akey_sort (sort_in s f)) (place_of f) k)
+      key_declared ds (sort_in s f) (term_in s f) (h.0 (none_before (term_misfits s f) [] e)) (holds (is_sort skey_sort (sort_in s f) || is_sort akey_sort (sort_in s f)) (place_of f) k)
   last_key_declared f (more g gs) h e k = last_key_declared g gs h.1 (none_behind (term_misfits s f) (all_misfits (each_term_misfits s (more g gs))) e) k
 
   -- ---- by the head
@@ -141,9 +101,9 @@ module _ (ds : List Declaration) where
   encryption_sound at none h e = absurd (cc)
   encryption_sound at (more f fs) h e =
       let p = none_of_four (lacking 2 at (items_of (more f fs))) (all_misfits (each_term_misfits s (more f fs))) (spread_misfits (last_form (front_of (items_of (more f fs))))) (last_key_misfits s (last_form (items_of (more f fs)))) e in
-      compound_sound (enc_term (paired (all_but_last (terms_in s (more f fs)))) (as_key (last_of (terms_in s (more f fs)))))
+      compound_is_sound ds (enc_term (paired (all_but_last (terms_in s (more f fs)))) (as_key (last_of (terms_in s (more f fs)))))
       (both_declared ds (variables_of (paired (all_but_last (terms_in s (more f fs))))) (variables_of_key (as_key (last_of (terms_in s (more f fs)))))
-      (paired_declared (all_but_last (terms_in s (more f fs))) (front_declared (terms_in s (more f fs)) (all_declared (more f fs) h p.1))) (last_key_declared f fs h p.1 p.3))
+      (paired_declared ds (all_but_last (terms_in s (more f fs))) (front_declared ds (terms_in s (more f fs)) (all_declared (more f fs) h p.1))) (last_key_declared f fs h p.1 p.3))
 
   -- Two names.
   long_term_sound : (at : Place) (fs : Forms) → variables_misfits s (name_sort ∷ name_sort ∷ []) at (items_of fs) ≡ [] → IsSound ds (Some (of_atoms skey_sort)) (long_term (terms_in s fs))
@@ -152,7 +112,7 @@ module _ (ds : List Declaration) where
   long_term_sound at (more f (more g none)) e =
       let a = name_fits f (none_before (variable_misfits s name_sort f) (variable_misfits s name_sort g ++ []) e) in
       let b = name_fits g (none_before (variable_misfits s name_sort g) [] (none_behind (variable_misfits s name_sort f) (variable_misfits s name_sort g ++ []) e)) in
-      atom_sound skey_sort (long_term (terms_in s (more f (more g none))))
+      atom_is_sound ds skey_sort (long_term (terms_in s (more f (more g none))))
       (both_declared ds (record { sort = name_sort; number = as_name (term_in s f) } ∷ []) (record { sort = name_sort; number = as_name (term_in s g) } ∷ [])
       (one_declared ds (record { sort = name_sort; number = as_name (term_in s f) }) a) (one_declared ds (record { sort = name_sort; number = as_name (term_in s g) }) b))
       (ltk_term (as_name (term_in s f)) (as_name (term_in s g)), refl)
@@ -167,7 +127,7 @@ module _ (ds : List Declaration) where
       subst (λ (t : Term). IsSound ds (Some (of_atoms akey_sort)) (key_as_term (inverse_term (as_key t)))) (sym x.term) (by x.variable x.sort x.declared)
     where
       at_sort : (n : ℕ) → IsDeclared ds (record { sort = akey_sort; number = n }) → IsSound ds (Some (of_atoms akey_sort)) (key_as_term (inverse_term (as_key (variable_term (record { sort = akey_sort; number = n })))))
-      at_sort n d = atom_sound akey_sort (key_as_term (inverse_term (as_key (variable_term (record { sort = akey_sort; number = n }))))) (one_declared ds (record { sort = akey_sort; number = n }) d) (true, _, refl)
+      at_sort n d = atom_is_sound ds akey_sort (key_as_term (inverse_term (as_key (variable_term (record { sort = akey_sort; number = n }))))) (one_declared ds (record { sort = akey_sort; number = n }) d) (true, _, refl)
 
       by : (x : Variable) → x.sort ≡ akey_sort → IsDeclared ds x → IsSound ds (Some (of_atoms akey_sort)) (key_as_term (inverse_term (as_key (variable_term x))))
       by x h d =
@@ -178,7 +138,7 @@ module _ (ds : List Declaration) where
   -- The key of a name, for a purpose or none.
   named_key : (private : Bool) (purpose : Option (List ℕ)) (f : Form) → variable_misfits s name_sort f ++ [] ≡ [] → IsSound ds (Some (of_atoms akey_sort)) (key_as_term (asymmetric_term private (pubk_term purpose (as_name (term_in s f)))))
   named_key private purpose f e =
-      atom_sound akey_sort (key_as_term (asymmetric_term private (pubk_term purpose (as_name (term_in s f)))))
+      atom_is_sound ds akey_sort (key_as_term (asymmetric_term private (pubk_term purpose (as_name (term_in s f)))))
       (one_declared ds (record { sort = name_sort; number = as_name (term_in s f) }) (name_fits f (none_before (variable_misfits s name_sort f) [] e))) (private, pubk_term purpose (as_name (term_in s f)), refl)
 
   -- A public or private key.
@@ -198,7 +158,7 @@ module _ (ds : List Declaration) where
   applied_sound : (at : Place) (head : TermHead) (fs : Forms) → AreSound fs → applied_misfits s at head (items_of fs) (each_term_misfits s fs) ≡ [] → IsSound ds (sort_of_head head) (applied head (items_of fs) (terms_in s fs))
   applied_sound at cat fs h e =
       let p = none_of_three (lacking 2 at (items_of fs)) (all_misfits (each_term_misfits s fs)) (spread_misfits (last_form (items_of fs))) e in
-      compound_sound (paired (terms_in s fs)) (paired_declared (terms_in s fs) (all_declared fs h p.1))
+      compound_is_sound ds (paired (terms_in s fs)) (paired_declared ds (terms_in s fs) (all_declared fs h p.1))
   applied_sound at encrypt fs h e = encryption_sound at fs h e
   applied_sound at long_term_key fs h e = long_term_sound at fs e
   applied_sound at public_key fs h e = named_sound false at fs e
@@ -210,7 +170,7 @@ module _ (ds : List Declaration) where
   -- A declared identifier.
   symbol_sound : (at : Place) (t : List ℕ) (o : Option Variable) → variable_named ds t ≡ o → misfit_unless (is_known o) at ≡ [] → IsSound ds (known_or (sort_of_variable o) None) (term_of_variable o)
   symbol_sound at t None q e = absurd (cc)
-  symbol_sound at t (Some x) q e = atom_sound x.sort (variable_term x) (variable_declared ds x (named_is_declared ds t x q)) (variable_of_sort x)
+  symbol_sound at t (Some x) q e = atom_is_sound ds x.sort (variable_term x) (variable_declared ds x (named_is_declared ds t x q)) (variable_of_sort x)
 
   -- A list with a head; outside patterns `any` is a head like others.
   list_sound : (b : Bool) (at : Place) (head : TermHead) (fs : Forms) (inside : List Place) (o : Option Variable) (t : Term) → AreSound fs
@@ -223,7 +183,7 @@ module _ (ds : List Declaration) where
     -- A term that fits is sound.
     pub term_sound : (f : Form) → term_misfits s f ≡ [] → IsSound ds (sort_in s f) (term_in s f)
     term_sound (symbol at t) e = symbol_sound at t (variable_named ds t) refl e
-    term_sound (string at t) e = compound_sound (tag_term t) (none_declared ds)
+    term_sound (string at t) e = compound_is_sound ds (tag_term t) (none_declared ds)
     term_sound (number at n) e = absurd (cc)
     term_sound (list at none) e = absurd (cc)
     term_sound (list at (more (symbol p t) fs)) e =

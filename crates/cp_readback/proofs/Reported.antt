@@ -34,7 +34,8 @@ use Rattle.cp_readback.proofs.FaultPlaces.{gathered}
 
 -- ---- the problems of the input
 
-no_faults : (rs : List Refusal) → fault_places rs ≡ [] → rs ≡ []
+-- Where no fault has a place there is none.
+pub no_faults : (rs : List Refusal) → fault_places rs ≡ [] → rs ≡ []
 no_faults [] e = refl
 no_faults (r ∷ rs) e = absurd (cc)
 

@@ -287,15 +287,17 @@ shifted_fits p over labels i l a whole =
     record {
       variables = record { later = l.skeleton.variables; variables = refl; declared = λ w m. let c = label_come n p.variables l w m in declared_behind p.variables l.skeleton.variables c.from w (a.declared c.from c.listed) c.is };
       few = omega (arith, many, small);
-      skeleton = shifted_is_skeleton n p.variables p.protocol l.skeleton a.skeleton;
-      maps_all = record { strands = a.maps_all.strands; values = shifted_values n p.variables l.skeleton.from_problem.values a.maps_all.values };
-      stated = shifted_keeps n p.variables p.variables p.skeleton l.skeleton a.maps_all.values over (keeps_all p.skeleton l.skeleton a.stated whole.stated);
-      operation = shifted_operation n p.variables p l.skeleton l.operation a.operation;
-      parent = is_parent_kept n p.variables labels i l.operation l.parent a.parent;
-      unrealised = λ x m. shifted_node n p.variables l.skeleton x (a.unrealised x m);
-      test = shifted_test_on n p.variables l.skeleton l.test a.test;
-      patterns = λ q m. let r = from_map (shifted_pattern n) l.escape m in subst IsPattern r.2 (shifted_is_pattern n r.0 (a.patterns r.0 r.1));
-      escape = λ e. ap (map (shifted_pattern n)) (a.escape (no_test n l.test e));
-      children = children_kept n p.variables labels i l.children a.children;
-      mark = mark_or_children_kept n p.variables labels l.mark l.children a.mark;
+      stated = shifted_keeps n p.variables p.variables p.skeleton l.skeleton a.consistent.maps_all.values over (keeps_all p.skeleton l.skeleton a.stated whole.stated);
+      consistent = record {
+        skeleton = shifted_is_skeleton n p.variables p.protocol l.skeleton a.consistent.skeleton;
+        maps_all = record { strands = a.consistent.maps_all.strands; values = shifted_values n p.variables l.skeleton.from_problem.values a.consistent.maps_all.values };
+        operation = shifted_operation n p.variables p l.skeleton l.operation a.consistent.operation;
+        parent = is_parent_kept n p.variables labels i l.operation l.parent a.consistent.parent;
+        unrealised = λ x m. shifted_node n p.variables l.skeleton x (a.consistent.unrealised x m);
+        test = shifted_test_on n p.variables l.skeleton l.test a.consistent.test;
+        patterns = λ q m. let r = from_map (shifted_pattern n) l.escape m in subst IsPattern r.2 (shifted_is_pattern n r.0 (a.consistent.patterns r.0 r.1));
+        escape = λ e. ap (map (shifted_pattern n)) (a.consistent.escape (no_test n l.test e));
+        children = children_kept n p.variables labels i l.children a.consistent.children;
+        mark = mark_or_children_kept n p.variables labels l.mark l.children a.consistent.mark;
+      };
     }

@@ -1,17 +1,15 @@
 -- What holds of each label that forms without misfits denote, and what is missing for it to be one that can be stated.
-use Rattle.std.specs.Prelude.{◌≡◌, ◌≢◌, ◌↔◌, ℕ, ◌+◌, ◌<◌, ◌^◌, List, [], ◌++◌, length, Some, None}
+use Rattle.std.specs.Prelude.{◌≡◌, ◌≢◌, ◌↔◌, ℕ, ◌+◌, ◌<◌, ◌^◌, List, ◌++◌, length, Some}
 use Rattle.cp_lists.specs.Lists.{item_at, IsIn}
 use Rattle.cp_model.specs.Term.{AtomTerm, apply_to_atom}
 use Rattle.cp_model.specs.declared.variable.Variable.{Variable}
 use Rattle.cp_model.specs.declared.variable.Declaration.{Declaration}
-use Rattle.cp_model.specs.declared.node.Node.{Node}
 use Rattle.cp_model.specs.declared.node.OrderPair.{OrderPair}
 use Rattle.cp_model.specs.Homomorphism.{map_from_problem}
 use Rattle.cp_model.specs.Problem.{IsDeclared}
-use Rattle.cp_model.specs.Skeleton.{IsNodeOf, UniqueAt, Skeleton, Before, IsSkeleton}
+use Rattle.cp_model.specs.Skeleton.{UniqueAt, Skeleton, Before}
 use Rattle.cp_model.specs.Stated.{unique_image, pair_image, IsImageOfOne}
-use Rattle.cp_model.specs.Pattern.{IsPattern}
-use Rattle.cp_model.specs.Tree.{Pattern, Label, Tree}
+use Rattle.cp_model.specs.Tree.{Label, Tree}
 use Rattle.cp_sexpr.specs.Syntax.{Forms}
 use Rattle.cp_language.specs.Faults.{items_of}
 use Rattle.cp_language.specs.Problems.{Problem}
@@ -19,7 +17,7 @@ use Rattle.cp_language.specs.Report.{occurring}
 use Rattle.cp_report.specs.Laws.{CanBeStated}
 use Rattle.cp_report.specs.ReadBack.{sections_of, input_forms, report_of}
 use Rattle.cp_report.specs.UpToNames.{IsReport}
-use Rattle.cp_report.specs.FittingTrees.{MapsAll, IsOperationOn, IsParentOf, AreChildrenOf, IsTestOn, HasMarkOrChildren}
+use Rattle.cp_report.specs.FittingTrees.{IsConsistentIn}
 
 -- ---- what the problem states itself
 
@@ -49,23 +47,13 @@ pub record HasAllStated (problem k : Skeleton) : Type 0 where
 
 -- ---- labels and trees
 
--- What holds of label number i of a tree that forms without misfits denote for the problem. The variables that occur are
--- declared, it is a skeleton over the protocol with a map from the problem, all nodes and labels that it names are there, and
--- parents and children agree. That its variables begin with the problem's and that it has all that the problem states itself is
--- not said.
+-- What holds of label number i of a tree that forms without misfits denote for the problem: it is consistent, the variables that
+-- occur are declared, and its map keeps what the problem states and the label lists. That its variables begin with the problem's
+-- and that it has all that the problem states itself is not said.
 pub record IsAcceptedIn (p : Problem) (labels : List Label) (i : ℕ) (l : Label) : Type 0 where
   pub declared : (x : Variable) → IsIn x (occurring l) → IsDeclared l.skeleton.variables x
-  pub skeleton : IsSkeleton p.protocol l.skeleton
-  pub maps_all : MapsAll p l.skeleton
   pub stated : KeepsListed p.skeleton l.skeleton
-  pub operation : IsOperationOn p l.skeleton l.operation
-  pub parent : IsParentOf labels i l.operation l.parent
-  pub unrealised : (n : Node) → IsIn n l.unrealised → IsNodeOf l.skeleton.strands n
-  pub test : IsTestOn l.skeleton l.test
-  pub patterns : (q : Pattern) → IsIn q l.escape → IsPattern q
-  pub escape : l.test ≡ None → l.escape ≡ []
-  pub children : AreChildrenOf labels i l.children
-  pub mark : HasMarkOrChildren labels l.mark l.children
+  pub consistent : IsConsistentIn p labels i l
 
 abbrev pub TreeIsAccepted : Problem → Tree → Type 0
 TreeIsAccepted p t = (i : ℕ) (l : Label) → item_at t.labels i ≡ Some l → IsAcceptedIn p t.labels i l

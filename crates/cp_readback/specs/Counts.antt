@@ -1,9 +1,7 @@
 -- The counts of a tree, and status forms with them.
-use Rattle.std.specs.Prelude.{◌≡◌, ℕ, suc, List, [], ◌∷◌, ◌++◌, length, Bool, true, false, codes, if◌then◌else◌, Option, Some}
+use Rattle.std.specs.Prelude.{◌≡◌, ℕ, suc, List, [], ◌∷◌, ◌++◌, length, Bool, codes, if◌then◌else◌}
 use Rattle.cp_base.specs.declared.place.Place.{Place}
 use Rattle.cp_model.specs.Tree.{Label, expanded_count, shapes_of}
-use Rattle.cp_model.specs.declared.tree.Mark.{Mark}
-use Rattle.cp_model.specs.declared.tree.Mark.TheVariants.{Shape as shape}
 use Rattle.cp_model.specs.declared.tree.Outcome.{Outcome}
 use Rattle.cp_model.specs.declared.tree.Outcome.TheVariants.{Complete as complete}
 use Rattle.cp_sexpr.specs.Syntax.{Form}
@@ -11,6 +9,7 @@ use Rattle.cp_language.specs.Words.{is_one_of}
 use Rattle.cp_language.specs.Faults.{place_of}
 use Rattle.cp_language.specs.Roles.{text_of_symbol}
 use Rattle.cp_language.specs.Problems.{is_known}
+use Rattle.cp_language.specs.ShapesText.{is_shape_mark}
 use Rattle.cp_report.specs.Misfits.{misfit, unless_misfit, entries_misfits, symbol_misfits}
 use Rattle.cp_report.specs.Heads.{forms_after_head, item_with}
 use Rattle.cp_report.specs.Labels.{items_of_label, mark_in}
@@ -26,10 +25,6 @@ pub record AreCountsOf (labels : List Label) (c : Counts) : Type 0 where
 -- The label form has a test; or it has the mark of a shape.
 abbrev pub is_tested : Form → Bool
 is_tested f = is_known (item_with (codes "test" ∷ []) (items_of_label f))
-
-abbrev pub is_shape_mark : Option Mark → Bool
-is_shape_mark (Some shape) = true
-is_shape_mark _ = false
 
 abbrev pub is_shape_form : Form → Bool
 is_shape_form f = is_shape_mark (mark_in (items_of_label f))

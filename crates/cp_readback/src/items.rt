@@ -7,9 +7,9 @@ ghost use Rattle.cp_report.specs.Skeletons.{declarations_of_label, vars_item_mis
 ghost use Rattle.cp_report.specs.Labels.{word_of_label, wants_parent, has_children, has_mark, missing_misfits};
 ghost use Rattle.cp_spelled.specs.FirstMisfit.{first_onto};
 ghost use Rattle.cp_readback.specs.Families.{labels_of, IsFamily};
-ghost use Rattle.cp_readback.specs.Parts.{no_parent_item_misfits, parent_item_misfits, operation_of_item_misfits, children_item_misfits};
+ghost use Rattle.cp_readback.specs.Parts.{no_parent_item_misfits, operation_of_item_misfits, children_item_misfits};
 
-use crate::parents::{Family, children_misfits, parent_misfits};
+use crate::parents::{Family, children_misfits};
 use cp_base::Place;
 use cp_items::{
     OperationWord, is_operation, makes_root, mark_item, operation_misfits, word_in_front,
@@ -98,22 +98,6 @@ pub(crate) fn no_parent_misfits(items: &[Form], first: &mut FirstMisfit)
         return;
     };
     first.note_unless(!makes_root(word_of_label(items)), place_of(item));
-}
-
-/// If there is a parent, it must have the label with this number among its children.
-pub(crate) fn parent_item_misfits(
-    tree: Option<&Family<'_>>,
-    number: usize,
-    items: &[Form],
-    first: &mut FirstMisfit,
-)
-    requires { IfSome tree (λ f. IsFamily f.now) }
-    ensures { first.new ≡ first_onto first.old (parent_item_misfits (option_map (λ f. labels_of f.now) tree.entry) number (map view items.now)) }
-{
-    let Some(item) = item_with(items, b"parent") else {
-        return;
-    };
-    parent_misfits(tree, number, place_of(item), items_behind(item), first);
 }
 
 /// Notes where the operation, if there is one, does not fit in a tree for a problem with so many strands.

@@ -14,11 +14,11 @@ ghost use Rattle.cp_readback.specs.Items.{IsSetting};
 
 use crate::items::{
     children_item_misfits, has_children, missing_if, no_parent_misfits, operation_item_misfits,
-    parent_item_misfits, variables_item,
+    variables_item,
 };
 use crate::marks::mark_misfits;
 use crate::order::{are_in_order, order_misfits, place_of_lack};
-use crate::parents::Family;
+use crate::parents::{Family, parent_item_misfits};
 use crate::strand_items::{about_strands_misfits, escape_item_misfits};
 use cp_base::Place;
 use cp_items::{items_of_label, mark_item, up_to_strands};

@@ -29,4 +29,4 @@ pub use leading_labels::count_in_front;
 pub use report::{Report, read_back};
 pub use restated::accepted_reports_can_be_restated;
 pub use small::accepted_reports_need_not_fit;
-pub use trees::{behind_misfits, none_may_stand, tree_of};
+pub use trees::{behind_misfits, none_may_stand};

@@ -4,16 +4,16 @@ ghost use Rattle.std.specs.HashSet.{contains};
 ghost use Rattle.cp_lists.specs.Lists.{item_at};
 ghost use Rattle.cp_sexpr.specs.View.{view};
 ghost use Rattle.cp_report.specs.Misfits.{number_misfits};
-ghost use Rattle.cp_report.specs.Labels.{stated_parent, stated_children, has_parent, has_parent_in, has_child_in, is_label_in, parent_misfits, children_misfits};
+ghost use Rattle.cp_report.specs.Labels.{stated_parent, stated_children, has_parent, has_parent_in, has_child_in, is_label_in, children_misfits};
 ghost use Rattle.cp_spelled.specs.FirstMisfit.{first_onto};
 ghost use Rattle.cp_readback.specs.Families.{is_same_child, names_child, labels_of, parent_in, IsFamily};
+ghost use Rattle.cp_readback.specs.Parts.{parent_item_misfits};
 
-use cp_base::Place;
 use cp_items::{items_of_label, number_in_front, stated_number};
-use cp_scope::place_of;
+use cp_scope::{items_behind, place_of};
 use cp_sexpr::Form;
 use cp_spelled::{FirstMisfit, entries_under, no_more};
-use cp_stated::number_of;
+use cp_stated::{item_with, number_of};
 use std::alloc::{AllocError, Global};
 use std::collections::HashSet;
 
@@ -149,18 +149,21 @@ fn parent_number_misfits(
     }
 }
 
-/// The items of the list at this place must be the number of a label that has this one among its children.
-pub(crate) fn parent_misfits(
+/// If there is a parent, it must be the number of a label that has this one among its children.
+pub(crate) fn parent_item_misfits(
     tree: Option<&Family<'_>>,
     label: usize,
-    place: Place,
     items: &[Form],
     first: &mut FirstMisfit,
 )
     requires { IfSome tree (λ f. IsFamily f.now) }
-    ensures { first.new ≡ first_onto first.old (parent_misfits (option_map (λ f. labels_of f.now) tree.entry) label place (map view items.now)) }
+    ensures { first.new ≡ first_onto first.old (parent_item_misfits (option_map (λ f. labels_of f.now) tree.entry) label (map view items.now)) }
 {
-    let Some((number, rest)) = items.split_first() else {
+    let Some(item) = item_with(items, b"parent") else {
+        return;
+    };
+    let place = place_of(item);
+    let Some((number, rest)) = items_behind(item).split_first() else {
         first.note(place);
         return;
     };

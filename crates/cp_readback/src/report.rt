@@ -11,11 +11,12 @@ ghost use Rattle.cp_report.specs.ReadBack.{IsReadBack, sections_of, next_place, 
 ghost use Rattle.cp_spelled.specs.FirstMisfit.{first_onto, merged};
 ghost use Rattle.cp_readback.specs.Sections.{section_view};
 ghost use Rattle.cp_readback.specs.Reports.{report_view, forms_in, all_unchecked_view, problem_at, trees_by, AreFollowedByTrees};
-ghost use Rattle.cp_readback.specs.declared.error.ReadBackError.TheVariants.{NotReport};
+ghost use Rattle.cp_sexpr.specs.declared.error.OrMemory.TheVariants.{Refused as NotReport};
 
 use crate::error::ReadBackError;
 use crate::sections::{Section, Sections, sections_of};
-use crate::{behind_misfits, none_may_stand, tree_of};
+use crate::trees::tree_of;
+use crate::{behind_misfits, none_may_stand};
 use cp_base::Place;
 use cp_load::{Entry, UncheckedEntry, UncheckedProblem, all_finished, top_form};
 use cp_scope::{FirstFault, NameSet, place_of};
@@ -164,7 +165,7 @@ pub fn read_back(alloc: Global, forms: &[Form]) -> Result<Report<'_>, ReadBackEr
         misfit,
     } = judge(alloc, forms)?;
     if let Some(place) = misfit {
-        return Err(ReadBackError::NotReport(place));
+        return Err(ReadBackError::Refused(place));
     }
     let trees = trees_of(alloc, &sections, &unchecked_entries)?;
     let entries = all_finished(alloc, unchecked_entries)?;

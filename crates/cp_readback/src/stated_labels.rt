@@ -17,16 +17,15 @@ ghost use Rattle.cp_readback.specs.Parts.{mark_of_item};
 use crate::items::word_of_label;
 use crate::marks::mark_of;
 use cp_items::{
-    items_of_label, mark_item, nodes_of, number_in_front, numbers_of, operation_by, patterns_of,
-    test_of,
+    items_of_label, mark_item, nodes_of, number_in_front, numbers_of, operation_by, test_of,
 };
 use cp_load::UncheckedProblem;
 use cp_scope::later_items;
 use cp_sexpr::Form;
 use cp_skel::{Label, Nodes, Numbers, Operation, Skeleton, Test};
-use cp_spelled::{Locals, Scope, Variables, declarations_of_label, entries_under};
+use cp_spelled::{Locals, Scope, Variables, declarations_of_label, entries_under, pattern_of};
 use cp_stated::{item_with, skeleton_stated, strands_of};
-use cp_term::Patterns;
+use cp_term::{Pattern, Patterns};
 use std::alloc::{AllocError, Global};
 
 /// The operation that the items of a label form state.
@@ -35,6 +34,34 @@ fn operation_stated(alloc: Global, items: &[Form]) -> Result<Operation, AllocErr
 {
     let behind = later_items(entries_under(items, b"by"), 1);
     operation_by(alloc, word_of_label(items), behind)
+}
+
+/// The pattern that a form is. It must be one.
+fn pattern_stated(alloc: Global, variables: &Variables, form: &Form) -> Result<Pattern, AllocError>
+    requires { pattern_misfits variables.now (view form.now) ≡ [] }
+    ensures { IfOk result (λ p. p ≡ pattern_of variables.now (view form.now)) }
+{
+    match pattern_of(alloc, variables, form)? {
+        Some(pattern) => Ok(pattern),
+        None => unreachable!(),
+    }
+}
+
+/// The patterns that forms are. Each must be one.
+fn patterns_of(
+    alloc: Global,
+    variables: &Variables,
+    items: &[Form],
+) -> Result<Vec<Pattern>, AllocError>
+    requires { each_misfits (pattern_misfits variables.now) (map view items.now) ≡ [] }
+    ensures { IfOk result (λ v. v.items ≡ map (pattern_of variables.now) (map view items.now)) }
+{
+    let mut patterns = Vec::new(alloc);
+    for item in items {
+        let pattern = pattern_stated(alloc, variables, item)?;
+        patterns.push(pattern)?;
+    }
+    Ok(patterns)
 }
 
 /// How a label is expanded: its unrealised nodes, its test, the escape set of the test, and its children.
@@ -68,25 +95,6 @@ fn expansion_stated(
         patterns: Patterns::of(patterns),
         children: Numbers::of(children),
     })
-}
-
-/// The skeleton that the items of a label form state for the problem. The items must fit. The names are those of the
-/// problem's variables in a report; the scope has the variables that the items declare.
-fn skeleton_of(
-    alloc: Global,
-    problem: &UncheckedProblem,
-    names: &Variables,
-    scope: Scope<'_>,
-    items: &[Form],
-) -> Result<Skeleton, AllocError>
-    requires names { names.now ≡ problem_variables (unchecked_view problem.now) }
-    requires scope { scope_view scope ≡ scope_of (map view items.now) }
-    requires fits { HasFitting (unchecked_view problem.now) (map view items.now) }
-    ensures skeleton { IfOk result (λ k. k ≡ skeleton_stated (unchecked_view problem.now) (map view items.now)) }
-    ensures variables { IfOk result (λ k. k.variables ≡ declarations_of_label (map view items.now)) }
-{
-    let strands = strands_of(alloc, problem.protocol.roles(), scope, items)?;
-    skeleton_stated(alloc, problem, names, scope, strands, items)
 }
 
 /// The label with the parent and the mark that the items state, and with this operation, skeleton and expansion.
@@ -139,7 +147,8 @@ fn label_by(
 {
     let operation = operation_stated(alloc, items)?;
     let expansion = expansion_stated(alloc, scope, items)?;
-    let skeleton = skeleton_of(alloc, problem, names, scope, items)?;
+    let strands = strands_of(alloc, problem.protocol.roles(), scope, items)?;
+    let skeleton = skeleton_stated(alloc, problem, names, scope, strands, items)?;
     Ok(label_with(items, operation, skeleton, expansion))
 }
 

@@ -124,7 +124,7 @@ pub fn behind_misfits(
 }
 
 /// The tree that the forms after a problem are. They must fit.
-pub fn tree_of(
+pub(crate) fn tree_of(
     alloc: Global,
     problem: &UncheckedProblem,
     behind: &[Form],

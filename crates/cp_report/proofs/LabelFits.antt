@@ -166,13 +166,13 @@ module _ (under : IsUnder) (whole : AppliesWhole) (p : Problem) (l : Label) (h :
   operation_item : optional_misfits (operation_misfits p) (item_with (codes "by" ∷ []) (items p l)) ≡ []
   operation_item =
       ap (optional_misfits (operation_misfits p)) (by_found (of_problem p) (names p l) l) ∙ ap (operation_misfits p no_place) (items_back (operation_words l.operation))
-      ∙ operation_fits p l.skeleton no_place l.operation fit.operation
+      ∙ operation_fits p l.skeleton no_place l.operation fit.consistent.operation
 
   parent_item : optional_misfits (parent_misfits tree i) (item_with (codes "parent" ∷ []) (items p l)) ≡ []
   parent_item = ap (optional_misfits (parent_misfits tree i)) (parent_found (of_problem p) (names p l) l) ∙ parent_fits tree i l.parent agrees.parent
 
   root_item : optional_misfits (no_parent_misfits (items p l)) (item_with (codes "parent" ∷ []) (items p l)) ≡ []
-  root_item = ap (optional_misfits (no_parent_misfits (items p l))) (parent_found (of_problem p) (names p l) l) ∙ by l.parent fit.parent
+  root_item = ap (optional_misfits (no_parent_misfits (items p l))) (parent_found (of_problem p) (names p l) l) ∙ by l.parent fit.consistent.parent
     where
       by : (o : Option ℕ) → IsParentOf labels i l.operation o → optional_misfits (no_parent_misfits (items p l)) (item_with (codes "parent" ∷ []) (parent_items o)) ≡ []
       by None e = refl
@@ -181,12 +181,12 @@ module _ (under : IsUnder) (whole : AppliesWhole) (p : Problem) (l : Label) (h :
   unrealised_item : optional_misfits (unrealised_misfits strands) (item_with (codes "unrealised" ∷ []) (items p l)) ≡ []
   unrealised_item =
       ap (optional_misfits (unrealised_misfits strands)) (unrealised_found (of_problem p) (names p l) l)
-      ∙ optional_fits (codes "unrealised") (each_misfits (node_misfits strands)) (map node_form l.unrealised) (nodes_fit strands l.unrealised (λ n m. node_there n (fit.unrealised n m)))
+      ∙ optional_fits (codes "unrealised") (each_misfits (node_misfits strands)) (map node_form l.unrealised) (nodes_fit strands l.unrealised (λ n m. node_there n (fit.consistent.unrealised n m)))
 
   test_item : optional_misfits (test_misfits (scope_of (items p l)) strands) (item_with (codes "test" ∷ []) (items p l)) ≡ []
   test_item =
       ap (optional_misfits (test_misfits (scope_of (items p l)) strands)) (test_found (of_problem p) (names p l) l)
-      ∙ test_fits (scope_of (items p l)) strands (named p l) (number l) l.test (λ t e. node_there t.node (of_test l.test fit.test t e)) (λ x m. stands under p l h x (in_test under p l h fit.patterns x m))
+      ∙ test_fits (scope_of (items p l)) strands (named p l) (number l) l.test (λ t e. node_there t.node (of_test l.test fit.consistent.test t e)) (λ x m. stands under p l h x (in_test under p l h fit.consistent.patterns x m))
     where
       of_test : (o : Option Test) → IsTestOn l.skeleton o → (t : Test) → o ≡ Some t → IsNodeOf l.skeleton.strands t.node
       of_test None g t e = absurd (cc)
@@ -196,7 +196,7 @@ module _ (under : IsUnder) (whole : AppliesWhole) (p : Problem) (l : Label) (h :
   operation_place =
       ap (λ w. operation_place_misfits strands w (drop 1 (entries_under (codes "by") (items p l)))) word_is
       ∙ ap (λ fs. operation_place_misfits strands (word_for l.operation) (drop 1 fs)) (operation_are (of_problem p) (names p l) l)
-      ∙ operation_there strands l.operation (named_there p l.skeleton strands l.operation node_there strand_there fit.operation)
+      ∙ operation_there strands l.operation (named_there p l.skeleton strands l.operation node_there strand_there fit.consistent.operation)
 
   about_fits : about_strands_misfits p (items p l) ≡ []
   about_fits = none_and _ _ (none_and _ _ operation_place unrealised_item) test_item
@@ -204,16 +204,16 @@ module _ (under : IsUnder) (whole : AppliesWhole) (p : Problem) (l : Label) (h :
   escape_item : optional_misfits (escape_misfits (items p l)) (item_with (codes "escape" ∷ []) (items p l)) ≡ []
   escape_item =
       ap (optional_misfits (escape_misfits (items p l))) (escape_found (of_problem p) (names p l) l)
-      ∙ escape_fits (items p l) (map (pattern_form (named p l)) l.escape) (λ e. ap is_known (test_found (of_problem p) (names p l) l) ∙ test_known (named p l) l.test (λ t. e (nothing_mapped (pattern_form (named p l)) l.escape (fit.escape t)))) (patterns_fit under p l h fit.patterns)
+      ∙ escape_fits (items p l) (map (pattern_form (named p l)) l.escape) (λ e. ap is_known (test_found (of_problem p) (names p l) l) ∙ test_known (named p l) l.test (λ t. e (nothing_mapped (pattern_form (named p l)) l.escape (fit.consistent.escape t)))) (patterns_fit under p l h fit.consistent.patterns)
 
   children_item : optional_misfits (λ q fs. lacking 1 q fs ++ children_misfits tree i [] fs) (item_with (codes "children" ∷ []) (items p l)) ≡ []
   children_item =
       ap (optional_misfits (λ q fs. lacking 1 q fs ++ children_misfits tree i [] fs)) (children_found (of_problem p) (names p l) l)
       ∙ optional_fits (codes "children") (children_misfits tree i []) (map numeral l.children)
-      (children_fit tree i [] l.children agrees.children (are_once [] l.children fit.children.once (λ n m. refl)))
+      (children_fit tree i [] l.children agrees.children (are_once [] l.children fit.consistent.children.once (λ n m. refl)))
 
   mark_item : mark_misfits tree (items p l) (item_with mark_heads (items p l)) ≡ []
-  mark_item = ap (mark_misfits tree (items p l)) (mark_found (of_problem p) (names p l) l) ∙ by l.mark fit.mark agrees.seen_there agrees.instance_there
+  mark_item = ap (mark_misfits tree (items p l)) (mark_found (of_problem p) (names p l) l) ∙ by l.mark fit.consistent.mark agrees.seen_there agrees.instance_there
     where
       by : (o : Option Mark) → HasMarkOrChildren labels o l.children → ((n : ℕ) → o ≡ Some (seen n) → is_label_in tree n ≡ true) → ((n : ℕ) → o ≡ Some (instance_of n) → is_label_in tree n ≡ true)
           → mark_misfits tree (items p l) (item_with mark_heads (mark_items o)) ≡ []
@@ -225,8 +225,8 @@ module _ (under : IsUnder) (whole : AppliesWhole) (p : Problem) (l : Label) (h :
       none_and _ _ (none_and _ _ (none_and _ _
       (ap (λ o. misfit_unless (is_known o) at) (by_found (of_problem p) (names p l) l))
       (ap (λ o. misfit_unless (is_known o) at) (map_found (of_problem p) (names p l) l)))
-      (ap (λ b. misfit_unless b at) (by_mark l.mark fit.mark (mark_found (of_problem p) (names p l) l))))
-      (ap (λ b. misfit_unless b at) (by_parent l.parent fit.parent (parent_found (of_problem p) (names p l) l)))
+      (ap (λ b. misfit_unless b at) (by_mark l.mark fit.consistent.mark (mark_found (of_problem p) (names p l) l))))
+      (ap (λ b. misfit_unless b at) (by_parent l.parent fit.consistent.parent (parent_found (of_problem p) (names p l) l)))
     where
       by_mark : (o : Option Mark) → HasMarkOrChildren labels o l.children → item_with mark_heads (items p l) ≡ item_with mark_heads (mark_items o) → (has_children (items p l) || has_mark (items p l)) ≡ true
       by_mark None g e = ap (λ b. b || has_mark (items p l)) (ap is_known (children_found (of_problem p) (names p l) l) ∙ children_known l.children g)

@@ -22,10 +22,12 @@ pub mod MovedRoles
 pub mod MovedSkeletons
 pub mod MovedStated
 pub mod MovedTerms
+pub mod NoMisfits
 pub mod NumbersFit
 pub mod OneAnswer
 pub mod OwnStated
 pub mod OwnTrees
+pub mod PartsFit
 pub mod PatternLocals
 pub mod Premises
 pub mod PrintedAssumptions

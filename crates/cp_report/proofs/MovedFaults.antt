@@ -27,15 +27,15 @@ use Rattle.cp_report.proofs.MovedTerms.{applied_value_moved}
 abbrev pub faults_at_start : List Refusal → List Refusal
 faults_at_start rs = map (λ r. record { place = start; code = r.code }) rs
 
+-- Two parts, each of them moved.
+pub two : (xs ys us vs : List Refusal) → us ≡ faults_at_start xs → vs ≡ faults_at_start ys → us ++ vs ≡ faults_at_start (xs ++ ys)
+two = both_mapped (λ r. record { place = start; code = r.code })
+
 -- What finds faults in a form finds the same in the form with one place.
 abbrev pub IsMovedFault : (Form → List Refusal) → Type 0
 IsMovedFault kind = (f : Form) → kind (unplaced f) ≡ faults_at_start (kind f)
 
 -- ---- lists of faults
-
--- two parts, each of them moved
-pub two : (xs ys us vs : List Refusal) → us ≡ faults_at_start xs → vs ≡ faults_at_start ys → us ++ vs ≡ faults_at_start (xs ++ ys)
-two = both_mapped (λ r. record { place = start; code = r.code })
 
 -- a test that answers the same
 pub fault_moved : (a b : Bool) (p : Place) (c : Code) → a ≡ b → fault_unless a start c ≡ faults_at_start (fault_unless b p c)

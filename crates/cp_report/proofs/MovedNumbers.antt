@@ -16,7 +16,7 @@ use Rattle.cp_report.specs.Heads.{forms_after_head, entries_under}
 use Rattle.cp_report.specs.Skeletons.{strand_number_misfits}
 use Rattle.cp_report.specs.declared.operations.OperationWord.{OperationWord}
 use Rattle.cp_report.specs.declared.operations.OperationWord.TheVariants.{Problem as problem_word, Collapsed as collapsed_word, Contracted as contracted_word, Displaced as displaced_word, AddedStrand as added_strand_word, AddedListener as added_listener_word, Generalised as generalised_word, Unknown as no_operation_word}
-use Rattle.cp_report.specs.Labels.{is_among, is_number, stated_number, number_in_front, numbers_onto, numbers_in, behind_number, items_of_label, stated_parent, stated_children, has_parent, has_child, has_parent_in, has_child_in, is_label_in, parent_misfits, children_misfits, operation_word, is_operation, block_checks, operation_kinds, operation_misfits, index_misfits, operation_place_misfits, number_stated, node_stated, operation_by, word_of_label}
+use Rattle.cp_report.specs.Labels.{is_among, is_number, stated_number, number_in_front, numbers_onto, numbers_in, behind_number, items_of_label, stated_parent, stated_children, has_parent, has_child, has_parent_in, has_child_in, is_label_in, parent_misfits, children_misfits, operation_word, is_operation, block_checks, kinds_after, operation_kinds, operation_misfits, index_misfits, operation_place_misfits, number_stated, node_stated, operation_by, word_of_label}
 use Rattle.cp_report.proofs.Moved.{at_start, all_moved, IsMoved, IsMovedInside, both, unless_moved, entries_moved, AreMoved, entries_misfits_moved, symbol_moved, number_moved, any_number_moved}
 use Rattle.cp_report.proofs.MovedItems.{map_moved, text_moved, number_of_moved, name_in_front_moved, entries_under_moved}
 
@@ -120,14 +120,7 @@ blocks_moved ns i [] = tt
 blocks_moved ns i (k ∷ ks) = (number_moved (λ n. nat_le n i && is_number n (item_at ns n)), blocks_moved ns (suc i) ks)
 
 kinds_same : (p : Problem) (w : OperationWord) (fs : List Form) → operation_kinds p w (all_moved fs) ≡ operation_kinds p w fs
-kinds_same p problem_word fs = refl
-kinds_same p collapsed_word fs = ap (λ ns. block_checks ns 0 p.skeleton.strands) (map_moved number_of number_of_moved fs)
-kinds_same p contracted_word fs = refl
-kinds_same p displaced_word fs = refl
-kinds_same p added_strand_word fs = refl
-kinds_same p added_listener_word fs = refl
-kinds_same p generalised_word fs = refl
-kinds_same p no_operation_word fs = refl
+kinds_same p w fs = ap (λ ns. kinds_after w (block_checks ns 0 p.skeleton.strands)) (map_moved number_of number_of_moved fs)
 
 kinds_moved : (p : Problem) (w : OperationWord) (fs : List Form) → AreMoved (operation_kinds p w fs)
 kinds_moved p problem_word fs = tt

@@ -77,20 +77,22 @@ module _ (input : Forms) (well_formed : faults_of input ≡ []) (e : Entry) (lis
       declared = λ x m. subst (λ ds. IsDeclared ds x) (sym own_variables) (all_declared x m);
     };
     few = subst (λ ds. length ds < 2 ^ 64) (sym own_variables) few;
-    skeleton = are_skeletons input e p well_formed listed at;
-    maps_all = record {
-      strands = ap length own.strands ∙ numbers_length 0 p.skeleton.strands;
-      values = subst (λ ts. ArePaired HasSortOf p.variables ts) (sym own.values) (their_sorts 0 p.variables);
-    };
     stated = keeps_its_own p.variables p.skeleton (states_itself own);
-    operation = tt;
-    parent = refl;
-    unrealised = λ n i. elim i [ ];
-    test = tt;
-    patterns = λ q i. elim i [ ];
-    escape = λ t. refl;
-    children = record { each = λ n i. elim i [ ]; once = λ a b n g h. absurd (cc) };
-    mark = (tt, refl);
+    consistent = record {
+      skeleton = are_skeletons input e p well_formed listed at;
+      maps_all = record {
+        strands = ap length own.strands ∙ numbers_length 0 p.skeleton.strands;
+        values = subst (λ ts. ArePaired HasSortOf p.variables ts) (sym own.values) (their_sorts 0 p.variables);
+      };
+      operation = tt;
+      parent = refl;
+      unrealised = λ n i. elim i [ ];
+      test = tt;
+      patterns = λ q i. elim i [ ];
+      escape = λ t. refl;
+      children = record { each = λ n i. elim i [ ]; once = λ a b n g h. absurd (cc) };
+      mark = (tt, refl);
+    };
   }
 
   own_tree_fits : TreeFits p (own_tree p)

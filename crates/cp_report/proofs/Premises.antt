@@ -51,7 +51,7 @@ first_declared (suc n) (d ∷ ds) zero t e = let same : d.identifier ≡ t = cc 
 first_declared (suc n) (d ∷ ds) (suc i) t e = let r = first_declared n ds i t e in (r.0, omega (arith, r.1), r.2, r.3)
 
 -- Identifiers that name their own variables are different.
-first_different : (declared : ℕ) (ds : List Declaration) → ((n : ℕ) (d : Declaration) → n < declared → item_at ds n ≡ Some d → variable_named ds d.identifier ≡ Some (record { sort = d.sort; number = n }))
+pub first_different : (declared : ℕ) (ds : List Declaration) → ((n : ℕ) (d : Declaration) → n < declared → item_at ds n ≡ Some d → variable_named ds d.identifier ≡ Some (record { sort = d.sort; number = n }))
     → AreDifferent (identifiers_in (first_of declared ds))
 first_different declared ds own i j t e f =
     let a = first_declared declared ds i t e in
@@ -92,8 +92,8 @@ module _ (input : Forms) (well_formed : faults_of input ≡ []) (e : Entry) (lis
     names_differ = names_differ fewer;
     small = fit.few;
     variables = fit.variables;
-    skeleton = fit.skeleton;
-    maps_all = fit.maps_all;
+    skeleton = fit.consistent.skeleton;
+    maps_all = fit.consistent.maps_all;
     stated = fit.stated;
     roles = role_is_found;
     own = own_over p (map_to_themselves input e p well_formed listed at);

@@ -157,7 +157,7 @@ labels_through (l ∷ ls) (m ∷ ms) (s ∷ ss) are are' h g = (
 )
 
 proper : (p : Problem) (t : Tree) → TreeFits p t → (l : Label) → IsIn l t.labels → IsProper l
-proper p t fit l m = let r = place_of m in let f = fit r.0 l r.1 in record { patterns = f.patterns; assumed = f.stated.assumed }
+proper p t fit l m = let r = place_of m in let f = fit r.0 l r.1 in record { patterns = f.consistent.patterns; assumed = f.stated.assumed }
 
 -- Each tree fits some problem.
 abbrev FitSome : List Problem → List Tree → Type 0

@@ -78,10 +78,10 @@ module _ (of_problem : List (List ℕ)) (labels : List Label) where
   -- Labels that fit agree with the label forms of their tree.
   agrees : (p : Problem) (i : ℕ) (l : Label) → FitsIn p labels i l → AgreesWith (Some forms) i l
   agrees p i l fit = record {
-    parent = λ n e. child_there i n (parent_named i l.operation n (subst (λ (o : Option ℕ). IsParentOf labels i l.operation o) e fit.parent));
-    children = λ n m. let c = fit.children.each n m in parent_there i n c.0 c.1 c.2;
-    seen_there = λ n e. label_there n (subst (λ (o : Option Mark). HasMarkOrChildren labels o l.children) e fit.mark).0;
-    instance_there = λ n e. label_there n (subst (λ (o : Option Mark). HasMarkOrChildren labels o l.children) e fit.mark).0;
+    parent = λ n e. child_there i n (parent_named i l.operation n (subst (λ (o : Option ℕ). IsParentOf labels i l.operation o) e fit.consistent.parent));
+    children = λ n m. let c = fit.consistent.children.each n m in parent_there i n c.0 c.1 c.2;
+    seen_there = λ n e. label_there n (subst (λ (o : Option Mark). HasMarkOrChildren labels o l.children) e fit.consistent.mark).0;
+    instance_there = λ n e. label_there n (subst (λ (o : Option Mark). HasMarkOrChildren labels o l.children) e fit.consistent.mark).0;
   }
 
 -- ---- the labels of a tree
@@ -182,7 +182,7 @@ module _ (under : IsUnder) (whole : AppliesWhole) (p : Problem) (t : Tree) (fit 
   label_forms = labels_from of_problem 0 t.labels
 
   read : ArePaired IsSameLabel t.labels (map (label_of p) label_forms)
-  read = labels_back p of_problem 0 t.labels (λ n l e m. label_form_back under p l (printed n l e) (fit n l e).patterns m)
+  read = labels_back p of_problem 0 t.labels (λ n l e m. label_form_back under p l (printed n l e) (fit n l e).consistent.patterns m)
 
   each_fits : labels_misfits p (Some label_forms) 0 label_forms ≡ []
   each_fits = labels_fit p of_problem (Some label_forms) 0 t.labels one_fits

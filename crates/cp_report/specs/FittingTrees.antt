@@ -93,16 +93,11 @@ HasMarkOrChildren labels (Some m) children = IsMarkIn labels m × (children ≡ 
 
 -- ---- labels and trees
 
--- Label number i of a tree for the problem can be stated: its variables are the problem's and later ones, it is a skeleton
--- over the protocol with a map from the problem that keeps what that states, all nodes and labels that it names are there,
--- and parents and children agree. Its variables are fewer than 2^64, so that the numbers that set names apart, as in `x-0`
--- and `x-1`, are written with different digits.
-pub record FitsIn (p : Problem) (labels : List Label) (i : ℕ) (l : Label) : Type 0 where
-  pub variables : HasItsVariables p l
-  pub few : length l.skeleton.variables < 2 ^ 64
+-- Label number i of a tree for the problem is a skeleton over the protocol with a map from the problem, all nodes and labels
+-- that it names are there, and parents and children agree.
+pub record IsConsistentIn (p : Problem) (labels : List Label) (i : ℕ) (l : Label) : Type 0 where
   pub skeleton : IsSkeleton p.protocol l.skeleton
   pub maps_all : MapsAll p l.skeleton
-  pub stated : KeepsStated p.skeleton l.skeleton
   pub operation : IsOperationOn p l.skeleton l.operation
   pub parent : IsParentOf labels i l.operation l.parent
   pub unrealised : (n : Node) → IsIn n l.unrealised → IsNodeOf l.skeleton.strands n
@@ -111,6 +106,15 @@ pub record FitsIn (p : Problem) (labels : List Label) (i : ℕ) (l : Label) : Ty
   pub escape : l.test ≡ None → l.escape ≡ []
   pub children : AreChildrenOf labels i l.children
   pub mark : HasMarkOrChildren labels l.mark l.children
+
+-- Label number i of a tree for the problem can be stated: it is consistent, its variables are the problem's and later ones,
+-- and its map keeps what the problem states. Its variables are fewer than 2^64, so that the numbers that set names apart, as
+-- in `x-0` and `x-1`, are written with different digits.
+pub record FitsIn (p : Problem) (labels : List Label) (i : ℕ) (l : Label) : Type 0 where
+  pub variables : HasItsVariables p l
+  pub few : length l.skeleton.variables < 2 ^ 64
+  pub stated : KeepsStated p.skeleton l.skeleton
+  pub consistent : IsConsistentIn p labels i l
 
 abbrev pub TreeFits : Problem → Tree → Type 0
 TreeFits p t = (i : ℕ) (l : Label) → item_at t.labels i ≡ Some l → FitsIn p t.labels i l

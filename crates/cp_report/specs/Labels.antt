@@ -132,16 +132,19 @@ abbrev pub block_checks : List ℕ → ℕ → List SkeletonStrand → List (For
 block_checks ns i [] = []
 block_checks ns i (k ∷ ks) = block_misfits ns i ∷ block_checks ns (suc i) ks
 
--- The kinds of the entries behind the word.
+-- The kinds of the entries behind the word, where those of a partition are these.
+abbrev pub kinds_after : OperationWord → List (Form → List Place) → List (Form → List Place)
+kinds_after problem_word blocks = []
+kinds_after collapsed_word blocks = blocks
+kinds_after contracted_word blocks = any_number_misfits ∷ any_number_misfits ∷ []
+kinds_after displaced_word blocks = any_number_misfits ∷ any_number_misfits ∷ []
+kinds_after added_strand_word blocks = any_number_misfits ∷ []
+kinds_after added_listener_word blocks = any_number_misfits ∷ []
+kinds_after generalised_word blocks = []
+kinds_after no_operation_word blocks = []
+
 abbrev pub operation_kinds : Problem → OperationWord → List Form → List (Form → List Place)
-operation_kinds p problem_word fs = []
-operation_kinds p collapsed_word fs = block_checks (map number_of fs) 0 p.skeleton.strands
-operation_kinds p contracted_word fs = any_number_misfits ∷ any_number_misfits ∷ []
-operation_kinds p displaced_word fs = any_number_misfits ∷ any_number_misfits ∷ []
-operation_kinds p added_strand_word fs = any_number_misfits ∷ []
-operation_kinds p added_listener_word fs = any_number_misfits ∷ []
-operation_kinds p generalised_word fs = []
-operation_kinds p no_operation_word fs = []
+operation_kinds p w fs = kinds_after w (block_checks (map number_of fs) 0 p.skeleton.strands)
 
 -- A word that names an operation, and what belongs to it.
 abbrev pub operation_misfits : Problem → Place → List Form → List Place

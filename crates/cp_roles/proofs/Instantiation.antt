@@ -1,5 +1,5 @@
 -- The variables of a role, one after another.
-use Rattle.std.proofs.Common.{◌≡◌, ℕ, suc, ◌+◌, ◌<◌, ◌≤◌, List, [], ◌∷◌, ◌++◌, length, get_or, drop, Bool, true, false, if◌then◌else◌, sym, ap, ◌∙◌, add-one}
+use Rattle.std.proofs.Common.{◌≡◌, ℕ, suc, ◌+◌, ◌<◌, ◌≤◌, List, [], ◌∷◌, ◌++◌, length, get_or, map, drop, refl, Bool, true, false, if◌then◌else◌, sym, ap, ◌∙◌, add-one}
 use Rattle.std.proofs.lemmas.List.{drop_all, append_assoc, append-nil}
 use Rattle.cp_lists.proofs.Members.{drop_read}
 use Rattle.cp_lists.proofs.Appended.{length_pushed}
@@ -53,3 +53,7 @@ module _ (prefix : List Variable) (ds : List Declaration) (maplets : List Form) 
         values = sym (append-nil terms) ∙ sym (ap (λ i. terms ++ i.terms) none) ∙ h.values;
         made = sym (append-nil now) ∙ sym (ap (λ i. now ++ i.fresh) none) ∙ h.made;
       }
+
+pub same_items : (ds : List Declaration) → map (λ d. d) ds ≡ ds
+same_items [] = refl
+same_items (d ∷ ds) = ap (λ more. d ∷ more) (same_items ds)

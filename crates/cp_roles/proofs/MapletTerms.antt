@@ -26,8 +26,8 @@ module _ (ds : List Declaration) (t : List ℕ) where
   mapped-named (list at (more f none) ∷ fs) = step (is_one_of t (mapped_identifier (list at (more f none)))) (list at (more f none)) _ (term_mapped ds t fs) (maplet_named t fs) refl (mapped-named fs)
   mapped-named (list at (more f (more g gs)) ∷ fs) = step (is_one_of t (mapped_identifier (list at (more f (more g gs))))) (list at (more f (more g gs))) _ (term_mapped ds t fs) (maplet_named t fs) refl (mapped-named fs)
 
-  pub mapped-some : (fs : List Form) (f : Form) (term : Term) → Some f ≡ maplet_named t fs → term ≡ right_of f → Some term ≡ term_mapped ds t fs
-  mapped-some fs f term e g = ap Some g ∙ ap (option_map right_of) e ∙ sym (mapped-named fs)
+  pub mapped_some : (fs : List Form) (f : Form) (term : Term) → Some f ≡ maplet_named t fs → term ≡ right_of f → Some term ≡ term_mapped ds t fs
+  mapped_some fs f term e g = ap Some g ∙ ap (option_map right_of) e ∙ sym (mapped-named fs)
 
-  pub mapped-none : (fs : List Form) → None ≡ maplet_named t fs → None ≡ term_mapped ds t fs
-  mapped-none fs e = ap (option_map right_of) e ∙ sym (mapped-named fs)
+  pub mapped_none : (fs : List Form) → None ≡ maplet_named t fs → None ≡ term_mapped ds t fs
+  mapped_none fs e = ap (option_map right_of) e ∙ sym (mapped-named fs)

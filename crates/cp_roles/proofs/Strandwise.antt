@@ -1,7 +1,6 @@
 -- Strands that are made one after another.
 use Rattle.std.proofs.Common.{◌≡◌, ℕ, ◌+◌, ◌<◌, ◌≤◌, List, [], ◌∷◌, ◌++◌, length, get_or, map, drop, refl, sym, ap, ◌∙◌}
 use Rattle.std.specs.Prelude.{Option, Some, None}
-use Rattle.std.specs.Option.{option_to_list}
 use Rattle.std.proofs.lemmas.List.{drop_all, append_assoc, append-nil, length-append}
 use Rattle.cp_lists.proofs.Members.{drop_read}
 use Rattle.cp_model.specs.Strand.{Role}
@@ -69,11 +68,6 @@ module _ (roles : List Role) (ds : List Declaration) (items : List program.Form)
               same = ap (λ x. x ++ rest.strands) (g ∙ ap (λ x. strands ++ x ∷ []) this) ∙ append_assoc strands (made.0 ∷ []) rest.strands ∙ ap (λ l. strands ++ l.strands) (sym left) ∙ h.same;
               behind = ap (λ x. x ++ rest.fresh) n.behind ∙ append_assoc now made.1 rest.fresh ∙ ap (λ l. now ++ l.fresh) (sym left) ∙ h.behind;
             }
-
-    pub strand-taken : (o : Option SkeletonStrand) → IsMadeIf (made_by (length now) (view f)) o now after → strands' ≡ strands ++ option_to_list o
-        → AreLeft all (strands_from roles ds (length after) (map view (drop (k + 1) items))) strands' before after
-    strand-taken None m g = none-made None refl m (g ∙ append-nil strands)
-    strand-taken (Some s) m g = one-made (Some s) s refl m g
 
   pub strands-done : length items ≤ k → (next : ℕ) (strands : List SkeletonStrand) (now : List Declaration) → AreLeft all (strands_from roles ds next (map view (drop k items))) strands before now → AreMade all strands before now
   strands-done le next strands now h =

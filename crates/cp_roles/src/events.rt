@@ -3,7 +3,7 @@ ghost use Rattle.std.specs.Prelude.{◌≡◌, map, IfOk};
 ghost use Rattle.cp_sexpr.specs.View.{view};
 ghost use Rattle.cp_language.specs.Words.{event_head};
 ghost use Rattle.cp_language.specs.Terms.{term_faults, term_of};
-ghost use Rattle.cp_language.specs.Roles.{headed, message_faults, event_head_faults, event_faults, events_faults, trace_faults, where_faultless, message_of, event_of, events_in, events_stated, items_behind};
+ghost use Rattle.cp_language.specs.Roles.{headed, message_faults, event_faults, events_faults, trace_faults, where_faultless, message_of, event_of, events_stated, items_behind};
 ghost use Rattle.cp_scope.specs.FirstFault.{first_onto};
 
 use cp_base::{Code, Place};
@@ -101,12 +101,12 @@ fn event_of(alloc: Global, variables: &[Declaration], form: &Form) -> Result<Eve
     ensures { IfOk result (λ e. e ≡ event_of variables.now (headed (view form.now))) }
 {
     let Some(list) = headed(form) else {
-        return Ok(Event::Send(no_term(alloc)?));
+        return no_term(alloc).map(Event::Send);
     };
-    let message = message_of(alloc, variables, list.items)?;
+    let message = message_of(alloc, variables, list.items);
     match event_head(list.head) {
-        EventHead::Send => Ok(Event::Send(message)),
-        _ => Ok(Event::Receive(message)),
+        EventHead::Send => message.map(Event::Send),
+        _ => message.map(Event::Receive),
     }
 }
 
@@ -118,11 +118,8 @@ pub(crate) fn events_of(
 ) -> Result<Vec<Event>, AllocError>
     ensures { IfOk result (λ v. v.items ≡ events_stated variables.now (view form.now)) }
 {
-    let items = items_behind(form);
-    let mut events = Vec::new(alloc);
-    for item in items {
-        let event = event_of(alloc, variables, item)?;
-        events.push(event)?;
-    }
-    Ok(events)
+    items_behind(form)
+        .iter()
+        .map(|item| event_of(alloc, variables, item))
+        .try_collect(alloc)
 }

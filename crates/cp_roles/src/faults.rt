@@ -22,16 +22,12 @@ use std::rc::Rc;
 fn role_name_faults(roles: &[Rc<Role>], form: &Form, first: &mut FirstFault)
     ensures { first.new ≡ first_onto first.old (role_name_faults (shared_roles_view roles.now) (view form.now)) }
 {
-    match form {
-        Form::Symbol(place, name) => {
-            first.note_unless(
-                role_named(roles, name.as_bytes()).is_some(),
-                *place,
-                Code::UnknownRole,
-            );
-        }
-        _ => first.note(place_of(form), Code::BadShape),
-    }
+    let Form::Symbol(place, name) = form else {
+        first.note(place_of(form), Code::BadShape);
+        return;
+    };
+    let role = role_named(roles, name.as_bytes());
+    first.note_unless(role.is_some(), *place, Code::UnknownRole);
 }
 
 /// Whether the role has a prefix of this height.

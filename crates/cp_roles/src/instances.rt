@@ -49,6 +49,7 @@ fn right_term(alloc: Global, variables: &[Declaration], maplet: &Form) -> Result
 }
 
 /// The term that the maplets give to an identifier.
+#[tactic(auto, using(crate::proofs::MapletTerms::mapped_some, crate::proofs::MapletTerms::mapped_none))]
 fn term_mapped(
     alloc: Global,
     variables: &[Declaration],
@@ -58,7 +59,7 @@ fn term_mapped(
     ensures { IfOk result (λ o. o ≡ term_mapped variables.now identifier.now (map view maplets.now)) }
 {
     match maplet_named(maplets, identifier) {
-        Some(maplet) => Ok(Some(right_term(alloc, variables, maplet)?)),
+        Some(maplet) => right_term(alloc, variables, maplet).map(Some),
         None => Ok(None),
     }
 }
@@ -87,16 +88,13 @@ fn is_fresh(prefix: &[Event], mapped: &Option<Term>, variable: Variable) -> bool
     mapped.is_none() && occurs(prefix, variable)
 }
 
-/// Appends a copy of a declaration.
-fn add_copy(declaration: &Declaration, all: &mut Vec<Declaration>) -> Result<(), AllocError>
-    ensures { OnOk result (all.new.items ≡ all.old.items ++ declaration.now ∷ []) }
+/// A copy of a declaration.
+fn copy_of(declaration: &Declaration) -> Result<Declaration, AllocError>
+    ensures { IfOk result (λ d. d ≡ declaration.now) }
 {
-    let identifier = declaration.identifier.copy()?;
-    all.push(Declaration {
-        identifier,
-        sort: declaration.sort,
-    })?;
-    Ok(())
+    let sort = declaration.sort;
+    let identifier = declaration.identifier.copy();
+    identifier.map(|identifier| Declaration { identifier, sort })
 }
 
 /// Copies of declarations.
@@ -106,26 +104,7 @@ pub fn copies_of(
 ) -> Result<Vec<Declaration>, AllocError>
     ensures { IfOk result (λ v. v.items ≡ declarations.now) }
 {
-    let mut copies = Vec::new(alloc);
-    for declaration in declarations {
-        add_copy(declaration, &mut copies)?;
-    }
-    Ok(copies)
-}
-
-/// Appends a copy of a declaration, if the test holds.
-fn add_if(
-    holds: bool,
-    declaration: &Declaration,
-    all: &mut Vec<Declaration>,
-) -> Result<(), AllocError>
-    ensures { OnOk result (all.new.items
-        ≡ all.old.items ++ (if holds then declaration.now ∷ [] else [])) }
-{
-    if holds {
-        add_copy(declaration, all)?;
-    }
-    Ok(())
+    declarations.iter().map(copy_of).try_collect(alloc)
 }
 
 /// The term of this variable of a role, with this number. A variable that is made for it is appended to `all`.
@@ -153,9 +132,11 @@ fn variable_value(
         maplets,
     )?;
     let fresh = is_fresh(prefix, &mapped, Variable { sort, number });
-    let term = term_or_fresh(alloc, mapped, fresh, sort, all.len())?;
-    add_if(fresh, declaration, all)?;
-    Ok(term)
+    let next = all.len();
+    if fresh {
+        all.push(copy_of(declaration)?)?;
+    }
+    term_or_fresh(alloc, mapped, fresh, sort, next)
 }
 
 /// The terms of the variables of a role with this prefix. Variables that are made for it are appended to `all`.

@@ -1,6 +1,5 @@
 // The strands of problems.
-ghost use Rattle.std.specs.Prelude.{◌≡◌, ◌++◌, [], length, map, IfOk, OnOk};
-ghost use Rattle.std.specs.Option.{option_to_list};
+ghost use Rattle.std.specs.Prelude.{◌≡◌, [], length, map, IfOk};
 ghost use Rattle.cp_model.specs.Skeleton.{listener};
 ghost use Rattle.cp_model.specs.Term.{tag_term};
 ghost use Rattle.cp_sexpr.specs.View.{view};
@@ -96,20 +95,10 @@ fn strand(
         return Ok(None);
     };
     match item_head(list.head) {
-        ItemHead::Strand => Ok(Some(instance(alloc, roles, declared, list.items, all)?)),
-        ItemHead::Listener => Ok(Some(listener(alloc, declared, list.items)?)),
+        ItemHead::Strand => instance(alloc, roles, declared, list.items, all).map(Some),
+        ItemHead::Listener => listener(alloc, declared, list.items).map(Some),
         _ => Ok(None),
     }
-}
-
-/// Appends a strand, if there is one.
-fn add_strand(strand: Option<Strand>, strands: &mut Vec<Strand>) -> Result<(), AllocError>
-    ensures { OnOk result (strands.new.items ≡ strands.old.items ++ option_to_list strand) }
-{
-    if let Some(strand) = strand {
-        strands.push(strand)?;
-    }
-    Ok(())
 }
 
 /// The strands that these items make. Variables that are made for them are appended to `all`.
@@ -125,8 +114,10 @@ pub fn strands(
 {
     let mut strands = Vec::new(alloc);
     for item in items {
-        let strand = strand(alloc, roles, declared, item, all)?;
-        add_strand(strand, &mut strands)?;
+        let Some(strand) = strand(alloc, roles, declared, item, all)? else {
+            continue;
+        };
+        strands.push(strand)?;
     }
     Ok(strands)
 }

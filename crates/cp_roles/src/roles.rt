@@ -1,10 +1,10 @@
 // Roles.
 ghost use Rattle.std.specs.Prelude.{◌≡◌, [], map, option_map, IfOk, OnOk};
 ghost use Rattle.cp_sexpr.specs.View.{view};
-ghost use Rattle.cp_base.specs.declared.place.Code.TheVariants.{DuplicateRole, DuplicateProtocol};
+ghost use Rattle.cp_base.specs.declared.place.Code.TheVariants.{DuplicateRole};
 ghost use Rattle.cp_language.specs.Words.{is_one_of};
 ghost use Rattle.cp_language.specs.Faults.{fault};
-ghost use Rattle.cp_language.specs.Roles.{each_faults, item_faults, role_item_faults, name_faults_at, role_faults, role_of, protocol_item_faults, roles_faults, roles_in, algebra_faults, protocol_faults, protocol_of, role_name_onto, headed};
+ghost use Rattle.cp_language.specs.Roles.{each_faults, item_faults, role_item_faults, name_faults_at, role_faults, role_of, protocol_item_faults, roles_faults, roles_in, headed};
 ghost use Rattle.cp_language.specs.Problems.{role_named};
 ghost use Rattle.cp_scope.specs.FirstFault.{first_onto};
 ghost use Rattle.cp_roles.specs.Named.{role_names, shared_roles_view, with_role};
@@ -133,12 +133,11 @@ fn role_of(
         trace: &trace,
     };
     role_items_faults(scope, items, first)?;
-    let name = name_of(alloc, name)?;
     let non_originating = atoms_of(alloc, &variables, Kind::Non, items)?;
     let penetrator_non_originating = atoms_of(alloc, &variables, Kind::PenetratorNon, items)?;
     let uniquely_originating = atoms_of(alloc, &variables, Kind::Unique, items)?;
     Ok(Role::new(
-        name,
+        name_of(alloc, name)?,
         variables,
         trace,
         non_originating,

@@ -27,29 +27,8 @@ fn origin(events: &[Event], value: &Term) -> Option<usize>
     cp_strand::origin(events, value)
 }
 
-/// Notes the faults of a unique value of a role with this trace. If it has no other fault, it must originate in the
+/// Notes the faults of the unique values of a role with this trace. A value that has no other fault must originate in the
 /// trace.
-fn role_unique_faults(
-    scope: Scope<'_>,
-    form: &Form,
-    first: &mut FirstFault,
-) -> Result<(), AllocError>
-    ensures { OnOk result (first.new ≡ first_onto first.old
-        (role_unique_faults scope.entry.variables.now scope.entry.trace.now (view form.now))) }
-{
-    let value = term_of(scope.alloc, scope.variables, form)?;
-    let mut inside = FirstFault::new();
-    atom_faults(scope.variables, form, &mut inside);
-    inside.note_unless_faulty(
-        origin(scope.trace, &value).is_some(),
-        place_of(form),
-        Code::RoleUniqNoOrigin,
-    );
-    first.merge(inside);
-    Ok(())
-}
-
-/// Notes the faults of the unique values of a role with this trace.
 pub(crate) fn role_uniques_faults(
     scope: Scope<'_>,
     items: &[Form],
@@ -59,7 +38,15 @@ pub(crate) fn role_uniques_faults(
         (each_faults (role_unique_faults scope.entry.variables.now scope.entry.trace.now) (map view items.now))) }
 {
     for item in items {
-        role_unique_faults(scope, item, first)?;
+        let value = term_of(scope.alloc, scope.variables, item)?;
+        let mut inside = FirstFault::new();
+        atom_faults(scope.variables, item, &mut inside);
+        inside.note_unless_faulty(
+            origin(scope.trace, &value).is_some(),
+            place_of(item),
+            Code::RoleUniqNoOrigin,
+        );
+        first.merge(inside);
     }
     Ok(())
 }

@@ -22,38 +22,11 @@ impl Model for FirstFault {
     ghost view = { λ f. f.found };
 }
 
-/// The rank of a kind of fault among the kinds at one place.
+/// The rank of a kind of fault among the kinds at one place: kinds are declared in this order.
 fn rank(code: Code) -> u32
     ensures { result ≡ rank_of code }
 {
-    match code {
-        Code::BadByte => 0,
-        Code::OpenString => 1,
-        Code::Unbalanced => 2,
-        Code::TooDeep => 3,
-        Code::BadNumber => 4,
-        Code::Unclosed => 5,
-        Code::UnknownForm => 6,
-        Code::OutOfProfile => 7,
-        Code::BadShape => 8,
-        Code::DuplicateProtocol => 9,
-        Code::DuplicateRole => 10,
-        Code::UnknownProtocol => 11,
-        Code::UnknownRole => 12,
-        Code::UnknownSort => 13,
-        Code::MesgVar => 14,
-        Code::DuplicateVar => 15,
-        Code::BadHeight => 16,
-        Code::UnknownVar => 17,
-        Code::NotInPrefix => 18,
-        Code::IllSorted => 19,
-        Code::KeySort => 20,
-        Code::NotAtom => 21,
-        Code::RoleUniqNoOrigin => 22,
-        Code::UniqNowhere => 23,
-        Code::BadNode => 24,
-        Code::CyclicOrder => 25,
-    }
+    code as u32
 }
 
 /// Whether the first fault comes before the second: by line, then by column, then by kind.

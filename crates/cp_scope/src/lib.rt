@@ -26,7 +26,7 @@ pub use forms::{
     list_items, place_of, symbol, symbol_or_empty,
 };
 pub use name_set::NameSet;
-pub use sorts::variable_named;
+pub use sorts::{is_same_sort, variable_named};
 pub use terms::{applied, no_term, term_of, variable_term};
 pub use words::{
     event_head, is_out_of_profile, is_word, item_head, sort_word, term_head, top_head,

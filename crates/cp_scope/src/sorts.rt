@@ -1,5 +1,5 @@
 // Variables by their identifiers, and the sorts of terms.
-ghost use Rattle.std.specs.Prelude.{◌≡◌, ◌||◌, option_map, None};
+ghost use Rattle.std.specs.Prelude.{◌≡◌, ◌||◌, None};
 ghost use Rattle.cp_model.specs.declared.sort.Sort.TheVariants.{Skey as skey_sort, Akey as akey_sort};
 ghost use Rattle.cp_sexpr.specs.View.{view};
 ghost use Rattle.cp_model.specs.Same.{same_sort};
@@ -29,7 +29,7 @@ pub fn variable_named(variables: &[Declaration], identifier: &[u8]) -> Option<Va
 }
 
 /// Whether the sorts are the same.
-pub(crate) fn is_same_sort(first: Sort, second: Sort) -> bool
+pub fn is_same_sort(first: Sort, second: Sort) -> bool
     ensures { result ≡ same_sort first second }
 {
     first == second

@@ -8,11 +8,12 @@ use Rattle.cp_model.specs.Homomorphism.{Embeds}
 use Rattle.cp_model.specs.Tree.{Label, is_expanded}
 use Rattle.cp_model.specs.declared.tree.Mark.{Mark}
 use Rattle.cp_model.specs.declared.tree.Limits.{Limits}
-use Rattle.cp_shapes.specs.Shapes.{IsLeast, EmbedsAt}
+use Rattle.cp_shapes.specs.Shapes.{EmbedsAt}
 use Rattle.cp_expansion.proofs.Tables.{embeds_tabled}
-use Rattle.cp_tree.specs.Made.{Made, LabelLink, IsEdge, to_child, to_seen, Reaches, MayPointTo, IsNew}
-use Rattle.cp_tree.specs.Searched.{Becomes, is_dead, is_seen, is_realised, is_generalised, above_bound, at_limit, is_tested, AreResolved, all_settled, then_settled}
+use Rattle.cp_tree.specs.Made.{Made, LabelLink, IsEdge, to_child, to_seen, Reaches, MayPointTo}
+use Rattle.cp_tree.specs.Searched.{AreResolved, all_settled, then_settled}
 use Rattle.cp_search.specs.MadeLabels.{untabled}
+use Rattle.cp_search.proofs.Links.{finds_alike, resolves_alike}
 
 -- ---- one link for another
 
@@ -89,24 +90,10 @@ module _ (links others : List LabelLink) (alike : map untabled links ≡ map unt
   }
 
 module _ (links others : List LabelLink) (alike : map untabled links ≡ map untabled others) where
-  least_there : (i n : ℕ) → IsLeast (MayPointTo links i) n → IsLeast (MayPointTo others i) n
-  least_there i n h = record { holds = points_there links others alike i n h.holds; least = λ m l p. h.least m l (points_there others links (sym alike) i m p) }
-
-  new_there : (i : ℕ) → IsNew links i → IsNew others i
-  new_there i none n p = none n (points_there others links (sym alike) i n p)
-
+  -- What becomes of labels is the same where their links are, but for the tables.
   module _ (protocol : Protocol) (limits : Limits) (marks : ℕ → Option Mark → Type 0) where
-    becomes_there : (i before : ℕ) (m : Made) (l : Label) (gives : List Made) → Becomes protocol limits links marks i before m l gives → Becomes protocol limits others marks i before m l gives
-    becomes_there i before m l gives (is_dead d) = is_dead d
-    becomes_there i before m l gives (is_seen {n = n} d u s) = is_seen d u (least_there i n s)
-    becomes_there i before m l gives (is_realised d n a g s) = is_realised d (new_there i n) a g s
-    becomes_there i before m l gives (is_generalised d n a g) = is_generalised d (new_there i n) a g
-    becomes_there i before m l gives (above_bound d n u r b) = above_bound d (new_there i n) u r b
-    becomes_there i before m l gives (at_limit d n u r b e) = at_limit d (new_there i n) u r b e
-    becomes_there i before m l gives (is_tested d n u r b c x s) = is_tested d (new_there i n) u r b c x s
-
-    -- What becomes of labels is the same where their links are, but for the tables.
     pub resolved_there : (i before : ℕ) (made : List Made) (labels : List Label) (given : List Made) → AreResolved protocol limits links marks i before made labels given → AreResolved protocol limits others marks i before made labels given
     resolved_there i before made labels given all_settled = all_settled
     resolved_there i before made labels given (then_settled {m = m} {l = l} {made = ms} {labels = ls} {from_this = fs} {from_others = gs} b s) =
-        then_settled (becomes_there i before m l fs b) (resolved_there (suc i) (before + is_expanded l.test) ms ls gs s)
+        let alike_here = finds_alike (MayPointTo links i) (MayPointTo others i) (points_there links others alike i) (points_there others links (sym alike) i) in
+        then_settled (resolves_alike protocol limits marks links others i before m l fs alike_here b) (resolved_there (suc i) (before + is_expanded l.test) ms ls gs s)

@@ -10,7 +10,8 @@ use Rattle.cp_fingerprint.specs.Signatures.{SignatureData, signature_of, MayEmbe
 use Rattle.cp_fingerprint.proofs.SignatureData.{embedded_may_embed}
 use Rattle.cp_model.proofs.CarriedParts.{not_both}
 use Rattle.cp_search.specs.declared.made.Made.{Made}
-use Rattle.cp_search.specs.LeastNumber.{FindsLeast, IsFlagged}
+use Rattle.cp_shapes.specs.Shapes.{FindsLeast}
+use Rattle.cp_search.specs.Flags.{IsFlagged}
 use Rattle.cp_search.specs.LabelsByNumber.{with_key}
 use Rattle.cp_search.proofs.LabelsByNumber.{there_listed, listed_there, AreAscending, are_ascending, ascending_from}
 use Rattle.cp_search.specs.MadeLabels.{made_link, AreFound, AreReaching, MayBeSeenIn, MayBeSeen}

@@ -1,5 +1,7 @@
 -- Labels that are made behind others.
 use Rattle.std.proofs.Common.{◌≡◌, ◌⊎◌, inl, inr, ◌∙◌, ℕ, ◌<◌, List, [], ◌∷◌, ◌++◌, length, map, take, true, false, Option, Some, None, IfSome, sym, ap, subst, arith}
+use Rattle.std.specs.Prelude.{Result, Ok, Err, OnOk}
+use Rattle.std.specs.Result.{is_err}
 use Rattle.std.proofs.lemmas.List.{map-append, length-map}
 use Rattle.std.proofs.Math.Seq.{take-append_seam}
 use Rattle.cp_lists.specs.Lists.{item_at}
@@ -11,10 +13,9 @@ use Rattle.cp_fingerprint.specs.Signatures.{signature_of}
 use Rattle.cp_shapes.specs.Shapes.{EmbedsAt}
 use Rattle.cp_general.specs.Generalisation.{IsMaximallyGeneral}
 use Rattle.cp_tree.specs.Made.{LabelLink, Reaches, MayPointTo}
-use Rattle.cp_tree.specs.Made as plain
 use Rattle.cp_search.specs.declared.made.Made.{Made}
-use Rattle.cp_search.specs.LeastNumber.{FindsLeast}
-use Rattle.cp_search.specs.MadeLabels.{made_link, made_view, IsFound, AreFound, MayBeSeen, AddsMade}
+use Rattle.cp_shapes.specs.Shapes.{FindsLeast}
+use Rattle.cp_search.specs.MadeLabels.{made_link, IsFound, AreFound, MayBeSeen}
 use Rattle.cp_search.proofs.Links.{finds_alike, skeleton_of, still_found}
 
 module _ (ms : List Made) (x : Made) where
@@ -99,7 +100,7 @@ module _ (ms : List Made) (x : Made) where
           dead_none = one.dead_none;
           dead_unseen = one.dead_unseen;
           listed = one.listed;
-          seen = λ lives. subst (λ (vs : List LabelLink). FindsLeast (MayPointTo vs i) m.seen_in) (sym links_after) (still_found links (made_link x) i within m.seen_in (one.seen lives));
+          seen = λ lives. subst (λ (vs : List LabelLink). FindsLeast (MayPointTo vs i) m.seen_in) (sym links_after) (still_found links (made_link x ∷ []) i within m.seen_in (one.seen lives));
           general = one.general;
         }
 
@@ -127,29 +128,33 @@ module _ (ms : List Made) (x : Made) where
         later = λ i p m at e. each_later i p m (item_of_push ms x i m at) e;
       }
 
-module _ (old : List Made) (x : Made) (new : List Made) (behind : new ≡ old ++ x ∷ []) (found : AreFound old) (m : plain.Made) (same : made_view x ≡ m) (signature : x.signature ≡ signature_of x.skeleton) where
-  adds_one : IsFound (map made_link (old ++ x ∷ [])) (length old) x → IfSome x.parent (λ p. p < length old) → AddsMade m old new
-  adds_one own later = record { added = x; behind = behind; same = same; found = subst AreFound (sym behind) (all_found old x found own later) }
+-- What holds where a call succeeds, of one that does.
+pub on_ok : {A E : Type 0} (r : Result A E) (P : Type 0) → is_err r ≡ false → OnOk r P → P
+on_ok (Ok a) P e p = p
+on_ok (Err a) P e p = absurd (cc)
 
-  -- A label that may live is made.
-  pub makes_one : IfSome x.parent (λ p. p < length old) → x.dead ≡ false → FindsLeast (MayBeSeen old x.parent x.skeleton) x.seen_in →
-      ListsUnrealised x.skeleton x.unrealised → (x.general ≡ true → IsMaximallyGeneral x.skeleton) → AddsMade m old new
-  makes_one later lives least listed general = adds_one (record {
+-- ---- what is found of one label more
+
+module _ (old : List Made) (x : Made) (signature : x.signature ≡ signature_of x.skeleton) where
+  -- Of one that may live.
+  pub found_of_living : x.dead ≡ false → FindsLeast (MayBeSeen old x.parent x.skeleton) x.seen_in → ListsUnrealised x.skeleton x.unrealised → (x.general ≡ true → IsMaximallyGeneral x.skeleton)
+      → IsFound (map made_link (old ++ x ∷ [])) (length old) x
+  found_of_living lives least listed general = record {
     signature = signature;
     dead_none = λ dead. absurd (cc);
     dead_unseen = λ dead. absurd (cc);
     listed = λ _. listed;
     seen = λ _. points_to_first old x x.seen_in least;
     general = general;
-  }) later
+  }
 
-  -- One that is dead from the start is made.
-  pub makes_dead : x.parent ≡ None → x.dead ≡ true → x.seen_in ≡ None → x.unrealised ≡ [] → x.general ≡ false → AddsMade m old new
-  makes_dead root dead unseen none unknown = adds_one (record {
+  -- Of one that is dead from the start.
+  pub found_of_dead : x.dead ≡ true → x.seen_in ≡ None → x.unrealised ≡ [] → x.general ≡ false → IsFound (map made_link (old ++ x ∷ [])) (length old) x
+  found_of_dead dead unseen none unknown = record {
     signature = signature;
     dead_none = λ _. none;
     dead_unseen = λ _. unseen;
     listed = λ lives. absurd (cc);
     seen = λ lives. absurd (cc);
     general = λ known. absurd (cc);
-  }) (subst (λ (o : Option ℕ). IfSome o (λ p. p < length old)) (sym root) tt)
+  }

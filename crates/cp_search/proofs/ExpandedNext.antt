@@ -1,5 +1,6 @@
 -- The next label is resolved by its expansion.
-use Rattle.std.proofs.Common.{◌≡◌, ◌≢◌, ℕ, ◌+◌, ◌<◌, ◌≤◌, List, [], ◌∷◌, ◌++◌, length, map, false, Option, Some, None, sym, ap, subst, ◌∙◌, refl, arith}
+use Rattle.std.proofs.Common.{◌≡◌, ◌≢◌, ℕ, ◌+◌, List, [], ◌∷◌, ◌++◌, length, map, false, Some, sym, ap, subst, ◌∙◌, refl}
+use Rattle.std.specs.Prelude.{nat_lt}
 use Rattle.cp_lists.specs.Lists.{item_at, IsIn}
 use Rattle.cp_lists.proofs.Members.{into_map, from_map}
 use Rattle.cp_model.specs.Strand.{Protocol}
@@ -14,54 +15,35 @@ use Rattle.cp_skel.specs.Tables.{DiffersInTable}
 use Rattle.cp_cohort.specs.declared.child.Child.{Child}
 use Rattle.cp_expansion.specs.Expansion.{Expansion, IsExpansionOf}
 use Rattle.cp_tree.specs.Made as plain
-use Rattle.cp_tree.specs.Made.{LabelLink, seen_in_of, MayPointTo, IsNew}
 use Rattle.cp_tree.specs.Sound.{IsSoundMade, ExpandsSoundly}
-use Rattle.cp_tree.specs.Searched.{mark_by_children, Becomes, is_tested}
+use Rattle.cp_tree.specs.declared.rules.Rule.{Rule}
+use Rattle.cp_tree.specs.declared.rules.Rule.TheVariants.{Tested as tested}
+use Rattle.cp_tree.specs.Rules.{rule_of}
+use Rattle.cp_tree.specs.Resolves.{IsTested, ResolvesBy}
 use Rattle.cp_search.specs.declared.made.Made.{Made}
 use Rattle.cp_search.specs.declared.resolved.Resolved.{Resolved}
 use Rattle.cp_search.specs.declared.resolved.Resolved.TheVariants as settled
 use Rattle.cp_search.specs.declared.resolved.Expanded.{Expanded}
-use Rattle.cp_search.specs.LeastNumber.{FindsLeast}
-use Rattle.cp_search.specs.MadeLabels.{made_view, made_link, untabled, made_untabled, IsFound, AreFound, AddMade}
-use Rattle.cp_search.specs.ResolvedLabels.{expanded_label, label_untabled, IsToExpand, IsOpenMark, AreSoundMade, ExpandsLabel, IsSearched}
+use Rattle.cp_search.specs.MadeLabels.{made_view, AreFound, AddMade}
+use Rattle.cp_search.specs.ResolvedLabels.{facts_of, expanded_label, IsOpenMark, AreSoundMade, ExpandsLabel, IsSearched}
 use Rattle.cp_search.proofs.OneMoreResolved.{numbers_of_map}
 use Rattle.cp_search.proofs.ResolvedNext.{resolved_next}
-use Rattle.cp_search.proofs.ResolvedLeaves.{some_unrealised}
+use Rattle.cp_search.proofs.RuleKept.{of_tested}
 use Rattle.cp_search.proofs.SoundBehind.{sound_behind}
-
-marked_unseen : (children : List ℕ) → seen_in_of (mark_by_children children) ≡ None
-marked_unseen [] = refl
-marked_unseen (n ∷ ns) = refl
 
 same_expanded : (e f : Expanded) → settled.Expanded e ≡ settled.Expanded f → e ≡ f
 same_expanded e f q = cc
 
-module _ (protocol : Protocol) (limits : Limits) (i n : ℕ) (old new : List Made) (e : Expanded) (x : ExpandsLabel protocol i old new e) (found : AreFound old) (expands : IsToExpand limits x.label n) where
-  abbrev m : Made
-  m = x.label
-
-  abbrev links : List LabelLink
-  links = map made_link old
-
-  found_here : IsFound links i m
-  found_here = found.each i m x.at
-
-  is_new : IsNew links i
-  is_new = subst (FindsLeast (MayPointTo links i)) expands.new (found_here.seen expands.lives)
-
-  few_strands : length m.skeleton.strands ≤ limits.strands
-  few_strands = let l : length m.skeleton.strands ≤ limits.strands = expands.strands in omega (arith, l)
-
-  as_many : length e.children ≡ length x.children
-  as_many = ap length x.numbers ∙ numbers_length (length old) x.children
-
-  becomes : Becomes protocol limits links IsOpenMark i n (made_view m) (expanded_label m e) (map made_view x.made.added)
-  becomes = subst (Becomes protocol limits links IsOpenMark i n (made_view m) (expanded_label m e)) (sym x.made.same)
-      (is_tested {e = record { test = e.test; skeleton = e.skeleton; patterns = e.patterns; children = x.children }} expands.lives is_new (found_here.listed expands.lives)
-      (some_unrealised m.skeleton m.unrealised expands.unrealised (found_here.listed expands.lives)) few_strands expands.steps x.expansion as_many)
-
-  way : label_untabled (expanded_label m e) ≡ made_untabled m
-  way = ap (λ (o : Option ℕ). untabled (record { parent = m.parent; seen_in = o; skeleton = m.skeleton })) (marked_unseen e.children ∙ sym expands.new)
+module _ (protocol : Protocol) (i : ℕ) (old new : List Made) (e : Expanded) (x : ExpandsLabel protocol i old new e) where
+  is_tested : IsTested protocol i (made_view x.label) x.label.unrealised (expanded_label x.label e) (map made_view x.made.added)
+  is_tested = record {
+    expansion = record { test = e.test; skeleton = e.skeleton; patterns = e.patterns; children = x.children };
+    is_expansion = x.expansion;
+    children = e.children;
+    count = ap length x.numbers ∙ numbers_length (length old) x.children;
+    label = refl;
+    made = x.made.same;
+  }
 
   own_numbers : e.children ≡ numbers_from (length old) x.made.added
   own_numbers =
@@ -69,31 +51,31 @@ module _ (protocol : Protocol) (limits : Limits) (i n : ℕ) (old new : List Mad
       x.numbers ∙ (sym (numbers_of_map f (length old) x.children) ∙ (ap (numbers_from (length old)) (sym x.made.same) ∙ numbers_of_map made_view (length old) x.made.added))
 
 -- A search in which one label more is expanded.
-pub expanded_next : (protocol : Protocol) (limits : Limits) (roots : List plain.Made) (old new : List Made) (ss : List Resolved) (n : ℕ) (e : Expanded) (label : Made) → IsSearched protocol limits roots old ss n → item_at old (length ss) ≡ Some label → IsToExpand limits label n
-    → (x : ExpandsLabel protocol (length ss) old new e) → IsSearched protocol limits roots new (ss ++ settled.Expanded e ∷ []) (n + 1)
-expanded_next protocol limits roots old new ss n e label r at to x =
+pub expanded_next : (protocol : Protocol) (limits : Limits) (roots : List plain.Made) (old new : List Made) (ss : List Resolved) (n : ℕ) (e : Expanded) (label : Made) → IsSearched protocol limits roots old ss n → item_at old (length ss) ≡ Some label
+    → rule_of limits n (facts_of label) ≡ tested → (x : ExpandsLabel protocol (length ss) old new e) → IsSearched protocol limits roots new (ss ++ settled.Expanded e ∷ []) (n + 1)
+expanded_next protocol limits roots old new ss n e label r at is x =
     let one : Some label ≡ Some x.label = sym at ∙ x.at in
     let same : label ≡ x.label = cc in
-    let expands = subst (λ (m : Made). IsToExpand limits m n) same to in
-    let fewer : n < limits.steps = to.steps in
+    let here : rule_of limits n (facts_of x.label) ≡ tested = subst (λ (m : Made). rule_of limits n (facts_of m) ≡ tested) same is in
     let behind = x.made.behind in
     let next = resolved_next protocol limits roots old ss n r x.label x.at x.made.added (settled.Expanded e) (subst AreFound behind x.made.found) (subst (AreSoundMade protocol) behind x.sound)
     (λ f q. let is : e ≡ f = same_expanded e f q in subst (λ (y : Expanded). DiffersInTable x.label.skeleton y.skeleton) is x.table)
-    (way protocol limits (length ss) n old new e x r.found expands) (becomes protocol limits (length ss) n old new e x r.found expands) (own_numbers protocol limits (length ss) n old new e x r.found expands) (omega (arith, fewer)) in
+    (subst (λ (rule : Rule). ResolvesBy protocol IsOpenMark (length ss) (made_view x.label) x.label.unrealised rule (expanded_label x.label e) (map made_view x.made.added)) (sym here) (is_tested protocol (length ss) old new e x))
+    (own_numbers protocol (length ss) old new e x) in
     subst (λ (ms : List Made). IsSearched protocol limits roots ms (ss ++ settled.Expanded e ∷ []) (n + 1)) (sym behind) next
 
-pub expanded_pushed : (protocol : Protocol) (limits : Limits) (roots : List plain.Made) (old new : List Made) (ss : List Resolved) (i n : ℕ) (e : Expanded) (label : Made) → IsSearched protocol limits roots old ss n → item_at old (length ss) ≡ Some label → IsToExpand limits label n
-    → i ≡ length ss → ExpandsLabel protocol i old new e → (then : List Resolved) → then ≡ ss ++ settled.Expanded e ∷ [] → (count : ℕ) → count ≡ n + 1 → IsSearched protocol limits roots new then count
-expanded_pushed protocol limits roots old new ss i n e label r at to same x then pushed count counted =
-    let next = expanded_next protocol limits roots old new ss n e label r at to (subst (λ (k : ℕ). ExpandsLabel protocol k old new e) same x) in
+pub expanded_pushed : (protocol : Protocol) (limits : Limits) (roots : List plain.Made) (old new : List Made) (ss : List Resolved) (i n : ℕ) (e : Expanded) (label : Made) → IsSearched protocol limits roots old ss n → item_at old (length ss) ≡ Some label
+    → rule_of limits n (facts_of label) ≡ tested → i ≡ length ss → ExpandsLabel protocol i old new e → (then : List Resolved) → then ≡ ss ++ settled.Expanded e ∷ [] → (count : ℕ) → count ≡ n + 1 → IsSearched protocol limits roots new then count
+expanded_pushed protocol limits roots old new ss i n e label r at is same x then pushed count counted =
+    let next = expanded_next protocol limits roots old new ss n e label r at is (subst (λ (k : ℕ). ExpandsLabel protocol k old new e) same x) in
     subst (λ (k : ℕ). IsSearched protocol limits roots new then k) (sym counted) (subst (λ (xs : List Resolved). IsSearched protocol limits roots new xs (n + 1)) (sym pushed) next)
 
--- What is there when a label is expanded.
-pub found_to_expand : (limits : Limits) (i n : ℕ) (ms : List Made) → AreFound ms → (label m : Made) → item_at ms i ≡ Some label → IsToExpand limits label n → item_at ms i ≡ Some m → (m.dead ≡ false) × (m.unrealised ≢ [])
-found_to_expand limits i n ms found label m at to au =
-    let one : Some label ≡ Some m = sym at ∙ au in
+-- A label that is to be expanded lives, and has unrealised receptions.
+pub found_to_expand : (limits : Limits) (i j n : ℕ) (ms : List Made) → (label m : Made) → item_at ms j ≡ Some label → i ≡ j → rule_of limits n (facts_of label) ≡ tested → item_at ms i ≡ Some m → (m.dead ≡ false) × (m.unrealised ≢ [])
+found_to_expand limits i j n ms label m at same is au =
+    let one : Some label ≡ Some m = sym at ∙ (ap (item_at ms) (sym same) ∙ au) in
     let same : label ≡ m = cc in
-    subst (λ (x : Made). (x.dead ≡ false) × (x.unrealised ≢ [])) same (to.lives, to.unrealised)
+    subst (λ (x : Made). (x.dead ≡ false) × (x.unrealised ≢ [])) same (of_tested label.dead label.seen_in label.unrealised (nat_lt limits.strands (length label.skeleton.strands)) (nat_lt n limits.steps) is)
 
 -- What is made of the children of an expansion is sound where all labels before are.
 pub children_sound : (protocol : Protocol) (i : ℕ) (old new : List Made) (label : Made) (e : Expansion) → AddMade (map (plain.made_of_child i) e.children) old new → AreSoundMade protocol old → item_at old i ≡ Some label → label.dead ≡ false → IsUnrealised label.skeleton

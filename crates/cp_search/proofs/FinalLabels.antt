@@ -2,6 +2,7 @@
 use Rattle.std.proofs.Common.{◌≡◌, ◌≢◌, ◌⊎◌, inl, inr, ℕ, suc, ◌+◌, List, [], ◌∷◌, ◌++◌, length, map, Option, Some, None, sym, ap, subst, ◌∙◌, refl, arith}
 use Rattle.cp_lists.specs.Lists.{item_at}
 use Rattle.cp_model.specs.Strand.{Protocol}
+use Rattle.cp_model.specs.declared.node.Node.{Node}
 use Rattle.cp_model.specs.Skeleton.{Skeleton}
 use Rattle.cp_model.specs.Realisation.{AllDerivable}
 use Rattle.cp_model.specs.Tree.{Test, Label, is_expanded}
@@ -10,7 +11,13 @@ use Rattle.cp_model.specs.declared.tree.Mark.TheVariants.{Dead as dead, Seen as 
 use Rattle.cp_model.specs.declared.tree.Limits.{Limits}
 use Rattle.cp_tree.specs.Candidates.{Candidate, IsCandidate, CandidatesFrom}
 use Rattle.cp_tree.specs.Made.{Made, LabelLink, link_of, seen_in_of}
-use Rattle.cp_tree.specs.Searched.{Becomes, is_dead, is_seen, is_realised, is_generalised, above_bound, at_limit, is_tested, AreResolved, all_settled, then_settled, children_of}
+use Rattle.cp_tree.specs.declared.rules.Rule.{Rule}
+use Rattle.cp_tree.specs.declared.rules.Rule.TheVariants.{Leaf as leaf_with, Realised as realised, Tested as tested}
+use Rattle.cp_tree.specs.Rules.{rule_of}
+use Rattle.cp_tree.specs.Resolves.{ResolvesBy, Resolves}
+use Rattle.cp_tree.proofs.ByRule.{becomes}
+use Rattle.cp_tree.specs.Searched.{AreResolved, all_settled, then_settled, children_of}
+use Rattle.cp_tree.proofs.Cases.{Becomes, is_dead, is_seen, is_realised, is_generalised, above_bound, at_limit, is_tested}
 use Rattle.cp_tree.proofs.MarksSay.{not_both, not_with_table}
 use Rattle.cp_search.specs.declared.made.Made as program
 use Rattle.cp_search.specs.declared.resolved.Resolved.{Resolved}
@@ -100,26 +107,23 @@ module _ (marks : ℕ → Option Mark → Type 0) where
     abbrev Before : ℕ → ℕ → Made → Label → List Made → Type 0
     Before = Becomes protocol limits links IsOpenMark
 
-    abbrev After : ℕ → ℕ → Made → Label → List Made → Type 0
-    After = Becomes protocol limits links marks
-
     -- ---- what becomes of labels
 
-    becomes_marked : (i before : ℕ) (m : Made) (l n : Label) (gives : List Made) → Before i before m l gives → TakesMark marks i l n → After i before m n gives
-    becomes_marked i before m l n gives (is_dead d) (inl t) = subst (λ (x : Label). After i before m x []) t.1 (is_dead d)
-    becomes_marked i before m l n gives (is_dead d) (inr t) = absurd (let e = t.0.unmarked in cc)
-    becomes_marked i before m l n gives (is_seen d u s) (inl t) = subst (λ (x : Label). After i before m x []) t.1 (is_seen d u s)
-    becomes_marked i before m l n gives (is_seen d u s) (inr t) = absurd (let e = t.0.unmarked in cc)
-    becomes_marked i before m l n gives (is_realised d w a g s) (inl t) = absurd (t.0 (record { unmarked = s; untested = refl; childless = refl }))
-    becomes_marked i before m l n gives (is_realised d w a g s) (inr t) = subst (λ (x : Label). After i before m x []) t.1.2 (is_realised d w a g t.1.1)
-    becomes_marked i before m l n gives (is_generalised d w a g) (inl t) = subst (λ (x : Label). After i before m x gives) t.1 (is_generalised d w a g)
-    becomes_marked i before m l n gives (is_generalised d w a g) (inr t) = absurd (let e = t.0.childless in cc)
-    becomes_marked i before m l n gives (above_bound d w u r b) (inl t) = subst (λ (x : Label). After i before m x []) t.1 (above_bound d w u r b)
-    becomes_marked i before m l n gives (above_bound d w u r b) (inr t) = absurd (let e = t.0.unmarked in cc)
-    becomes_marked i before m l n gives (at_limit d w u r b q) (inl t) = subst (λ (x : Label). After i before m x []) t.1 (at_limit d w u r b q)
-    becomes_marked i before m l n gives (at_limit d w u r b q) (inr t) = absurd (let e = t.0.unmarked in cc)
-    becomes_marked i before m l n gives (is_tested d w u r b c x s) (inl t) = subst (λ (y : Label). After i before m y gives) t.1 (is_tested d w u r b c x s)
-    becomes_marked i before m l n gives (is_tested d w u r b c x s) (inr t) = absurd (let e = t.0.untested in cc)
+    other_mark : (i : ℕ) (m : Made) (l n : Label) (nodes : List Node) (rule : Rule) (gives : List Made) → TakesMark marks i l n → ResolvesBy protocol IsOpenMark i m nodes rule l gives → ResolvesBy protocol marks i m nodes rule n gives
+    other_mark i m l n nodes (leaf_with mark) gives (inl t) h = (sym t.1 ∙ h.0, h.1)
+    other_mark i m l n nodes (leaf_with mark) gives (inr t) h = absurd (let e : Some mark ≡ None = sym (ap (λ (x : Label). x.mark) h.0) ∙ t.0.unmarked in cc)
+    other_mark i m l n nodes realised gives (inl t) (inl h) =
+        absurd (t.0 (record { unmarked = ap (λ (x : Label). x.mark) h.is_leaf.0 ∙ h.marked; untested = ap (λ (x : Label). x.test) h.is_leaf.0; childless = ap (λ (x : Label). x.children) h.is_leaf.0 }))
+    other_mark i m l n nodes realised gives (inl t) (inr h) = inr (record { skeleton = h.skeleton; generalises = h.generalises; child = h.child; label = sym t.1 ∙ h.label; made = h.made })
+    other_mark i m l n nodes realised gives (inr t) (inl h) =
+        let mark : Mark = t.1.0 in
+        inl (record { most_general = h.most_general; mark = Some mark; marked = t.1.1; is_leaf = (sym t.1.2 ∙ ap (λ (x : Label). record x { mark = Some mark }) h.is_leaf.0, h.is_leaf.1) })
+    other_mark i m l n nodes realised gives (inr t) (inr h) = absurd (let e : h.child ∷ [] ≡ [] = sym (ap (λ (x : Label). x.children) h.label) ∙ t.0.childless in cc)
+    other_mark i m l n nodes tested gives (inl t) h = record { expansion = h.expansion; is_expansion = h.is_expansion; children = h.children; count = h.count; label = sym t.1 ∙ h.label; made = h.made }
+    other_mark i m l n nodes tested gives (inr t) h = absurd (let e : Some h.expansion.test ≡ None = sym (ap (λ (x : Label). x.test) h.label) ∙ t.0.untested in cc)
+
+    resolves_marked : (i before : ℕ) (m : Made) (l n : Label) (gives : List Made) → TakesMark marks i l n → Resolves protocol limits links IsOpenMark i before m l gives → Resolves protocol limits links marks i before m n gives
+    resolves_marked i before m l n gives t r = record { facts = r.facts; are_facts = r.are_facts; within = r.within; by_rule = other_mark i m l n r.facts.unrealised (rule_of limits before r.facts) gives t r.by_rule }
 
     same_count : (i : ℕ) (l n : Label) → TakesMark marks i l n → is_expanded l.test ≡ is_expanded n.test
     same_count i l n (inl t) = ap (λ (x : Label). is_expanded x.test) t.1
@@ -131,7 +135,7 @@ module _ (marks : ℕ → Option Mark → Type 0) where
     resolved_marked i before made labels [] given (then_settled b s) t = absurd t
     resolved_marked i before made labels (n ∷ ns) given (then_settled {m = m} {l = l} {made = ms} {labels = ls} {from_this = fs} {from_others = gs} b s) t =
         let counted : before + is_expanded l.test ≡ before + is_expanded n.test = ap (λ (k : ℕ). before + k) (same_count i l n t.0) in
-        then_settled (becomes_marked i before m l n fs b t.0) (subst (λ (k : ℕ). AreResolved protocol limits links marks (suc i) k ms ns gs) counted (resolved_marked (suc i) (before + is_expanded l.test) ms ls ns gs s t.1))
+        then_settled (resolves_marked i before m l n fs t.0 b) (subst (λ (k : ℕ). AreResolved protocol limits links marks (suc i) k ms ns gs) counted (resolved_marked (suc i) (before + is_expanded l.test) ms ls ns gs s t.1))
 
     -- ---- candidates
 
@@ -181,4 +185,4 @@ module _ (marks : ℕ → Option Mark → Type 0) where
       candidates_are i before made labels (n ∷ ns) given all_settled t = absurd t
       candidates_are i before made labels [] given (then_settled b s) t = absurd t
       candidates_are i before made labels (n ∷ ns) given (then_settled {m = m} {l = l} {made = ms} {labels = ls} {from_this = fs} {from_others = gs} b s) t =
-          put_pick i l n ls ns (pick i before m l n fs (open_labels (suc i) ls) b t.0) (candidates_are (suc i) (before + is_expanded l.test) ms ls ns gs s t.1)
+          put_pick i l n ls ns (pick i before m l n fs (open_labels (suc i) ls) (becomes protocol limits links IsOpenMark i before m l fs b) t.0) (candidates_are (suc i) (before + is_expanded l.test) ms ls ns gs s t.1)

@@ -12,7 +12,8 @@ use Rattle.cp_tree.specs.Sound.{IsSoundMade, GeneralisesSoundly}
 use Rattle.cp_search.specs.declared.made.Made.{Made}
 use Rattle.cp_search.specs.MadeLabels.{made_view, AddsMade, AddsGeneral, AreFound}
 use Rattle.cp_search.specs.ResolvedLabels.{AreSoundMade}
-use Rattle.cp_search.specs.GeneralLabels.{GeneralisesLabel}
+use Rattle.cp_search.specs.declared.resolved.Resolved.TheVariants as settled
+use Rattle.cp_search.specs.GeneralLabels.{ResolvesRealised}
 use Rattle.cp_search.proofs.SoundBehind.{sound_behind}
 
 -- No step applies to what a skeleton generalises to.
@@ -25,11 +26,11 @@ pub of_some : (o : Option Skeleton) (g : Skeleton) (fact : Skeleton → Type 0) 
 of_some o g fact h e = subst (λ (x : Option Skeleton). IfSome x fact) e h
 
 -- A label that was made by generalising is its own generalisation.
-pub known_own : (i : ℕ) (ms : List Made) (label : Made) → item_at ms i ≡ Some label → AreFound ms → label.general ≡ true → GeneralisesLabel i ms ms None
+pub known_own : (i : ℕ) (ms : List Made) (label : Made) → item_at ms i ≡ Some label → AreFound ms → label.general ≡ true → ResolvesRealised i ms ms (settled.Leaf None)
 known_own i ms label at found known = (record { label = label; at = at; most_general = (found.each i label at).general known }, refl)
 
 -- So is one of which nothing more general is found.
-pub found_own : (i : ℕ) (ms : List Made) (label : Made) → item_at ms i ≡ Some label → (o : Option Skeleton) → IfNone o (IsMaximallyGeneral label.skeleton) → o ≡ None → GeneralisesLabel i ms ms None
+pub found_own : (i : ℕ) (ms : List Made) (label : Made) → item_at ms i ≡ Some label → (o : Option Skeleton) → IfNone o (IsMaximallyGeneral label.skeleton) → o ≡ None → ResolvesRealised i ms ms (settled.Leaf None)
 found_own i ms label at o none e = (record { label = label; at = at; most_general = subst (λ (x : Option Skeleton). IfNone x (IsMaximallyGeneral label.skeleton)) e none }, refl)
 
 -- What is made of the generalisation of a label is sound where all labels before are.
@@ -44,17 +45,6 @@ generalisation_sound protocol i old new label g at to a law lives s =
 -- What is made of another that is found.
 pub found_other : (i child : ℕ) (old new : List Made) (label : Made) (g : Skeleton) → item_at old i ≡ Some label → label.general ≡ false → GeneralisesTo label.skeleton g
     → AddsMade (made_of_generalisation i g) old new → AddsGeneral true old new
-    → ((protocol : Protocol) (variables : List Declaration) (k : Skeleton) → IsSkeleton protocol k → IsPointOfView variables k → GeneralisesSoundly protocol k) → child ≡ length old → GeneralisesLabel i old new (Some child)
-found_other i child old new label g at unknown to made general law last = (
-  record {
-    label = label;
-    at = at;
-    unknown = unknown;
-    skeleton = g;
-    generalises = to;
-    made = made;
-    general = general;
-    sound = λ protocol lives s. generalisation_sound protocol i old new label g at to made (law protocol) lives s;
-  },
-  last,
-)
+    → ((protocol : Protocol) (variables : List Declaration) (k : Skeleton) → IsSkeleton protocol k → IsPointOfView variables k → GeneralisesSoundly protocol k) → child ≡ length old → ResolvesRealised i old new (settled.Generalised child)
+found_other i child old new label g at unknown to made general law last =
+    (record { label = label; at = at; unknown = unknown; skeleton = g; generalises = to; made = made; general = general; sound = λ protocol lives s. generalisation_sound protocol i old new label g at to made (law protocol) lives s }, last)

@@ -5,7 +5,6 @@ pub mod ExpandedNext
 pub mod AlikeLinks
 pub mod FinalLabels
 pub mod FoundTrees
-pub mod GrownLinks
 pub mod LabelsSoFar
 pub mod MadeInTurn
 pub mod OneMoreResolved
@@ -13,7 +12,7 @@ pub mod Opened
 pub mod SearchedFrom
 pub mod ResolvedLeaves
 pub mod ResolvedNext
-pub mod ResolvedAs
+pub mod RuleKept
 pub mod StillToCome
 pub mod WaitingLabels
 pub mod LabelGeneralised

@@ -9,7 +9,8 @@ use Rattle.cp_lists.proofs.Reached.{steps_alike}
 use Rattle.cp_tree.specs.Made.{LabelLink, IsEdge, to_child, to_seen, Reaches, MayPointTo}
 use Rattle.cp_search.specs.declared.made.Made.{Made}
 use Rattle.cp_search.specs.declared.graph.Edge.{Edge}
-use Rattle.cp_search.specs.LeastNumber.{FindsLeast, IsFlagged}
+use Rattle.cp_shapes.specs.Shapes.{FindsLeast}
+use Rattle.cp_search.specs.Flags.{IsFlagged}
 use Rattle.cp_search.specs.Graph.{HasEdge, AddsEdge, Leads, AreWithin}
 use Rattle.cp_search.specs.MadeLabels.{made_link, IsEdgeOfMade, IsEdgeOfSome, AreEdgesOf, AreParentsWithin, AreFound, AreReaching}
 

@@ -1,12 +1,16 @@
--- To which labels one may point, where labels come behind.
-use Rattle.std.proofs.Common.{◌≡◌, ◌∙◌, ℕ, ◌<◌, ◌≤◌, List, [], ◌∷◌, ◌++◌, length, map, option_map, take, Option, Some, None, sym, ap, subst, arith}
+-- To which labels one may point, and what the rule says, where labels come behind.
+use Rattle.std.proofs.Common.{◌≡◌, ◌∙◌, ℕ, ◌<◌, ◌≤◌, List, ◌++◌, length, map, option_map, take, Option, Some, None, sym, ap, subst, arith}
 use Rattle.std.proofs.lemmas.List.{take-append-le}
 use Rattle.cp_lists.specs.Lists.{item_at}
 use Rattle.cp_lists.proofs.Items.{item_in_front, mapped_item}
+use Rattle.cp_model.specs.Strand.{Protocol}
 use Rattle.cp_model.specs.Skeleton.{Skeleton}
-use Rattle.cp_shapes.specs.Shapes.{EmbedsAt}
-use Rattle.cp_tree.specs.Made.{LabelLink, Reaches, MayPointTo}
-use Rattle.cp_search.specs.LeastNumber.{FindsLeast}
+use Rattle.cp_model.specs.Tree.{Label}
+use Rattle.cp_model.specs.declared.tree.Mark.{Mark}
+use Rattle.cp_model.specs.declared.tree.Limits.{Limits}
+use Rattle.cp_shapes.specs.Shapes.{EmbedsAt, FindsLeast}
+use Rattle.cp_tree.specs.Made.{Made, LabelLink, Reaches, MayPointTo}
+use Rattle.cp_tree.specs.Resolves.{Resolves}
 
 -- ---- the least of numbers
 
@@ -45,15 +49,30 @@ module _ (first second : List LabelLink) (m : ℕ) (buckets : (i : ℕ) → i �
         no_return = λ w p at parent reaches. h.no_return w p (buckets m same ∙ at) parent (subst (λ (links : List LabelLink). Reaches links n p) (sym e) reaches);
       }
 
-module _ (links : List LabelLink) (x : LabelLink) (m : ℕ) (l : m < length links) where
-  in_front : (i : ℕ) → i ≤ m → item_at (links ++ x ∷ []) i ≡ item_at links i
-  in_front i h = item_in_front links (x ∷ []) i (omega arith)
+module _ (links more : List LabelLink) (m : ℕ) (l : m < length links) where
+  in_front : (i : ℕ) → i ≤ m → item_at (links ++ more) i ≡ item_at links i
+  in_front i h = item_in_front links more i (omega arith)
 
-  front : take m (links ++ x ∷ []) ≡ take m links
-  front = take-append-le m links (x ∷ []) (omega arith)
+  front : take m (links ++ more) ≡ take m links
+  front = take-append-le m links more (omega arith)
 
   -- To what a label may point is told by the labels before it.
-  pub still_found : (found : Option ℕ) → FindsLeast (MayPointTo links m) found → FindsLeast (MayPointTo (links ++ x ∷ []) m) found
-  still_found = finds_alike (MayPointTo links m) (MayPointTo (links ++ x ∷ []) m)
-      (point_alike links (links ++ x ∷ []) m (λ i h. sym (in_front i h)) (sym front))
-      (point_alike (links ++ x ∷ []) links m in_front front)
+  pub still_found : (found : Option ℕ) → FindsLeast (MayPointTo links m) found → FindsLeast (MayPointTo (links ++ more) m) found
+  still_found = finds_alike (MayPointTo links m) (MayPointTo (links ++ more) m)
+      (point_alike links (links ++ more) m (λ i h. sym (in_front i h)) (sym front))
+      (point_alike (links ++ more) links m in_front front)
+
+-- ---- the rule, with other links
+
+module _ (protocol : Protocol) (limits : Limits) (marks : ℕ → Option Mark → Type 0) (links others : List LabelLink) where
+  -- Of the links the rule asks only for the least label to which one may point.
+  pub resolves_alike : (i before : ℕ) (m : Made) (l : Label) (gives : List Made) → ((found : Option ℕ) → FindsLeast (MayPointTo links i) found → FindsLeast (MayPointTo others i) found)
+      → Resolves protocol limits links marks i before m l gives → Resolves protocol limits others marks i before m l gives
+  resolves_alike i before m l gives alike r =
+      let a = r.are_facts in
+      record {
+        facts = r.facts;
+        are_facts = record { dead = a.dead; dead_none = a.dead_none; listed = a.listed; copy = λ lives. alike r.facts.copy (a.copy lives); strands = a.strands };
+        within = r.within;
+        by_rule = r.by_rule;
+      }

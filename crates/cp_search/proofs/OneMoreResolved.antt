@@ -7,8 +7,8 @@ use Rattle.cp_model.specs.Tree.{Label, is_expanded, expanded_count}
 use Rattle.cp_model.specs.declared.tree.Mark.{Mark}
 use Rattle.cp_model.specs.declared.tree.Limits.{Limits}
 use Rattle.cp_tree.specs.Made.{Made, LabelLink}
-use Rattle.cp_tree.specs.Searched.{Becomes, is_dead, is_seen, is_realised, is_generalised, above_bound, at_limit, is_tested, AreResolved, all_settled, then_settled, children_of}
-use Rattle.cp_search.proofs.GrownLinks.{least_still, new_still}
+use Rattle.cp_tree.specs.Searched.{Resolves, AreResolved, all_settled, then_settled, children_of}
+use Rattle.cp_search.proofs.Links.{still_found, resolves_alike}
 
 -- ---- lists
 
@@ -27,13 +27,13 @@ count_behind (x ∷ ls) l = let e = count_behind ls l in omega (arith, e)
 module _ (protocol : Protocol) (limits : Limits) (marks : ℕ → Option Mark → Type 0) (links : List LabelLink) where
   -- ---- one more
 
-  last_resolved : (i before n c : ℕ) (m : Made) (l : Label) (gives : List Made) → n ≡ i → c ≡ before → Becomes protocol limits links marks n c m l gives → AreResolved protocol limits links marks i before (m ∷ []) (l ∷ []) gives
+  last_resolved : (i before n c : ℕ) (m : Made) (l : Label) (gives : List Made) → n ≡ i → c ≡ before → Resolves protocol limits links marks n c m l gives → AreResolved protocol limits links marks i before (m ∷ []) (l ∷ []) gives
   last_resolved i before n c m l gives e f b =
       subst (AreResolved protocol limits links marks i before (m ∷ []) (l ∷ [])) (append-nil gives)
-      (then_settled (subst (λ (a : ℕ). Becomes protocol limits links marks i a m l gives) f (subst (λ (a : ℕ). Becomes protocol limits links marks a c m l gives) e b)) all_settled)
+      (then_settled (subst (λ (a : ℕ). Resolves protocol limits links marks i a m l gives) f (subst (λ (a : ℕ). Resolves protocol limits links marks a c m l gives) e b)) all_settled)
 
   pub one_more : (i before n c : ℕ) (made : List Made) (labels : List Label) (given : List Made) (m : Made) (l : Label) (gives : List Made) → AreResolved protocol limits links marks i before made labels given
-      → n ≡ i + length made → c ≡ before + expanded_count labels → Becomes protocol limits links marks n c m l gives → AreResolved protocol limits links marks i before (made ++ m ∷ []) (labels ++ l ∷ []) (given ++ gives)
+      → n ≡ i + length made → c ≡ before + expanded_count labels → Resolves protocol limits links marks n c m l gives → AreResolved protocol limits links marks i before (made ++ m ∷ []) (labels ++ l ∷ []) (given ++ gives)
   one_more i before n c made labels given m l gives all_settled e f b = last_resolved i before n c m l gives (omega (arith, e)) (omega (arith, f)) b
   one_more i before n c made labels given m l gives (then_settled {m = x} {l = y} {made = ms} {labels = ls} {from_this = fs} {from_others = gs} a s) e f b =
       subst (AreResolved protocol limits links marks i before (x ∷ (ms ++ m ∷ [])) (y ∷ (ls ++ l ∷ []))) (sym (append_assoc fs gs gives))
@@ -42,16 +42,8 @@ module _ (protocol : Protocol) (limits : Limits) (marks : ℕ → Option Mark �
   -- ---- labels behind
 
   module _ (more : List LabelLink) where
-    becomes_still : (i before : ℕ) (m : Made) (l : Label) (gives : List Made) → i < length links → Becomes protocol limits links marks i before m l gives → Becomes protocol limits (links ++ more) marks i before m l gives
-    becomes_still i before m l gives w (is_dead d) = is_dead d
-    becomes_still i before m l gives w (is_seen {n = n} d u s) = is_seen d u (least_still links more i w n s)
-    becomes_still i before m l gives w (is_realised d n a g s) = is_realised d (new_still links more i w n) a g s
-    becomes_still i before m l gives w (is_generalised d n a g) = is_generalised d (new_still links more i w n) a g
-    becomes_still i before m l gives w (above_bound d n u r b) = above_bound d (new_still links more i w n) u r b
-    becomes_still i before m l gives w (at_limit d n u r b e) = at_limit d (new_still links more i w n) u r b e
-    becomes_still i before m l gives w (is_tested d n u r b c x s) = is_tested d (new_still links more i w n) u r b c x s
-
     pub resolved_still : (i before : ℕ) (made : List Made) (labels : List Label) (given : List Made) → i + length made ≤ length links → AreResolved protocol limits links marks i before made labels given → AreResolved protocol limits (links ++ more) marks i before made labels given
     resolved_still i before made labels given w all_settled = all_settled
     resolved_still i before made labels given w (then_settled {m = m} {l = l} {made = ms} {labels = ls} {from_this = fs} {from_others = gs} b s) =
-        then_settled (becomes_still i before m l fs (omega (arith, w)) b) (resolved_still (suc i) (before + is_expanded l.test) ms ls gs (omega (arith, w)) s)
+        let within : i < length links = omega (arith, w) in
+        then_settled (resolves_alike protocol limits marks links (links ++ more) i before m l fs (still_found links more i within) b) (resolved_still (suc i) (before + is_expanded l.test) ms ls gs (omega (arith, w)) s)

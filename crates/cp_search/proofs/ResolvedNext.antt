@@ -1,5 +1,6 @@
 -- The next label is resolved: what is known of a search stays true.
 use Rattle.std.proofs.Common.{◌≡◌, ⊎_elim, ℕ, suc, ◌+◌, ◌<◌, ◌≤◌, List, [], ◌∷◌, ◌++◌, length, map, take, Some, sym, ap, subst, ◌∙◌, refl, arith}
+use Rattle.std.specs.Prelude.{nat_lt}
 use Rattle.std.proofs.lemmas.List.{append_assoc, length-append, length-map, map-append, take-append-le, length-take-le}
 use Rattle.cp_lists.specs.Lists.{item_at}
 use Rattle.cp_lists.proofs.Items.{item_below, item_still, item_in_front, item_of_push, map_of_item, take_to_item}
@@ -11,15 +12,19 @@ use Rattle.cp_model.specs.declared.tree.Limits.{Limits}
 use Rattle.cp_skel.specs.Tables.{DiffersInTable}
 use Rattle.cp_tree.specs.Made as plain
 use Rattle.cp_tree.specs.Made.{LabelLink}
-use Rattle.cp_tree.specs.Searched.{Becomes, AreResolved, children_of}
+use Rattle.cp_tree.specs.declared.rules.Rule.{Rule}
+use Rattle.cp_tree.specs.Rules.{rule_of}
+use Rattle.cp_tree.specs.Resolves.{ResolvesBy, Resolves}
+use Rattle.cp_tree.specs.Searched.{AreResolved, children_of}
 use Rattle.cp_tree.proofs.Numbered.{numbers_append}
 use Rattle.cp_search.specs.declared.made.Made.{Made}
 use Rattle.cp_search.specs.declared.resolved.Resolved.{Resolved}
 use Rattle.cp_search.specs.declared.resolved.Resolved.TheVariants as settled
 use Rattle.cp_search.specs.declared.resolved.Expanded.{Expanded}
-use Rattle.cp_search.specs.MadeLabels.{made_view, made_link, made_untabled, AreFound}
-use Rattle.cp_search.specs.ResolvedLabels.{resolved_label, resolved_labels, label_untabled, IsOpenMark, AreExpandedOf, AreSoundMade, IsSearched}
+use Rattle.cp_search.specs.MadeLabels.{made_view, made_link, made_untabled, IsFound, AreFound}
+use Rattle.cp_search.specs.ResolvedLabels.{facts_of, resolved_label, resolved_labels, label_untabled, IsOpenMark, AreExpandedOf, AreSoundMade, IsSearched}
 use Rattle.cp_search.proofs.OneMoreResolved.{numbers_of_map, children_behind, count_behind, one_more, resolved_still}
+use Rattle.cp_search.proofs.RuleKept.{link_kept, steps_kept}
 
 pub no_labels : (ms : List Made) → resolved_labels ms [] ≡ []
 no_labels [] = refl
@@ -47,6 +52,30 @@ module _ (protocol : Protocol) (limits : Limits) (roots : List plain.Made) (ms :
 
   abbrev place : ℕ
   place = length ss
+
+  -- What the rule says of the label.
+  abbrev rule : Rule
+  rule = rule_of limits n (facts_of m)
+
+  abbrev Here : Type 0
+  Here = ResolvesBy protocol IsOpenMark place (made_view m) m.unrealised rule label (map made_view added)
+
+  found_here : IsFound (map made_link ms) place m
+  found_here = r.found.each place m at
+
+  resolves_here : Here → Resolves protocol limits (map made_link ms) IsOpenMark place n (made_view m) label (map made_view added)
+  resolves_here b = record {
+    facts = facts_of m;
+    are_facts = record { dead = refl; dead_none = found_here.dead_none; listed = found_here.listed; copy = found_here.seen; strands = refl };
+    within = r.within_steps;
+    by_rule = b;
+  }
+
+  way : Here → label_untabled label ≡ made_untabled m
+  way = link_kept protocol place (made_view m) m.unrealised label (map made_view added) m.dead m.seen_in m.unrealised (nat_lt limits.strands (length m.skeleton.strands)) (nat_lt n limits.steps) found_here.dead_unseen
+
+  below : Here → n + is_expanded label.test ≤ limits.steps
+  below = steps_kept protocol place (made_view m) m.unrealised label (map made_view added) n limits.steps r.within_steps m.dead m.seen_in m.unrealised (nat_lt limits.strands (length m.skeleton.strands)) (nat_lt n limits.steps) refl
 
   all_made_next : map made_view (ms ++ added) ≡ roots ++ (r.children ++ map made_view added)
   all_made_next = map-append made_view ms added ∙ (ap (λ (xs : List plain.Made). xs ++ map made_view added) r.all_made ∙ append_assoc roots r.children (map made_view added))
@@ -81,11 +110,11 @@ module _ (protocol : Protocol) (limits : Limits) (roots : List plain.Made) (ms :
       let t = length-take-le place (map made_view ms) (omega (arith, l, e)) in
       omega (arith, t)
 
-  become_in_front : Becomes protocol limits (map made_link ms) IsOpenMark place n (made_view m) label (map made_view added)
+  become_in_front : Here
       → AreResolved protocol limits (map made_link ms) IsOpenMark 0 0 (take place (map made_view ms) ++ made_view m ∷ []) (labels ++ label ∷ []) (r.children ++ map made_view added)
   become_in_front b =
       let c = r.counted in
-      one_more protocol limits IsOpenMark (map made_link ms) 0 0 place n (take place (map made_view ms)) labels r.children (made_view m) label (map made_view added) r.become as_many (omega (arith, c)) b
+      one_more protocol limits IsOpenMark (map made_link ms) 0 0 place n (take place (map made_view ms)) labels r.children (made_view m) label (map made_view added) r.become as_many (omega (arith, c)) (resolves_here b)
 
   not_more : 0 + length (take place (map made_view ms) ++ made_view m ∷ []) ≤ length (map made_link ms)
   not_more =
@@ -95,7 +124,7 @@ module _ (protocol : Protocol) (limits : Limits) (roots : List plain.Made) (ms :
       let g = as_many in
       omega (arith, l, e, f, g)
 
-  become_next : Becomes protocol limits (map made_link ms) IsOpenMark place n (made_view m) label (map made_view added)
+  become_next : Here
       → AreResolved protocol limits (map made_link (ms ++ added)) IsOpenMark 0 0 (take (length (ss ++ s ∷ [])) (map made_view (ms ++ added))) (resolved_labels (ms ++ added) (ss ++ s ∷ [])) (r.children ++ map made_view added)
   become_next b =
       let given = r.children ++ map made_view added in
@@ -117,19 +146,18 @@ module _ (protocol : Protocol) (limits : Limits) (roots : List plain.Made) (ms :
   counted_next : expanded_count (resolved_labels (ms ++ added) (ss ++ s ∷ [])) ≡ n + is_expanded label.test
   counted_next = ap expanded_count (labels_next ms added ss m s at) ∙ (count_behind labels label ∙ ap (λ (k : ℕ). k + is_expanded label.test) r.counted)
 
-  pub resolved_next : AreFound (ms ++ added) → AreSoundMade protocol (ms ++ added) → ((e : Expanded) → s ≡ settled.Expanded e → DiffersInTable m.skeleton e.skeleton) → label_untabled label ≡ made_untabled m
-      → Becomes protocol limits (map made_link ms) IsOpenMark place n (made_view m) label (map made_view added) → label.children ≡ numbers_from (length ms) added → n + is_expanded label.test ≤ limits.steps
+  pub resolved_next : AreFound (ms ++ added) → AreSoundMade protocol (ms ++ added) → ((e : Expanded) → s ≡ settled.Expanded e → DiffersInTable m.skeleton e.skeleton) → Here → label.children ≡ numbers_from (length ms) added
       → IsSearched protocol limits roots (ms ++ added) (ss ++ s ∷ []) (n + is_expanded label.test)
-  resolved_next found sound here way b own below = record {
+  resolved_next found sound here b own = record {
     children = r.children ++ map made_view added;
     all_made = all_made_next;
     found = found;
     sound = sound;
     tables = same_next here;
     within = within_next;
-    links = links_next way;
+    links = links_next (way b);
     become = become_next b;
     numbers = numbers_next own;
     counted = counted_next;
-    within_steps = below;
+    within_steps = below b;
   }

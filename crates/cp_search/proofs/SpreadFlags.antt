@@ -7,7 +7,7 @@ use Rattle.cp_lists.proofs.Items.{set_here, set_elsewhere, item_below, at_place}
 use Rattle.cp_lists.proofs.Members.{in_cases, not_in_none}
 use Rattle.cp_lists.proofs.Fronts.{all_written}
 use Rattle.cp_search.specs.declared.graph.Edge.{Edge}
-use Rattle.cp_search.specs.LeastNumber.{IsFlagged}
+use Rattle.cp_search.specs.Flags.{IsFlagged}
 use Rattle.cp_search.specs.Graph.{HasEdge, Leads, AreWithin, IsClosedBackward, unflagged}
 
 -- What was spread along the edges in front of the rest: flags stay, what is flagged leads where all that was flagged led, and

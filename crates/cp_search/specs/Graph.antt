@@ -2,7 +2,7 @@
 use Rattle.std.specs.Prelude.{◌≡◌, ◌⊎◌, ◌↔◌, ◌<◌, ℕ, suc, List, [], ◌∷◌, Bool, true, false, Option, Some}
 use Rattle.cp_lists.specs.Lists.{IsIn, Steps}
 use Rattle.cp_search.specs.declared.graph.Edge.{Edge}
-use Rattle.cp_search.specs.LeastNumber.{IsFlagged}
+use Rattle.cp_search.specs.Flags.{IsFlagged}
 
 -- There is an edge from one number to the other.
 pub record HasEdge (edges : List Edge) (i j : ℕ) : Type 0 where

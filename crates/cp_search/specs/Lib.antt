@@ -1,8 +1,9 @@
-pub mod LeastNumber
+pub mod Flags
 pub mod Graph
 pub mod MadeLabels
 pub mod ResolvedLabels
 pub mod LabelsByNumber
+pub mod IndexedLabels
 pub mod GeneralLabels
 pub mod Candidates
 pub mod TreeLabels

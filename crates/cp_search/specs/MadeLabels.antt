@@ -11,7 +11,8 @@ use Rattle.cp_tree.specs.Made as plain
 use Rattle.cp_tree.specs.Made.{LabelLink, Reaches, MayPointTo}
 use Rattle.cp_search.specs.declared.made.Made.{Made}
 use Rattle.cp_search.specs.declared.graph.Edge.{Edge}
-use Rattle.cp_search.specs.LeastNumber.{FindsLeast, IsFlagged}
+use Rattle.cp_shapes.specs.Shapes.{FindsLeast}
+use Rattle.cp_search.specs.Flags.{IsFlagged}
 use Rattle.cp_general.specs.Generalisation.{IsMaximallyGeneral}
 
 abbrev pub made_view : Made → plain.Made

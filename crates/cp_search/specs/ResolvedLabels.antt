@@ -1,5 +1,5 @@
 -- What has become of labels, as the program keeps it.
-use Rattle.std.specs.Prelude.{◌≡◌, ◌≢◌, ◌<◌, ◌≤◌, ℕ, List, [], ◌∷◌, ◌++◌, length, map, take, true, false, Option, Some, None}
+use Rattle.std.specs.Prelude.{◌≡◌, ◌≤◌, ℕ, List, [], ◌∷◌, ◌++◌, length, map, take, Option, Some, None}
 use Rattle.cp_lists.specs.Lists.{item_at, IsIn}
 use Rattle.cp_model.specs.Strand.{Protocol}
 use Rattle.cp_model.specs.declared.variable.Declaration.{Declaration}
@@ -8,13 +8,14 @@ use Rattle.cp_model.specs.Problem.{numbers_from}
 use Rattle.cp_model.specs.PointOfView.{IsPointOfView}
 use Rattle.cp_model.specs.Tree.{Label, expanded_count}
 use Rattle.cp_model.specs.declared.tree.Mark.{Mark}
-use Rattle.cp_model.specs.declared.tree.Mark.TheVariants.{Dead as dead, Seen as seen, LimitSteps as limit_steps, LimitStrands as limit_strands}
 use Rattle.cp_model.specs.declared.tree.Limits.{Limits}
 use Rattle.cp_skel.specs.Tables.{DiffersInTable}
 use Rattle.cp_cohort.specs.declared.child.Child.{Child}
 use Rattle.cp_expansion.specs.Expansion.{IsExpansionOf}
 use Rattle.cp_tree.specs.Made as plain
 use Rattle.cp_tree.specs.Made.{made_of_root, link_of, LabelLink}
+use Rattle.cp_tree.specs.declared.rules.Rule.TheVariants.{Tested as tested}
+use Rattle.cp_tree.specs.Rules.{Facts, rule_of}
 use Rattle.cp_tree.specs.Sound.{IsSoundMade}
 use Rattle.cp_tree.specs.Searched.{leaf, mark_by_children, AreResolved, children_of}
 use Rattle.cp_roots.specs.declared.root.Root.{Root}
@@ -50,22 +51,9 @@ abbrev pub resolved_labels : List Made → List Resolved → List Label
 resolved_labels (m ∷ ms) (s ∷ ss) = resolved_label m s ∷ resolved_labels ms ss
 resolved_labels _ _ = []
 
--- The label is to be expanded, when so many were: it lives, is new and unrealised, and is within both limits.
-pub record IsToExpand (limits : Limits) (m : Made) (expanded : ℕ) : Type 0 where
-  pub lives : m.dead ≡ false
-  pub new : m.seen_in ≡ None
-  pub unrealised : m.unrealised ≢ []
-  pub strands : length m.skeleton.strands ≤ limits.strands
-  pub steps : expanded < limits.steps
-
--- What a label becomes, when so many were expanded, where it is a leaf: its mark.
-pub data IsLeafOf (limits : Limits) (m : Made) (expanded : ℕ) : Option (Option Mark) → Type 0 where
-  dead_leaf : m.dead ≡ true → IsLeafOf limits m expanded (Some (Some dead))
-  seen_leaf : {n : ℕ} → m.dead ≡ false → m.seen_in ≡ Some n → IsLeafOf limits m expanded (Some (Some (seen n)))
-  open_leaf : m.dead ≡ false → m.seen_in ≡ None → m.unrealised ≡ [] → IsLeafOf limits m expanded (Some None)
-  above_bound : m.dead ≡ false → m.seen_in ≡ None → m.unrealised ≢ [] → limits.strands < length m.skeleton.strands → IsLeafOf limits m expanded (Some (Some limit_strands))
-  at_limit : m.dead ≡ false → m.seen_in ≡ None → m.unrealised ≢ [] → length m.skeleton.strands ≤ limits.strands → limits.steps ≤ expanded → IsLeafOf limits m expanded (Some (Some limit_steps))
-  no_leaf : IsToExpand limits m expanded → IsLeafOf limits m expanded None
+-- What the rule asks of the label.
+abbrev pub facts_of : Made → Facts
+facts_of m = record { dead = m.dead; copy = m.seen_in; unrealised = m.unrealised; strands = length m.skeleton.strands }
 
 -- The mark of a candidate is still open.
 abbrev pub IsOpenMark : ℕ → Option Mark → Type 0
@@ -75,7 +63,7 @@ IsOpenMark i mark = mark ≡ None
 pub record IsNextToExpand (limits : Limits) (s : Search) : Type 0 where
   pub label : Made
   pub at : item_at s.made (length s.settled.items) ≡ Some label
-  pub expands : IsToExpand limits label s.expanded
+  pub expands : rule_of limits s.expanded (facts_of label) ≡ tested
 
 -- This is true for one problem, which is a skeleton over the protocol.
 pub record ForOneProblem (protocol : Protocol) (Says : Skeleton → Type 0) : Type 0 where

@@ -1,32 +1,33 @@
-// Makes the labels of what realised labels generalise to.
+// Resolves realised labels.
 ghost use Rattle.std.specs.Prelude.{◌<◌, length, IfOk};
-ghost use Rattle.cp_search.specs.GeneralLabels.{GeneralisesLabel};
-ghost use Rattle.cp_search.specs.MadeLabels.{AreFound};
+ghost use Rattle.cp_search.specs.GeneralLabels.{ResolvesRealised};
 
-use crate::labels::Labels;
+use crate::labels::MadeLabels;
 use crate::new_labels::make;
+use crate::resolved::Resolved;
 use cp_general::generalised;
 use cp_skel::Operation;
 use cp_tree::generalised_labels_are_sound;
 use std::alloc::{AllocError, Global};
 
-/// Appends the label of what this label generalises to, and returns its number; `None` if no step of generalising applies.
-pub(crate) fn generalise_label(
+/// Resolves a realised label. If a step of generalising applies to it, the label of its generalisation is appended, and it
+/// generalises to that; otherwise it is a leaf whose mark is open.
+pub(crate) fn resolve_realised(
     alloc: Global,
-    made: &mut Labels,
+    made: &mut MadeLabels,
     number: usize,
-) -> Result<Option<usize>, AllocError>
-    requires found { AreFound made.old }
+) -> Result<Resolved, AllocError>
     requires there { number < length made.old }
-    ensures { IfOk result (GeneralisesLabel number made.old made.new) }
+    ensures { IfOk result (ResolvesRealised number made.old made.new) }
 {
     generalised_labels_are_sound();
+    made.are_found();
     let label = made.label(number);
     if label.general {
-        return Ok(None);
+        return Ok(Resolved::Leaf(None));
     }
     let Some(skeleton) = generalised(alloc, &label.skeleton)? else {
-        return Ok(None);
+        return Ok(Resolved::Leaf(None));
     };
     let child = made.len();
     make(
@@ -37,5 +38,5 @@ pub(crate) fn generalise_label(
         skeleton,
         true,
     )?;
-    Ok(Some(child))
+    Ok(Resolved::Generalised(child))
 }

@@ -1,7 +1,6 @@
 // Reachability along edges between numbers.
-ghost use Rattle.std.specs.Prelude.{◌≡◌, ◌↔◌, ◌<◌, ℕ, List, length, true, false, IfOk};
-ghost use Rattle.cp_lists.specs.Lists.{IsIn};
-ghost use Rattle.cp_search.specs.LeastNumber.{IsFlagged};
+ghost use Rattle.std.specs.Prelude.{◌≡◌, ◌↔◌, ◌<◌, ℕ, length, true, false, IfOk};
+ghost use Rattle.cp_search.specs.Flags.{IsFlagged};
 ghost use Rattle.cp_search.specs.Graph.{Leads, AreWithin, IsClosedBackward, unflagged};
 ghost use Rattle.cp_search.specs.declared.graph.Edge as edges;
 

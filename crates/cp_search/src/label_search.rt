@@ -1,89 +1,61 @@
 // Resolves labels one after another.
-ghost use Rattle.std.specs.Prelude.{◌≡◌, ◌≢◌, ◌<◌, ◌≤◌, ◌+◌, List, [], length, map, true, false, IfOk, OnOk, Option, Some, None};
+ghost use Rattle.std.specs.Prelude.{◌≡◌, ◌≢◌, ◌<◌, ◌≤◌, ◌+◌, List, [], length, map, true, false, IfOk, OnOk, Some};
 ghost use Rattle.cp_lists.specs.Lists.{item_at};
 ghost use Rattle.cp_model.specs.Problem.{numbers_from};
-ghost use Rattle.cp_model.specs.PointOfView.{HasDeclaredVariables};
-ghost use Rattle.cp_model.specs.Skeleton.{IsSkeleton};
 ghost use Rattle.cp_model.specs.Strand.{Protocol as PlainProtocol};
-ghost use Rattle.cp_derive.specs.Unrealised.{ListsUnrealised};
-ghost use Rattle.cp_expansion.specs.Expansion.{IsExpansionOf};
-ghost use Rattle.cp_expansion.specs.Views.{expansion_by};
 ghost use Rattle.cp_tree.specs.Made as plain;
 ghost use Rattle.cp_tree.specs.Made.{made_of_root};
+ghost use Rattle.cp_tree.specs.Rules.{rule_of};
 ghost use Rattle.cp_search.specs.declared.made.Made as program;
-ghost use Rattle.cp_search.specs.MadeLabels.{AreFound, AddMade};
-ghost use Rattle.cp_search.specs.GeneralLabels.{ResolvesAs};
-ghost use Rattle.cp_search.specs.ResolvedLabels.{IsLeafOf, IsNextToExpand, ExpandsLabel, HasSearched, AreSoundMade, AreSoundRoots};
+ghost use Rattle.cp_search.specs.MadeLabels.{AddMade};
+ghost use Rattle.cp_search.specs.ResolvedLabels.{facts_of, IsNextToExpand, ExpandsLabel, HasSearched, AreSoundMade, AreSoundRoots};
 
 use crate::children::make_children;
-use crate::general_labels::generalise_label;
-use crate::labels::Labels;
+use crate::general_labels::resolve_realised;
+use crate::labels::MadeLabels;
 use crate::made::Made;
 use crate::resolved::{Expanded, Resolved};
 use crate::roots::make_roots;
-use cp_expansion::{Expansion, expand, test_of};
+use cp_expansion::{Expansion, expand};
 use cp_roots::Root;
 use cp_skel::{Limits, Mark, Numbers, Protocol, Test};
 use cp_term::Patterns;
-use cp_tree::expansions_are_sound;
+use cp_tree::{Rule, expansions_are_sound};
 use std::alloc::{AllocError, Global};
 
 /// The state of a search: the labels that were made, how the first of them were resolved, and the number of labels expanded so
 /// far.
 #[derive(Drop)]
 pub(crate) struct Search {
-    pub made: Labels,
+    pub made: MadeLabels,
     pub settled: Vec<Resolved>,
     pub expanded: usize,
 }
 
-/// How this label is resolved if it is not expanded, given that `expanded` labels were: a leaf with a mark, or a leaf whose mark
-/// is open because all its receptions are derivable. `None` if the label is to be expanded.
-fn leaf_of(label: &Made, limits: Limits, expanded: usize) -> Option<Option<Mark>>
-    ensures { IsLeafOf limits label.now expanded result }
+/// What the rule says of this label when so many labels were expanded.
+fn rule_of(label: &Made, limits: Limits, expanded: usize) -> Rule
+    ensures { result ≡ rule_of limits expanded (facts_of label.now) }
 {
     if label.dead {
-        return Some(Some(Mark::Dead));
+        return Rule::Leaf(Mark::Dead);
     }
     if let Some(number) = label.seen_in {
-        return Some(Some(Mark::Seen(number)));
+        return Rule::Leaf(Mark::Seen(number));
     }
     if label.unrealised.as_slice().is_empty() {
-        return Some(None);
+        return Rule::Realised;
     }
     if label.skeleton.strands().len() > limits.strands as usize {
-        return Some(Some(Mark::LimitStrands));
+        return Rule::Leaf(Mark::LimitStrands);
     }
     if expanded >= limits.steps as usize {
-        return Some(Some(Mark::LimitSteps));
+        return Rule::Leaf(Mark::LimitSteps);
     }
-    None
-}
-
-/// Resolves a label that is not expanded: as a leaf with this mark. If the mark is open and a step of generalising applies, the
-/// label of the generalisation is appended instead, and the label generalises to it.
-fn resolve_leaf(
-    alloc: Global,
-    made: &mut Labels,
-    number: usize,
-    mark: Option<Mark>,
-) -> Result<Resolved, AllocError>
-    requires found { AreFound made.old }
-    requires there { number < length made.old }
-    ensures { IfOk result (ResolvesAs number made.old made.new mark) }
-{
-    if mark.is_some() {
-        return Ok(Resolved::Leaf(mark));
-    }
-    let Some(child) = generalise_label(alloc, made, number)? else {
-        return Ok(Resolved::Leaf(None));
-    };
-    Ok(Resolved::Generalised(child))
+    Rule::Tested
 }
 
 /// Resolves labels up to the next one that is to be expanded. Returns whether there is one.
 fn resolve_leaves(alloc: Global, limits: Limits, search: &mut Search) -> Result<bool, AllocError>
-    requires found { AreFound search.old.made }
     ensures searched { OnOk result ((protocol : PlainProtocol) (made : List plain.Made) → HasSearched protocol limits made search.old → HasSearched protocol limits made search.new) }
     ensures next { IfOk result (λ some. some ≡ true → IsNextToExpand limits search.new) }
     ensures all { IfOk result (λ some. some ≡ false → length search.old.settled.items ≤ length search.old.made → length search.new.settled.items ≡ length search.new.made) }
@@ -91,43 +63,24 @@ fn resolve_leaves(alloc: Global, limits: Limits, search: &mut Search) -> Result<
 {
     while search.settled.len() < search.made.len() {
         let next = search.settled.len();
-        let Some(mark) = leaf_of(search.made.label(next), limits, search.expanded) else {
-            return Ok(true);
+        let settled = match rule_of(search.made.label(next), limits, search.expanded) {
+            Rule::Leaf(mark) => Resolved::Leaf(Some(mark)),
+            Rule::Realised => resolve_realised(alloc, &mut search.made, next)?,
+            Rule::Tested => return Ok(true),
         };
-        let settled = resolve_leaf(alloc, &mut search.made, next, mark)?;
         search.settled.push(settled)?;
     }
     Ok(false)
 }
 
-/// The test of a label that is to be expanded, and the expansion of its skeleton by that test.
-fn expansion_of(
-    alloc: Global,
-    protocol: &Protocol,
-    label: &Made,
-) -> Result<(Test, Expansion), AllocError>
-    requires skeleton { IsSkeleton protocol.now label.now.skeleton }
-    requires declared { HasDeclaredVariables label.now.skeleton.variables label.now.skeleton }
-    requires listed { ListsUnrealised label.now.skeleton label.now.unrealised }
-    requires unrealised { label.now.unrealised ≢ [] }
-    ensures { IfOk result (λ r. IsExpansionOf protocol.now label.now.skeleton (expansion_by r.0 r.1)) }
-{
-    let Some(test) = test_of(alloc, &label.skeleton, label.unrealised.as_slice())? else {
-        unreachable!()
-    };
-    let expansion = expand(alloc, protocol, &label.skeleton, &test)?;
-    Ok((test, expansion))
-}
-
 /// Appends the labels of the expansion's children, and returns the expanded label.
 fn expand_to(
     alloc: Global,
-    made: &mut Labels,
+    made: &mut MadeLabels,
     number: usize,
     test: Test,
     expansion: Expansion,
 ) -> Result<Expanded, AllocError>
-    requires found { AreFound made.old }
     requires there { number < length made.old }
     ensures { IfOk result (λ e. AddMade (map (plain.made_of_child number) expansion.children.items) made.old made.new × (e.children ≡ numbers_from (length made.old) expansion.children.items) × (e.skeleton ≡ expansion.skeleton) × (e.test ≡ test) × (e.patterns ≡ expansion.patterns.items)) }
 {
@@ -149,19 +102,27 @@ fn expand_to(
 fn expand_label(
     alloc: Global,
     protocol: &Protocol,
-    made: &mut Labels,
+    made: &mut MadeLabels,
     number: usize,
 ) -> Result<Expanded, AllocError>
     requires there { number < length made.old }
-    requires found { AreFound made.old }
     requires sound { AreSoundMade protocol.now made.old }
     requires unrealised { (m : program.Made) → item_at made.old number ≡ Some m → (m.dead ≡ false) × (m.unrealised ≢ []) }
     ensures { IfOk result (ExpandsLabel protocol.now number made.old made.new) }
 {
     expansions_are_sound();
     protocol.is_sound();
+    made.are_found();
     let label = made.label(number);
-    let (test, expansion) = expansion_of(alloc, protocol, label)?;
+    let Some((test, expansion)) = expand(
+        alloc,
+        protocol,
+        &label.skeleton,
+        label.unrealised.as_slice(),
+    )?
+    else {
+        unreachable!()
+    };
     expand_to(alloc, made, number, test, expansion)
 }
 
@@ -173,7 +134,6 @@ fn expand_next(
     search: &mut Search,
 ) -> Result<(), AllocError>
     requires next { IsNextToExpand limits search.old }
-    requires found { AreFound search.old.made }
     requires sound { AreSoundMade protocol.now search.old.made }
     ensures searched { OnOk result ((made : List plain.Made) → HasSearched protocol.now limits made search.old → HasSearched protocol.now limits made search.new) }
     ensures expanded { OnOk result (search.new.expanded ≡ search.old.expanded + 1) }

@@ -11,7 +11,6 @@ mod label_search;
 mod labels;
 mod made;
 mod new_labels;
-mod reachability;
 mod resolved;
 mod resolved_tree;
 mod roots;

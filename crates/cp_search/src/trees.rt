@@ -11,7 +11,7 @@ ghost use Rattle.cp_theory.specs.Lawful.{IsLawful};
 ghost use Rattle.cp_roots.specs.Over.{IsOver};
 ghost use Rattle.cp_tree.specs.Searched.{IsTreeOf};
 ghost use Rattle.cp_tree.specs.Edges.{edges};
-ghost use Rattle.cp_tree.specs.Declared.{DeclaresItsOwn};
+ghost use Rattle.cp_tree.specs.LabelVariables.{DeclaresItsOwn};
 
 use crate::label_search::search_from;
 use crate::resolved_tree::tree_of;

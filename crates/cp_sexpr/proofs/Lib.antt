@@ -5,6 +5,7 @@ pub mod Fronts
 pub mod Grammar
 pub mod Readings
 pub mod Spelled
+pub mod GrownText
 pub mod Unique
 pub mod ReadBack
 pub mod Given

@@ -9,8 +9,8 @@ use Rattle.cp_sexpr.specs.Pieces.{Piece, blank, comment, opening, closing, quote
 use Rattle.cp_sexpr.specs.Reading.{IsRefused, by_piece, by_end, IsFaulty, IsErrorOf}
 use Rattle.cp_sexpr.specs.Written.{Writes, opened_after, IsRefusedPiece, AreAccepted, IsWritten}
 use Rattle.cp_sexpr.specs.UnfinishedForms.{Unfinished, Building, nothing_yet, with_piece, with_pieces, places_of_unclosed, RefusesPiece, RefusesEnd}
-use Rattle.cp_sexpr.specs.declared.error.ReadError.{ReadError}
-use Rattle.cp_sexpr.specs.declared.error.ReadError.TheVariants.{Refused, Memory}
+use Rattle.cp_sexpr.specs.declared.error.OrMemory.{OrMemory}
+use Rattle.cp_sexpr.specs.declared.error.OrMemory.TheVariants.{Refused, Memory}
 use Rattle.cp_sexpr.proofs.Stacks.{built}
 use Rattle.cp_sexpr.proofs.Fronts.{IsCut-push, AreAccepted-push, after_pieces-append, after_pieces-line, after_pieces-col}
 use Rattle.cp_sexpr.proofs.Grammar.{with_pieces-append, built_is_written}
@@ -70,12 +70,12 @@ read_refused text rest at s f r refused = record {
   refused = subst (λ q. IsRefused q (opened_after start [] r.pieces) rest f) (sym r.place) (subst (λ o. IsRefused at o rest f) (sym (opened_so_far text rest at s r)) refused);
 }
 
-pub read_piece_refused : (text rest : List ℕ) (at : Place) (s : Building) (p : Piece) (after : List ℕ) (e : ReadError) → ReadUpTo text rest at s → BeginsWith rest p after
+pub read_piece_refused : (text rest : List ℕ) (at : Place) (s : Building) (p : Piece) (after : List ℕ) (e : OrMemory Refusal) → ReadUpTo text rest at s → BeginsWith rest p after
     → RefusesPiece at (places_of_unclosed s.lists) p e → IsErrorOf text e
 read_piece_refused text rest at s p after (Refused f) r b h = read_refused text rest at s f r (by_piece p after f.code b h.0 h.1)
 read_piece_refused text rest at s p after Memory r b h = tt
 
-pub read_end_refused : (text rest : List ℕ) (at : Place) (s : Building) (e : ReadError) → ReadUpTo text rest at s → rest ≡ [] → RefusesEnd s.lists e → IsErrorOf text e
+pub read_end_refused : (text rest : List ℕ) (at : Place) (s : Building) (e : OrMemory Refusal) → ReadUpTo text rest at s → rest ≡ [] → RefusesEnd s.lists e → IsErrorOf text e
 read_end_refused text rest at s (Refused f) r end h = read_refused text rest at s f r (by_end h.0.place (places_of_unclosed h.1) end (ap places_of_unclosed h.2) h.3)
 read_end_refused text rest at s Memory r end h = absurd h
 

@@ -5,8 +5,8 @@ use Rattle.cp_base.specs.declared.place.Place.{Place}
 use Rattle.cp_base.specs.declared.place.Code.{Code}
 use Rattle.cp_base.specs.declared.place.Code.TheVariants.{BadByte, OpenString, Unclosed}
 use Rattle.cp_base.specs.declared.place.Refusal.{Refusal}
-use Rattle.cp_sexpr.specs.declared.error.ReadError.{ReadError}
-use Rattle.cp_sexpr.specs.declared.error.ReadError.TheVariants.{Refused, Memory}
+use Rattle.cp_sexpr.specs.declared.error.OrMemory.{OrMemory}
+use Rattle.cp_sexpr.specs.declared.error.OrMemory.TheVariants.{Refused, Memory}
 use Rattle.cp_sexpr.specs.Syntax.{Forms}
 use Rattle.cp_sexpr.specs.Pieces.{Piece, quote, line_feed, IsWhiteSpace, IsVisible, IsStringByte, EndsLine, BeginsWith, IsCut, start, place_after, after_pieces}
 use Rattle.cp_sexpr.specs.Written.{opened_after, IsRefusedPiece, AreAccepted, IsWritten}
@@ -47,6 +47,6 @@ IsReading text (Ok fs) = IsWritten text fs
 IsReading text (Err r) = IsFaulty text r
 
 -- the error is the text's first fault, or memory ran out
-abbrev pub IsErrorOf : List ℕ → ReadError → Type 0
+abbrev pub IsErrorOf : List ℕ → OrMemory Refusal → Type 0
 IsErrorOf text (Refused r) = IsReading text (Err r)
 IsErrorOf text Memory = Unit {0}

@@ -2,13 +2,14 @@
 use Rattle.std.specs.Prelude.{◌≡◌, ℕ, ◌&&◌, List, [], ◌∷◌, Bool, false, nat_le, if◌then◌else◌}
 use Rattle.cp_base.specs.declared.place.Place.{Place}
 use Rattle.cp_base.specs.declared.place.Code.TheVariants.{Unclosed}
+use Rattle.cp_base.specs.declared.place.Refusal.{Refusal}
 use Rattle.cp_sexpr.specs.Syntax.{Form, symbol, string, number, list, Forms, none, more, append}
 use Rattle.cp_sexpr.specs.Pieces.{Piece, blank, comment, opening, closing, quoted, token, after_piece}
 use Rattle.cp_sexpr.specs.Reading.{refusal}
 use Rattle.cp_sexpr.specs.Written.{value, IsRefusedPiece}
 use Rattle.cp_sexpr.specs.View.{views}
-use Rattle.cp_sexpr.specs.declared.error.ReadError.{ReadError}
-use Rattle.cp_sexpr.specs.declared.error.ReadError.TheVariants.{Refused, Memory}
+use Rattle.cp_sexpr.specs.declared.error.OrMemory.{OrMemory}
+use Rattle.cp_sexpr.specs.declared.error.OrMemory.TheVariants.{Refused, Memory}
 use Rattle.cp_sexpr.specs.declared.builder.OpenList.{OpenList}
 use Rattle.cp_sexpr.specs.declared.builder.Builder.{Builder}
 
@@ -76,11 +77,11 @@ abbrev pub opened_by : Builder → List Place
 opened_by b = places_of_unclosed (building_of b).lists
 
 -- the error is that the piece is refused at its place, or memory ran out
-abbrev pub RefusesPiece : Place → List Place → Piece → ReadError → Type 0
+abbrev pub RefusesPiece : Place → List Place → Piece → OrMemory Refusal → Type 0
 RefusesPiece at opened p (Refused r) = IsRefusedPiece opened p r.code × (r ≡ refusal at r.code)
 RefusesPiece at opened p Memory = Unit {0}
 
 -- the error is that a list is not closed, at the place of the innermost
-abbrev pub RefusesEnd : List Unfinished → ReadError → Type 0
+abbrev pub RefusesEnd : List Unfinished → OrMemory Refusal → Type 0
 RefusesEnd lists (Refused r) = (innermost : Unfinished) × (outer : List Unfinished) × (lists ≡ innermost ∷ outer) × (r ≡ refusal innermost.place Unclosed)
 RefusesEnd lists Memory = ⊥

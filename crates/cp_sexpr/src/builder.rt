@@ -1,10 +1,11 @@
 // Forms are built piece by piece.
-ghost use Rattle.std.specs.Prelude.{◌≡◌, ℕ, [], OnOk, IfOk, IfErr, IfSome, IfNone, IsTrue, ◌↔◌};
+ghost use Rattle.std.specs.Prelude.{◌≡◌, [], OnOk, IfOk, IfErr, IfSome, IfNone, IsTrue, ◌↔◌};
 ghost use Rattle.cp_sexpr.specs.Pieces.{opening, closing, token};
 ghost use Rattle.cp_sexpr.specs.Written.{BeginsWithDigit, IsNumber, value, IsAcceptedPiece};
 ghost use Rattle.cp_sexpr.specs.CutPieces.{piece_of};
 ghost use Rattle.cp_sexpr.specs.View.{view, views};
 ghost use Rattle.cp_sexpr.specs.UnfinishedForms.{nothing_yet, with_item, with_list_open, with_list_closed, token_form, with_piece, building_of, opened_by, RefusesPiece, RefusesEnd};
+ghost use Rattle.cp_sexpr.specs.declared.error.OrMemory.TheVariants.{Memory};
 
 use crate::error::ReadError;
 use crate::form::Form;
@@ -87,7 +88,7 @@ impl Builder {
 
     fn add(&mut self, form: Form) -> Result<(), ReadError>
         ensures ok { OnOk result (building_of self.new ≡ with_item (building_of self.old) (view form)) }
-        ensures err { IfErr result (λ e. e ≡ ReadError.Memory) }
+        ensures err { IfErr result (λ e. e ≡ Memory) }
     {
         self.items.push(form)?;
         Ok(())

@@ -1,42 +1,45 @@
-// Why a text could not be read.
+// Why a text, or the forms in it, could not be read.
 ghost use Rattle.std.specs.Prelude.{◌≡◌};
-ghost use Rattle.cp_sexpr.specs.declared.error.ReadError.TheVariants.{Refused, Memory};
+ghost use Rattle.cp_sexpr.specs.declared.error.OrMemory.TheVariants.{Refused, Memory};
 
 use cp_base::Refusal;
 use std::alloc::{AllocError, AllocFailed};
 use thiserror::Error;
 
-/// Why a text could not be read.
+/// Why a text, or the forms in it, could not be read: for a cause of its own, or because memory ran out.
 #[derive(Debug, Drop, Error)]
-pub enum ReadError {
-    /// The text is refused, for its first fault from the left.
-    #[error("the text is refused at line {}, column {}", .0.place.line, .0.place.col)]
-    Refused(Refusal),
+pub enum OrMemory<E> {
+    /// Refused, for this cause.
+    #[error("refused")]
+    Refused(E),
     /// Memory ran out.
     #[error("out of memory")]
     Memory,
 }
 
-impl From<Refusal> for ReadError {
+/// Why a text could not be read: it is refused, for its first fault from the left, or memory ran out.
+pub type ReadError = OrMemory<Refusal>;
+
+impl From<Refusal> for OrMemory<Refusal> {
     ghost from_gives = { λ r e. e ≡ Refused r };
 
-    fn from(r: Refusal) -> ReadError {
-        ReadError::Refused(r)
+    fn from(r: Refusal) -> OrMemory<Refusal> {
+        OrMemory::Refused(r)
     }
 }
 
-impl From<AllocError> for ReadError {
+impl<E> From<AllocError> for OrMemory<E> {
     ghost from_gives = { λ _ e. e ≡ Memory };
 
-    fn from(_e: AllocError) -> ReadError {
-        ReadError::Memory
+    fn from(_e: AllocError) -> OrMemory<E> {
+        OrMemory::Memory
     }
 }
 
-impl<T: Drop> From<AllocFailed<T>> for ReadError {
+impl<E, T: Drop> From<AllocFailed<T>> for OrMemory<E> {
     ghost from_gives = { λ _ e. e ≡ Memory };
 
-    fn from(_e: AllocFailed<T>) -> ReadError {
-        ReadError::Memory
+    fn from(_e: AllocFailed<T>) -> OrMemory<E> {
+        OrMemory::Memory
     }
 }

@@ -11,7 +11,7 @@ mod piece;
 mod reader;
 mod writer;
 
-pub use error::ReadError;
+pub use error::{OrMemory, ReadError};
 pub use form::Form;
 pub use laws::{one_reading, reads_back};
 pub use reader::{MAX_LENGTH, read};

@@ -4,9 +4,9 @@ use Rattle.cp_lists.proofs.Members.{drop_read, item_is_in}
 use Rattle.cp_lists.specs.Lists.{item_at, IsIn, here, there}
 use Rattle.cp_model.specs.Skeleton.{Skeleton}
 use Rattle.cp_lists.proofs.Items.{item_below, item_there}
-use Rattle.cp_shapes.specs.Shapes.{IsLeast, IsInstanceWithin, IsShapeAt, IsInstanceOfShape, IsMarkOf}
+use Rattle.cp_shapes.specs.Shapes.{IsLeast, FindsLeast, IsInstanceWithin, IsShapeAt, IsInstanceOfShape, IsMarkOf}
 use Rattle.std.proofs.lemmas.List.{drop_all, nil_from_length}
-use Rattle.cp_shapes.specs.Rows.{IsRising, IsRowOf, AreEmbeddingRowsOf, is_empty_row, FindsShape}
+use Rattle.cp_shapes.specs.Rows.{IsRising, IsRowOf, AreEmbeddingRowsOf, is_empty_row}
 use Rattle.cp_shapes.proofs.RisingRows.{rising_behind}
 use Rattle.cp_shapes.proofs.Instances.{embeds_first_within, instance_on}
 use Rattle.cp_shapes.proofs.Minimal.{IsMinimalBelow, minimal_below}
@@ -114,13 +114,13 @@ module _ (ks : List Skeleton) (rows : List (List ℕ)) (are : AreEmbeddingRowsOf
   pub shape_or_instance : (m : ℕ) → m < length ks → IsShapeAt ks m ⊎ ((n : ℕ) × IsInstanceOfShape ks m n)
   shape_or_instance m l = let j = minimal m in shape_or m j.0 l (from_below j.0 m j.1.below) (λ k less b. j.1.least k less refl b)
 
-  marked : (m : ℕ) → IsShapeAt ks m ⊎ ((n : ℕ) × IsInstanceOfShape ks m n) → (found : Option ℕ) → FindsShape ks m found → IsMarkOf ks m found
+  marked : (m : ℕ) → IsShapeAt ks m ⊎ ((n : ℕ) × IsInstanceOfShape ks m n) → (found : Option ℕ) → FindsLeast (IsInstanceOfShape ks m) found → IsMarkOf ks m found
   marked m other (Some n) f = f
   marked m (inl s) None f = s
   marked m (inr h) None f = absurd (f h.0 h.1)
 
   -- What is found for a candidate is what it is.
-  pub found_marks : (m : ℕ) → m < length ks → (found : Option ℕ) → FindsShape ks m found → IsMarkOf ks m found
+  pub found_marks : (m : ℕ) → m < length ks → (found : Option ℕ) → FindsLeast (IsInstanceOfShape ks m) found → IsMarkOf ks m found
   found_marks m l found f = marked m (shape_or_instance m l) found f
 
   -- ---- rows of shapes

@@ -3,8 +3,8 @@ use Rattle.std.proofs.Common.{◌≡◌, ◌⊎◌, inl, inr, ℕ, ◌+◌, ◌<
 use Rattle.std.proofs.lemmas.List.{map-append, length_push}
 use Rattle.cp_lists.specs.Lists.{item_at}
 use Rattle.cp_model.specs.Skeleton.{Skeleton}
-use Rattle.cp_shapes.specs.Shapes.{IsMarkOf, AreShapeMarksOf}
-use Rattle.cp_shapes.specs.Rows.{IsRowOf, AreEmbeddingRowsOf, FindsShape, rows_view}
+use Rattle.cp_shapes.specs.Shapes.{FindsLeast, IsInstanceOfShape, IsMarkOf, AreShapeMarksOf}
+use Rattle.cp_shapes.specs.Rows.{IsRowOf, AreEmbeddingRowsOf, rows_view}
 use Rattle.cp_lists.proofs.Items.{item_below, item_of_push, map_of_read}
 use Rattle.cp_shapes.proofs.Found.{found_marks}
 
@@ -47,10 +47,10 @@ module _ {A : Type 0} (ks : List Skeleton) (rs slice whole : List (Vec ℕ A)) (
 
   -- One more mark, that which is found for the next row.
   pub next_mark : (marks new : List (Option ℕ)) (found : Option ℕ) → slice ≡ rs → whole ≡ rs → row_slice ≡ row.items → i < length slice → row ≡ get_or slice i row → AreMarksTo ks marks i →
-      ((js : List Skeleton) (m : ℕ) → AreEmbeddingRowsOf js (rows_view whole) → IsRowOf js m row_slice → FindsShape js m found) → new ≡ marks ++ found ∷ [] → AreMarksTo ks new (i + 1)
+      ((js : List Skeleton) (m : ℕ) → AreEmbeddingRowsOf js (rows_view whole) → IsRowOf js m row_slice → FindsLeast (IsInstanceOfShape js m) found) → new ≡ marks ++ found ∷ [] → AreMarksTo ks new (i + 1)
   next_mark marks new found e w r l is so_far finds push =
       let at = row_there e l is in
-      let found_here : FindsShape ks i found =
+      let found_here : FindsLeast (IsInstanceOfShape ks i) found =
       finds ks i (subst (λ (xs : List (Vec ℕ A)). AreEmbeddingRowsOf ks (rows_view xs)) (sym w) are) (subst (IsRowOf ks i) (sym r) (are.each i row.items at)) in
       next_to (IsMarkOf ks) marks i found so_far (found_marks ks (rows_view rs) are i (within_ks at) found found_here) new push
 

@@ -2,7 +2,7 @@
 use Rattle.std.specs.Prelude.{◌≡◌, ◌↔◌, ℕ, ◌<◌, List, [], ◌∷◌, length, map, Vec, ◌==◌, Bool, false, Option, Some, None}
 use Rattle.cp_lists.specs.Lists.{item_at, IsIn}
 use Rattle.cp_model.specs.Skeleton.{Skeleton}
-use Rattle.cp_shapes.specs.Shapes.{IsLeast, IsInstanceWithin, IsInstanceOfShape}
+use Rattle.cp_shapes.specs.Shapes.{IsInstanceWithin}
 
 -- Each number is above all before it.
 abbrev pub IsRising : List ℕ → Type 0
@@ -26,8 +26,3 @@ rows_view = map (λ row. row.items)
 abbrev pub is_empty_row : Option (List ℕ) → Bool
 is_empty_row None = false
 is_empty_row (Some row) = length row == 0
-
--- The least shape of which candidate number m is an instance; none where there is none.
-abbrev pub FindsShape : List Skeleton → ℕ → Option ℕ → Type 0
-FindsShape ks m (Some n) = IsLeast (IsInstanceOfShape ks m) n
-FindsShape ks m None = (n : ℕ) → IsInstanceOfShape ks m n → ⊥

@@ -10,6 +10,11 @@ pub record IsLeast (P : ℕ → Type 0) (n : ℕ) : Type 0 where
   pub holds : P n
   pub least : (m : ℕ) → m < n → P m → ⊥
 
+-- The least number of which something holds; none where it holds of none.
+abbrev pub FindsLeast : (ℕ → Type 0) → Option ℕ → Type 0
+FindsLeast P (Some n) = IsLeast P n
+FindsLeast P None = (n : ℕ) → P n → ⊥
+
 -- Skeleton number n embeds in skeleton number m.
 pub record EmbedsAt (ks : List Skeleton) (n m : ℕ) : Type 0 where
   pub first : Skeleton

@@ -13,11 +13,10 @@ use std::alloc::{AllocError, Global};
 fn signatures(alloc: Global, candidates: &[&Skeleton]) -> Result<Vec<Signature>, AllocError>
     ensures { IfOk result (λ signatures. signatures.items ≡ map (λ k. signature_of k.now) candidates.now) }
 {
-    let mut signatures = Vec::new(alloc);
-    for candidate in candidates {
-        signatures.push(Signature::of(alloc, candidate)?)?;
-    }
-    Ok(signatures)
+    candidates
+        .iter()
+        .map(|candidate| Signature::of(alloc, candidate))
+        .try_collect(alloc)
 }
 
 /// Whether a candidate is an instance of another: `shape` embeds in `instance`, and either `instance` does not embed in `shape`

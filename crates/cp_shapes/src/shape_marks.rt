@@ -2,8 +2,8 @@
 ghost use Rattle.std.specs.Prelude.{◌≡◌, ℕ, List, map, IfOk};
 ghost use Rattle.cp_lists.specs.Lists.{item_at};
 ghost use Rattle.cp_model.specs.Skeleton as model;
-ghost use Rattle.cp_shapes.specs.Shapes.{AreShapeMarksOf};
-ghost use Rattle.cp_shapes.specs.Rows.{IsRowOf, AreEmbeddingRowsOf, is_empty_row, FindsShape, rows_view};
+ghost use Rattle.cp_shapes.specs.Shapes.{FindsLeast, IsInstanceOfShape, AreShapeMarksOf};
+ghost use Rattle.cp_shapes.specs.Rows.{IsRowOf, AreEmbeddingRowsOf, is_empty_row, rows_view};
 
 use crate::rows::rows;
 use cp_skel::Skeleton;
@@ -21,7 +21,7 @@ fn is_shape(rows: &[Vec<usize>], candidate: usize) -> bool
 
 /// The first shape of which the candidate with this row is an instance.
 fn first_shape(rows: &[Vec<usize>], row: &[usize]) -> Option<usize>
-    ensures { (ks : List model.Skeleton) (m : ℕ) → AreEmbeddingRowsOf ks (rows_view rows.now) → IsRowOf ks m row.now → FindsShape ks m result }
+    ensures { (ks : List model.Skeleton) (m : ℕ) → AreEmbeddingRowsOf ks (rows_view rows.now) → IsRowOf ks m row.now → FindsLeast (IsInstanceOfShape ks m) result }
 {
     for candidate in row {
         if is_shape(rows, *candidate) {

@@ -16,10 +16,11 @@ pub mod Grown
 pub mod StaySkeletons
 pub mod EachOnce
 pub mod StrandsGive
-pub mod DeclaredRoles
 pub mod DeclaredChanges
 pub mod CarriedHomomorphisms
 pub mod EventLists
 pub mod SoundSkeletons
 mod AddedPairs
 pub mod TableAlone
+mod VariablesOfLists
+mod ThreeLists

@@ -7,6 +7,7 @@ use Rattle.cp_model.specs.declared.sort.Sort.{Sort}
 use Rattle.cp_model.specs.declared.sort.Sort.TheVariants.{Text as text_sort, Datum as datum_sort, Name as name_sort, Skey as skey_sort, Akey as akey_sort}
 use Rattle.cp_model.specs.Homomorphism.{text_in, datum_in, name_in, skey_in, akey_in, substitution_by}
 use Rattle.cp_model.specs.PrefixVariables.{fits}
+use Rattle.cp_model.proofs.DeclaredTerms.{value_in, by_number}
 use Rattle.cp_strand.specs.Valued.{term_or}
 
 -- A term of the variable's sort that stands at its number is what the variable becomes.
@@ -18,15 +19,8 @@ placed skey_sort n (atom_term (key_term (symmetric_term k))) ts h e = ap (λ o. 
 placed akey_sort n (atom_term (key_term (asymmetric_term flag k))) ts h e = ap (λ o. atom_term (key_term (asymmetric_term (akey_in n o).0 (akey_in n o).1))) e
 placed _ n _ ts h e = absurd (cc)
 
--- What the variable of this sort and number becomes, where this stands at its number.
-abbrev becomes : Sort → ℕ → Option Term → Term
-becomes text_sort n o = atom_term (text_variable (text_in n o))
-becomes datum_sort n o = atom_term (datum_variable (datum_in n o))
-becomes name_sort n o = atom_term (name_variable (name_in n o))
-becomes skey_sort n o = atom_term (key_term (symmetric_term (skey_in n o)))
-becomes akey_sort n o = atom_term (key_term (asymmetric_term (akey_in n o).0 (akey_in n o).1))
-
-alike : (s : Sort) (n : ℕ) (o : Option Term) → becomes s n o ≡ becomes s n (Some (term_or (record { sort = s; number = n }) o))
+-- A list that has no term for a variable gives it what one with the variable itself does.
+alike : (s : Sort) (n : ℕ) (o : Option Term) → value_in s n o ≡ value_in s n (Some (term_or (record { sort = s; number = n }) o))
 alike s n (Some t) = refl
 alike text_sort n None = refl
 alike datum_sort n None = refl
@@ -34,14 +28,7 @@ alike name_sort n None = refl
 alike skey_sort n None = refl
 alike akey_sort n None = refl
 
-under_list : (s : Sort) (n : ℕ) (ts : List Term) → apply_to (substitution_by ts) (variable_term (record { sort = s; number = n })) ≡ becomes s n (item_at ts n)
-under_list text_sort n ts = refl
-under_list datum_sort n ts = refl
-under_list name_sort n ts = refl
-under_list skey_sort n ts = refl
-under_list akey_sort n ts = refl
-
 -- Where the variable's own term, or else the variable, stands at its number, it becomes what it was.
 pub stays : (s : Sort) (n : ℕ) (old ts : List Term) → item_at ts n ≡ Some (term_or (record { sort = s; number = n }) (item_at old n)) →
     apply_to (substitution_by old) (variable_term (record { sort = s; number = n })) ≡ apply_to (substitution_by ts) (variable_term (record { sort = s; number = n }))
-stays s n old ts e = under_list s n old ∙ alike s n (item_at old n) ∙ sym (under_list s n ts ∙ ap (becomes s n) e)
+stays s n old ts e = by_number old s n ∙ alike s n (item_at old n) ∙ sym (by_number ts s n ∙ ap (value_in s n) e)

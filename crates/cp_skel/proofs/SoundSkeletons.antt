@@ -11,6 +11,7 @@ use Rattle.cp_model.specs.Skeleton.{SkeletonStrand, instance, listener, UniqueAt
 use Rattle.cp_model.specs.declared.node.Node.{Node}
 use Rattle.cp_model.specs.declared.node.OrderPair.{OrderPair}
 use Rattle.cp_model.specs.Given.{listed}
+use Rattle.cp_model.proofs.DeclaredPrefixes.{skeleton_prefixes}
 use Rattle.cp_model.proofs.LawPrefixes.{in_front_of_trace}
 use Rattle.cp_model.specs.Extensions.{AddsListener, AddsStrand, CanExtend, Extends, IsClosedPrefix}
 use Rattle.cp_order.specs.Closed.{KeepsOrder}
@@ -18,7 +19,6 @@ use Rattle.cp_skel.specs.Deletion.{ForgetsAssumptions, KeepsFromProblem, KeepsOr
 use Rattle.cp_skel.specs.Ordered.{IsOrdered, ordered_by, DiffersInOrder}
 use Rattle.cp_model.specs.Declares.{HasDeclaredPrefixes, DeclaresItsVariables}
 use Rattle.cp_skel.specs.Sound.{IsSound}
-use Rattle.cp_skel.proofs.DeclaredRoles.{declared_prefixes}
 use Rattle.cp_skel.proofs.CarriedHomomorphisms.{sound_on, listener_says_more, strand_says_more, extended_says_more, extension_fits, reordered_says_more, before_too, before_wider, ordered_is_skeleton, reordered_stays_skeleton}
 use Rattle.cp_skel.proofs.FromProblemWithout.{in_range_without, assumed_without, ordered_without}
 use Rattle.cp_skel.proofs.Grown.{Grows, pairs-stay, origin-stays, cycles-stay-out}
@@ -42,7 +42,7 @@ sound_ordered k s = record { order_pairs = s.skeleton.order_pairs; no_cycle = s.
 
 -- Its roles declare the variables of the prefixes, and of longer ones.
 pub sound_prefixes : (k : Skeleton) → IsSound k → HasDeclaredPrefixes k
-sound_prefixes k s = declared_prefixes s.protocol k s.declared s.skeleton
+sound_prefixes k s = skeleton_prefixes s.protocol k s.declared s.skeleton
 
 pub sound_longer : (k : Skeleton) (s : ℕ) (role : Role) (before height : ℕ) (terms : List Binding) → IsSound k → item_at k.strands s ≡ Some (instance role before terms) → IsClosedPrefix role height
 sound_longer k s role before height terms is at x i = is.declared role (is.skeleton.of_role s role before terms at) x (in_front_of_trace height role.trace x i)

@@ -1,12 +1,12 @@
 -- Skeletons that differ in their tables of variables alone.
-use Rattle.std.proofs.Common.{◌≡◌, List, ℕ, sym, ap, ◌∙◌}
-use Rattle.cp_lists.specs.Lists.{one_step, more_steps}
+use Rattle.std.proofs.Common.{◌≡◌, List, ℕ, refl, sym, ap, ◌∙◌}
 use Rattle.cp_model.specs.Bindings.{Binding}
 use Rattle.cp_model.specs.Strand.{Role, Protocol}
 use Rattle.cp_model.specs.declared.variable.Declaration.{Declaration}
 use Rattle.cp_model.specs.declared.node.Node.{Node}
 use Rattle.cp_model.specs.declared.node.OrderPair.{OrderPair}
-use Rattle.cp_model.specs.Skeleton.{UniqueAt, Skeleton, OrderStep, along_strand_of, along_pair, Before, IsOrderPair, IsOrigin, GivesAssumptions, IsSkeleton}
+use Rattle.cp_model.specs.Skeleton.{UniqueAt, Skeleton, Before, IsOrderPair, IsOrigin, GivesAssumptions, IsSkeleton}
+use Rattle.cp_model.proofs.LawOrder.{before_wider}
 use Rattle.cp_skel.specs.Sound.{IsSound}
 use Rattle.cp_skel.specs.Tables.{DiffersInTable}
 
@@ -27,21 +27,11 @@ module _ (k : Skeleton) (table : List Declaration) where
 
   -- ---- the same order
 
-  was_step : {x y : Node} → OrderStep tabled x y → OrderStep k x y
-  was_step (along_strand_of e) = along_strand_of e
-  was_step (along_pair i) = along_pair i
-
   pub was_before : {x y : Node} → Before tabled x y → Before k x y
-  was_before (one_step s) = one_step (was_step s)
-  was_before (more_steps s p) = more_steps (was_step s) (was_before p)
-
-  still_step : {x y : Node} → OrderStep k x y → OrderStep tabled x y
-  still_step (along_strand_of e) = along_strand_of e
-  still_step (along_pair i) = along_pair i
+  was_before = before_wider tabled k refl (λ p i. i)
 
   pub still_before : {x y : Node} → Before k x y → Before tabled x y
-  still_before (one_step s) = one_step (still_step s)
-  still_before (more_steps s p) = more_steps (still_step s) (still_before p)
+  still_before = before_wider k tabled refl (λ p i. i)
 
   -- ---- a skeleton over a protocol
 

@@ -1,6 +1,8 @@
 -- The events of a skeleton in a list, each with its node.
 use Rattle.std.specs.Prelude.{ℕ, suc, Bool, true, false, List, [], ◌∷◌, ◌++◌}
-use Rattle.cp_model.specs.Term.{Term}
+use Rattle.cp_model.specs.Term.{Term, variables_of}
+use Rattle.cp_model.specs.declared.variable.Variable.{Variable}
+use Rattle.cp_model.specs.Strand.{payload}
 use Rattle.cp_model.specs.declared.strand.Event.{Event}
 use Rattle.cp_model.specs.Bundle.{node_at}
 use Rattle.cp_model.specs.Skeleton.{SkeletonStrand, instance, listener, skeleton_trace, Skeleton}
@@ -25,3 +27,8 @@ located_events_from s (x ∷ xs) = located_events_on s 0 (is_role_strand x) (ske
 -- The events of a skeleton.
 abbrev pub events_of : Skeleton → List LocatedEvent
 events_of k = located_events_from 0 k.strands
+
+-- The variables that occur in the messages of these events.
+abbrev pub variables_of_located : List LocatedEvent → List Variable
+variables_of_located [] = []
+variables_of_located (o ∷ os) = variables_of (payload o.event) ++ variables_of_located os

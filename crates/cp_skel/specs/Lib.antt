@@ -1,7 +1,6 @@
 pub mod Code
 pub mod Parts
 pub mod Sound
-pub mod LabelCode
 pub mod JoinedAssumptions
 pub mod Ordered
 pub mod KeptByChanges

@@ -1,5 +1,6 @@
 // What skeletons assume.
 ghost use Rattle.std.specs.Prelude.{◌≡◌, IfOk, OnOk, OnErr};
+ghost use Rattle.std.specs.Result.{IsOkAnd};
 ghost use Rattle.cp_skel.specs.JoinedAssumptions.{joined_assumptions};
 
 use cp_model::Node;
@@ -16,11 +17,8 @@ pub struct UniqueAt {
 
 impl Model for UniqueAt {
     ghost use Rattle.cp_model.specs.Skeleton.{UniqueAt as Plain};
-    ghost use Rattle.cp_skel.specs.Code.{coded_unique};
 
     ghost Value = { Plain };
-
-    ghost coded = { coded_unique };
 
     ghost view = { λ u. record { value = u.value; origin = u.origin } };
 }
@@ -51,10 +49,9 @@ impl UniqueAt {
     pub fn copy(&self) -> Result<UniqueAt, AllocError>
         ensures { IfOk result (λ u. u ≡ self.now) }
     {
-        Ok(UniqueAt {
-            value: self.value.copy()?,
-            origin: self.origin,
-        })
+        self.value
+            .copy()
+            .map(|value| UniqueAt::new(value, self.origin))
     }
 }
 
@@ -126,6 +123,23 @@ impl Assumptions {
         }
     }
 
+    /// The assumptions of these three lists, if each could be made.
+    pub(crate) fn of(
+        non_originating: Result<Vec<Atom>, AllocError>,
+        penetrator_non_originating: Result<Vec<Atom>, AllocError>,
+        uniquely_originating: Result<Vec<UniqueAt>, AllocError>,
+    ) -> Result<Assumptions, AllocError>
+        ensures non { IfOk result (λ a. IsOkAnd non_originating (λ v. a.non_originating ≡ v.items)) }
+        ensures penetrator_non { IfOk result (λ a. IsOkAnd penetrator_non_originating (λ v. a.penetrator_non_originating ≡ v.items)) }
+        ensures unique { IfOk result (λ a. IsOkAnd uniquely_originating (λ v. a.uniquely_originating ≡ v.items)) }
+    {
+        Ok(Assumptions::new(
+            non_originating?,
+            penetrator_non_originating?,
+            uniquely_originating?,
+        ))
+    }
+
     /// The values that originate nowhere (`non-orig`).
     pub fn non_originating(&self) -> &[Atom]
         ensures { result.now ≡ self.now.non_originating }
@@ -151,11 +165,11 @@ impl Assumptions {
     pub fn copy(&self, alloc: Global) -> Result<Assumptions, AllocError>
         ensures { IfOk result (λ a. a ≡ self.now) }
     {
-        Ok(Assumptions {
-            non_originating: copy_atoms(alloc, &self.non_originating)?,
-            penetrator_non_originating: copy_atoms(alloc, &self.penetrator_non_originating)?,
-            uniquely_originating: Vec::from_clones(alloc, &self.uniquely_originating)?,
-        })
+        Assumptions::of(
+            copy_atoms(alloc, self.non_originating()),
+            copy_atoms(alloc, self.penetrator_non_originating()),
+            Vec::from_clones(alloc, self.uniquely_originating()),
+        )
     }
 
     /// Appends other assumptions to these. On an error nothing has changed.

@@ -124,26 +124,23 @@ pub(crate) fn assumptions_without(
 {
     let had = k.assumptions();
     let own = k.from_problem().assumptions();
-    let non_originating = kind_left(
-        alloc,
-        Kind::NonOriginating,
-        k.strands(),
-        gone,
-        had.non_originating(),
-        own.non_originating(),
-    )?;
-    let penetrator_non_originating = kind_left(
-        alloc,
-        Kind::PenetratorNonOriginating,
-        k.strands(),
-        gone,
-        had.penetrator_non_originating(),
-        own.penetrator_non_originating(),
-    )?;
-    let uniquely_originating = left_without(alloc, gone, had.uniquely_originating())?;
-    Ok(Assumptions::new(
-        non_originating,
-        penetrator_non_originating,
-        uniquely_originating,
-    ))
+    Assumptions::of(
+        kind_left(
+            alloc,
+            Kind::NonOriginating,
+            k.strands(),
+            gone,
+            had.non_originating(),
+            own.non_originating(),
+        ),
+        kind_left(
+            alloc,
+            Kind::PenetratorNonOriginating,
+            k.strands(),
+            gone,
+            had.penetrator_non_originating(),
+            own.penetrator_non_originating(),
+        ),
+        left_without(alloc, gone, had.uniquely_originating()),
+    )
 }

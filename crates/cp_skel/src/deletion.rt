@@ -24,11 +24,11 @@ fn from_problem_without(
     ensures { IfOk result (λ p. KeepsFromProblem gone from.now p) }
 {
     let own = from.assumptions();
-    let assumptions = Assumptions::new(
-        copy_atoms(alloc, own.non_originating())?,
-        copy_atoms(alloc, own.penetrator_non_originating())?,
-        left_without(alloc, gone, own.uniquely_originating())?,
-    );
+    let assumptions = Assumptions::of(
+        copy_atoms(alloc, own.non_originating()),
+        copy_atoms(alloc, own.penetrator_non_originating()),
+        left_without(alloc, gone, own.uniquely_originating()),
+    )?;
     Ok(FromProblem::new(
         strands_renumbered(alloc, gone, from.strands())?,
         copy_terms(alloc, from.values())?,

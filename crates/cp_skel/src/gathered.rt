@@ -9,16 +9,15 @@ use cp_strand::{Atom, Same, has};
 use std::alloc::{AllocError, Global};
 
 /// Items gathered into lists in which each stands once.
-pub(crate) trait Gathered: Same {
+pub(crate) trait Gathered: Same + Clone {
     /// Whether an item is one of these.
     ghost among: { List Self → Self → Bool };
 
     /// The first items, then those of the second that are not there yet.
     ghost onto: { List Self → List Self → List Self };
 
-    /// Another handle to the same.
-    fn again(&self) -> Result<Self, AllocError>
-        ensures { IfOk result (λ x. x ≡ self.now) };
+    /// A clone is the same.
+    ghost same_clone: { (x y : Self) → Self.is_clone x y → y ≡ x };
 
     /// What is appended is what is not among the items.
     ghost gathers: { IsGathering among onto };
@@ -29,9 +28,7 @@ impl Gathered for Atom {
 
     ghost onto = { atoms_onto };
 
-    fn again(&self) -> Result<Atom, AllocError> {
-        self.copy()
-    }
+    ghost same_clone = { λ _ _ e. e };
 
     ghost gathers = { atoms };
 }
@@ -41,9 +38,7 @@ impl Gathered for UniqueAt {
 
     ghost onto = { uniques_onto };
 
-    fn again(&self) -> Result<UniqueAt, AllocError> {
-        self.copy()
-    }
+    ghost same_clone = { λ _ _ e. e };
 
     ghost gathers = { uniques };
 }
@@ -65,7 +60,7 @@ pub(crate) fn add_each<T: Gathered + Drop>(items: &mut Vec<T>, more: &[T]) -> Re
     ensures { OnOk result (items.new.items ≡ T.onto items.old.items more.now) }
 {
     for item in more {
-        let item = item.again()?;
+        let item = item.clone()?;
         add_once(items, item)?;
     }
     Ok(())
@@ -97,7 +92,7 @@ pub(crate) fn stated_first<T: Gathered + Drop>(
     let mut listed = Vec::new(alloc);
     for item in stated {
         if has(old, item) {
-            add_once(&mut listed, item.again()?)?;
+            add_once(&mut listed, item.clone()?)?;
         }
     }
     add_each(&mut listed, old)?;

@@ -73,7 +73,6 @@ pub fn given_behind_own_is_listed()
 
 /// If the roles of a protocol declare the variables of their events, as those of well-formed input do, then the role of
 /// each instance of a skeleton over it declares the variables of the instance's prefix.
-#[tactic(auto, using(crate::proofs::DeclaredRoles::declared_prefixes))]
 pub fn skeletons_have_declared_prefixes()
     ensures { (protocol : Protocol) (k : Skeleton) → ((role : Role) → IsIn role protocol.roles → (x : Variable) → IsIn x (variables_of_trace role.trace) → IsDeclared role.variables x)
         → IsSkeleton protocol k → HasDeclaredPrefixes k }

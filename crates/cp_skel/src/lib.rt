@@ -23,6 +23,7 @@ mod report_order;
 mod role_assumptions;
 mod skeleton;
 mod tree;
+mod used;
 mod variable_table;
 mod variables_laws;
 
@@ -50,4 +51,5 @@ pub use report_order::listed;
 pub use role_assumptions::{has_unique, missing};
 pub use skeleton::{Node, OrderPair, Skeleton};
 pub use tree::{Label, Labels, Test, Tree};
+pub use used::used_terms;
 pub use variables_laws::changes_keep_declared_variables;

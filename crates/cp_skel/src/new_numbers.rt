@@ -67,9 +67,10 @@ impl AtNodes for UniqueAt {
     }
 
     fn without(&self, gone: usize) -> Result<UniqueAt, AllocError> {
-        let value = self.value().copy()?;
         let origin = node_renumbered(gone, self.origin());
-        Ok(UniqueAt::new(value, origin))
+        self.value()
+            .copy()
+            .map(|value| UniqueAt::new(value, origin))
     }
 }
 
@@ -81,11 +82,10 @@ pub(crate) fn strands_renumbered(
 ) -> Result<Vec<usize>, AllocError>
     ensures { IfOk result (λ v. v.items ≡ map (renumbered gone) strands.now) }
 {
-    let mut left = Vec::new(alloc);
-    for strand in strands {
-        left.push(renumbered(gone, *strand))?;
-    }
-    Ok(left)
+    strands
+        .iter()
+        .map(|strand| renumbered(gone, *strand))
+        .collect(alloc)
 }
 
 /// The items that do not stand on the strand, once it is gone.

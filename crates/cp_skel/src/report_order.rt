@@ -16,19 +16,19 @@ pub fn listed(alloc: Global, skeleton: &Skeleton) -> Result<Assumptions, AllocEr
     let mut stated = skeleton.from_problem().assumptions().copy(alloc)?;
     add_given(alloc, skeleton.strands(), &mut stated)?;
     let old = skeleton.assumptions();
-    Ok(Assumptions::new(
-        stated_first(alloc, stated.non_originating(), old.non_originating())?,
+    Assumptions::of(
+        stated_first(alloc, stated.non_originating(), old.non_originating()),
         stated_first(
             alloc,
             stated.penetrator_non_originating(),
             old.penetrator_non_originating(),
-        )?,
+        ),
         stated_first(
             alloc,
             stated.uniquely_originating(),
             old.uniquely_originating(),
-        )?,
-    ))
+        ),
+    )
 }
 
 impl Skeleton {

@@ -43,21 +43,22 @@ pub(crate) fn missing_atoms(
     Ok(more)
 }
 
-/// Of these atoms of its role, those that originate on an instance, under its terms and with their origins, and are not
-/// among the old ones, each once. The instance is the strand with this number.
+/// Of its role's uniquely originating atoms, those that originate on an instance, under its terms and with their origins,
+/// and are not among the old ones, each once. The instance is the strand with this number.
 fn missing_uniques(
     alloc: Global,
     strand: usize,
     instance: &Instance,
-    stated: &[Atom],
     old: &[UniqueAt],
 ) -> Result<Vec<UniqueAt>, AllocError>
     ensures { IfOk result (λ more. old.now ++ more.items ≡ uniques_onto old.now
-        (applying_uniques instance.now.role instance.now.height (bindings_of instance.now.values) strand stated.now)) }
+        (applying_uniques instance.now.role instance.now.height (bindings_of instance.now.values) strand instance.now.role.uniquely_originating)) }
 {
+    let role = instance.role();
+    let stated = role.uniquely_originating();
     let mut more = Vec::new(alloc);
     for atom in stated {
-        let Some(index) = origin(instance.role().trace(), atom.as_term()) else {
+        let Some(index) = origin(role.trace(), atom.as_term()) else {
             continue;
         };
         if index >= instance.height() {
@@ -85,25 +86,11 @@ pub(crate) fn lacking(
     let a = assumptions.non_originating();
     let b = assumptions.penetrator_non_originating();
     let c = assumptions.uniquely_originating();
-    let non_originating = missing_atoms(alloc, instance, role.non_originating(), a)?;
-    let penetrator_non_originating = missing_atoms(
-        alloc,
-        instance,
-        role.penetrator_non_originating(),
-        b,
-    )?;
-    let uniquely_originating = missing_uniques(
-        alloc,
-        strand,
-        instance,
-        role.uniquely_originating(),
-        c,
-    )?;
-    Ok(Assumptions::new(
-        non_originating,
-        penetrator_non_originating,
-        uniquely_originating,
-    ))
+    Assumptions::of(
+        missing_atoms(alloc, instance, role.non_originating(), a),
+        missing_atoms(alloc, instance, role.penetrator_non_originating(), b),
+        missing_uniques(alloc, strand, instance, c),
+    )
 }
 
 /// What an instance gives and the assumptions lack, each once. The instance is the strand with this number.

@@ -14,3 +14,4 @@ pub mod Gathered
 pub mod Patterned
 pub mod ReadPatterns
 pub mod Made
+pub mod PlacesOfFaults

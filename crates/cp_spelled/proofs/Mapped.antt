@@ -17,7 +17,7 @@ use Rattle.cp_language.specs.Problems.{is_known, name_in_front, second_form}
 use Rattle.cp_scope.proofs.DeclaredIdentifiers.{AreSameNames, names-swap}
 use Rattle.cp_report.specs.Misfits.{place_before, list_misfits, entries_misfits, symbol_misfits}
 use Rattle.cp_report.specs.Spelled.{Scope, value_misfits}
-use Rattle.cp_report.specs.Skeletons.{identifier_of, maplet_misfits, maplets_misfits, term_or_tag, value_mapped}
+use Rattle.cp_report.specs.Skeletons.{identifier_of, maplet_misfits, maplets_misfits, term_or_tag, value_mapped, values_mapped}
 use Rattle.cp_spelled.specs.FirstMisfit.{first_onto}
 use Rattle.cp_spelled.specs.Own.{value_of_item}
 use Rattle.cp_scope.specs.Places.{place_from}
@@ -82,3 +82,8 @@ module _ (s : Scope) (t : List ℕ) where
 
   pub value-found : (fs : List Form) (names : List (List ℕ)) (p : ℕ) → names ≡ map identifier_of fs → Some p ≡ place_from 0 names t → value_of_item s (item_at fs p) ≡ value_mapped s t fs
   value-found fs names p g e = ap (λ o. value_at o fs) (e ∙ ap (λ ns. place_from 0 ns t) g) ∙ sym (value-by fs)
+
+-- the terms of several identifiers
+pub each-value : (s : Scope) (maplets : List Form) (ds : List Declaration) → map (λ (d : Declaration). value_mapped s d.identifier maplets) (map (λ d. d) ds) ≡ values_mapped s maplets ds
+each-value s maplets [] = refl
+each-value s maplets (d ∷ ds) = ap (λ ts. value_mapped s d.identifier maplets ∷ ts) (each-value s maplets ds)

@@ -1,34 +1,25 @@
 // The first of the misfits met so far.
 ghost use Rattle.std.specs.Prelude.{◌≡◌, None, is_none};
-ghost use Rattle.cp_report.specs.Misfits.{misfit, misfit_unless, place_before};
+ghost use Rattle.cp_report.specs.Misfits.{misfit, misfit_unless};
 ghost use Rattle.cp_spelled.specs.FirstMisfit.{first_onto, merged, onto_none};
 
-use cp_base::Place;
+use cp_base::{Code, Place};
+use cp_scope::FirstFault;
 use std::marker::Model;
 
-/// The first of the misfits noted so far, if any.
+/// The first of the misfits noted so far, if any: the place of the first of as many faults of one kind.
 #[derive(Drop)]
 pub struct FirstMisfit {
-    found: Option<Place>,
+    first: FirstFault,
 }
 
 impl Model for FirstMisfit {
-    ghost use Rattle.std.specs.Prelude.{Option};
+    ghost use Rattle.std.specs.Prelude.{Option, option_map};
     ghost use Rattle.cp_base.specs.declared.place.Place.{Place as Where};
 
     ghost Value = { Option Where };
 
-    ghost view = { λ f. f.found };
-}
-
-/// Whether the first place comes before the second: by line, then by column.
-fn stands_before(first: Place, second: Place) -> bool
-    ensures { result ≡ place_before first second }
-{
-    if first.line != second.line {
-        return first.line < second.line;
-    }
-    first.col < second.col
+    ghost view = { λ f. option_map (λ r. r.place) f.first };
 }
 
 impl FirstMisfit {
@@ -36,57 +27,54 @@ impl FirstMisfit {
     pub fn new() -> FirstMisfit
         ensures { result ≡ None }
     {
-        FirstMisfit { found: None }
+        let first = FirstFault::new();
+        FirstMisfit { first }
     }
 
     /// The place of the first misfit, if there was one.
     pub fn found(self) -> Option<Place>
         ensures { result ≡ self }
     {
-        self.found
+        self.first.found().map(|fault| fault.place)
     }
 
     /// Whether there was no misfit yet.
+    #[tactic(auto, using(crate::proofs::PlacesOfFaults::none_noted))]
     pub fn is_none(&self) -> bool
         ensures { result ≡ is_none self.now }
     {
-        self.found.is_none()
+        self.first.is_none()
     }
 
     /// Notes a misfit.
+    #[tactic(auto, using(crate::proofs::PlacesOfFaults::noted))]
     pub fn note(&mut self, place: Place)
         ensures { self.new ≡ first_onto self.old (misfit place) }
     {
-        match self.found {
-            Some(first) if !stands_before(place, first) => {}
-            _ => self.found = Some(place),
-        }
+        self.first.note(place, Code::BadShape);
     }
 
     /// Notes a misfit if the test fails.
+    #[tactic(auto, using(crate::proofs::PlacesOfFaults::noted_unless))]
     pub fn note_unless(&mut self, holds: bool, place: Place)
         ensures { self.new ≡ first_onto self.old (misfit_unless holds place) }
     {
-        if !holds {
-            self.note(place);
-        }
+        self.first.note_unless(holds, place, Code::BadShape);
     }
 
     /// Notes a misfit if the test fails and there was no misfit yet.
+    #[tactic(auto, using(crate::proofs::PlacesOfFaults::noted_where_none))]
     pub fn note_unless_misfit(&mut self, holds: bool, place: Place)
         ensures { self.new ≡ onto_none self.old (misfit_unless holds place) }
     {
-        if self.is_none() {
-            self.note_unless(holds, place);
-        }
+        self.first.note_unless_faulty(holds, place, Code::BadShape);
     }
 
     /// Notes the first misfit of others.
+    #[tactic(auto, using(crate::proofs::PlacesOfFaults::noted_of_others))]
     pub fn merge(&mut self, others: FirstMisfit)
         ensures { self.new ≡ merged self.old others }
     {
-        if let Some(place) = others.found {
-            self.note(place);
-        }
+        self.first.merge(others.first);
     }
 }

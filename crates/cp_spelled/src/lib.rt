@@ -22,7 +22,7 @@ pub use entries::{
 };
 pub use first_misfit::FirstMisfit;
 pub use laws::first_misfit_is_found;
-pub use locals::{Locals, is_any, is_same_sort, local_by, local_misfits, locals_in, locals_of};
+pub use locals::{Locals, is_any, local_by, local_misfits, locals_in, locals_of};
 pub use maplets::{mapping_misfits, values_mapped};
 pub use misfits::{atom_misfits, term_misfits, value_misfits};
 pub use patterns::{pattern_misfits, pattern_of};

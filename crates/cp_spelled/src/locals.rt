@@ -1,6 +1,5 @@
 // Locals of patterns.
 ghost use Rattle.std.specs.Prelude.{◌≡◌, ◌++◌, ◌∷◌, [], map, IfOk, OnOk, if◌then◌else◌};
-ghost use Rattle.cp_model.specs.Same.{same_sort};
 ghost use Rattle.cp_sexpr.specs.View.{view};
 ghost use Rattle.cp_report.specs.Spelled.{is_any, local_with, local_by, local_of, local_at, locals_in, place_of_local, keeps_sort, has_local, locals_onto, clash_misfits, local_misfits};
 ghost use Rattle.cp_spelled.specs.FirstMisfit.{first_onto};
@@ -11,19 +10,12 @@ use crate::entries::{has_head, one_number_misfits, sort_or_none, sort_symbol_mis
 use crate::first_misfit::FirstMisfit;
 use cp_base::Place;
 use cp_report::LocalAt;
-use cp_scope::{Variable, items_behind, sort_word};
+use cp_scope::{Variable, is_same_sort, items_behind, sort_word};
 use cp_sexpr::Form;
 use cp_term::Sort;
 use std::alloc::{AllocError, Global};
 use std::collections::HashMap;
 use std::marker::Model;
-
-/// Whether the sorts are the same.
-pub fn is_same_sort(first: Sort, second: Sort) -> bool
-    ensures { result ≡ same_sort first second }
-{
-    first == second
-}
 
 /// A sort and a number must follow the head of a local.
 pub fn local_misfits(place: Place, items: &[Form], first: &mut FirstMisfit)

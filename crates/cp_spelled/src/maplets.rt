@@ -1,5 +1,5 @@
 // Maplets: where they do not fit, and the terms that they give.
-ghost use Rattle.std.specs.Prelude.{◌≡◌, ◌&&◌, ◌++◌, [], ◌∷◌, map, option_map, not, IfOk, OnOk};
+ghost use Rattle.std.specs.Prelude.{◌≡◌, ◌&&◌, [], ◌∷◌, map, option_map, not, IfOk, OnOk};
 ghost use Rattle.cp_sexpr.specs.View.{view};
 ghost use Rattle.cp_language.specs.Words.{is_one_of};
 ghost use Rattle.cp_language.specs.Terms.{variable_named};
@@ -196,11 +196,11 @@ pub fn values_mapped(
     ensures { IfOk result (λ v. v.items ≡ values_mapped (scope_view scope.entry) (map view maplets.now) wanted.now) }
 {
     let identifiers = identifiers_of(alloc, maplets)?;
-    let mut values = Vec::new(alloc);
-    for declaration in wanted {
-        let identifier = declaration.identifier.as_str();
-        let value = value_mapped(alloc, scope, maplets, &identifiers, identifier)?;
-        values.push(value)?;
-    }
-    Ok(values)
+    wanted
+        .iter()
+        .map(|declaration| {
+            let identifier = declaration.identifier.as_str();
+            value_mapped(alloc, scope, maplets, &identifiers, identifier)
+        })
+        .try_collect(alloc)
 }

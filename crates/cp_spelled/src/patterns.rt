@@ -44,8 +44,7 @@ pub fn pattern_misfits(
 ) -> Result<(), AllocError>
     ensures { OnOk result (first.new ≡ first_onto first.old (pattern_misfits variables.now (view form.now))) }
 {
-    let _locals = misfits_and_locals(alloc, variables, form, first)?;
-    Ok(())
+    misfits_and_locals(alloc, variables, form, first).map(|_locals| ())
 }
 
 /// The locals with the numbers that follow those of so many variables.
@@ -67,27 +66,6 @@ fn variables_of_locals(
     Ok(found)
 }
 
-/// The pattern that a form is. The form must be a pattern and have these locals.
-fn pattern_with(
-    alloc: Global,
-    variables: &Variables,
-    locals: &Locals,
-    form: &Form,
-) -> Result<Pattern, AllocError>
-    requires { (pattern_misfits variables.now (view form.now) ≡ [])
-        × (locals.now ≡ (pattern_scope variables.now (view form.now)).locals) }
-    ensures { IfOk result (λ p. p ≡ pattern_of variables.now (view form.now)) }
-{
-    let scope = Scope {
-        variables,
-        in_pattern: true,
-        locals,
-    };
-    let term = term_in(alloc, scope, form)?;
-    let found = variables_of_locals(alloc, variables.len(), locals.as_slice())?;
-    Ok(Pattern::new(term, found))
-}
-
 /// The pattern that a form is, or `None` if it is none.
 pub fn pattern_of(
     alloc: Global,
@@ -102,6 +80,12 @@ pub fn pattern_of(
     if !first.is_none() {
         return Ok(None);
     }
-    let pattern = pattern_with(alloc, variables, &locals, form)?;
-    Ok(Some(pattern))
+    let scope = Scope {
+        variables,
+        in_pattern: true,
+        locals: &locals,
+    };
+    let term = term_in(alloc, scope, form)?;
+    let found = variables_of_locals(alloc, variables.len(), locals.as_slice())?;
+    Ok(Some(Pattern::new(term, found)))
 }

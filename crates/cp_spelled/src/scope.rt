@@ -9,8 +9,10 @@ ghost use Rattle.cp_report.specs.Heads.{forms_after_head};
 ghost use Rattle.cp_report.specs.Spelled.{is_local, local_by, variable_of_local, variable_in, sort_of_head, sort_by_shape, sort_in, is_found_of_sort};
 ghost use Rattle.cp_spelled.specs.Views.{scope_view};
 
-use crate::{Locals, Variables, is_any, is_same_sort, local_by};
-use cp_scope::{TermHead, TermSort, Variable, headed, is_word, items_behind, symbol, term_head};
+use crate::{Locals, Variables, is_any, local_by};
+use cp_scope::{
+    TermHead, TermSort, Variable, headed, is_same_sort, is_word, items_behind, symbol, term_head,
+};
 use cp_sexpr::Form;
 use cp_term::Sort;
 

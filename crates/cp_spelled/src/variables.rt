@@ -188,9 +188,8 @@ pub fn second(items: &[Form]) -> Option<&Form>
 fn declaration_of(alloc: Global, form: &Form) -> Result<Declaration, AllocError>
     ensures { IfOk result (λ d. d ≡ declaration_of (view form.now)) }
 {
-    let identifier = identifier_of(alloc, form)?;
     let sort = sort_or_text(sort_named(second(list_items(form))));
-    Ok(Declaration { identifier, sort })
+    identifier_of(alloc, form).map(|identifier| Declaration { identifier, sort })
 }
 
 /// The variables that entries of a label form declare. Notes where the entries do not fit.

@@ -1,9 +1,11 @@
 -- The first two entries of a list, and items of label forms.
-use Rattle.std.proofs.Common.{◌≡◌, List, [], ◌∷◌, ◌++◌, ℕ, ◌||◌, Bool, true, false, refl, sym, ap, ◌∙◌, if◌then◌else◌}
+use Rattle.std.proofs.Common.{◌≡◌, List, [], ◌∷◌, ◌++◌, ℕ, ◌||◌, Bool, true, false, refl, sym, ap, ◌∙◌, if◌then◌else◌, length, map, arith}
 use Rattle.std.specs.Prelude.{Option, Some, None}
 use Rattle.cp_base.specs.declared.place.Place.{Place}
 use Rattle.cp_lists.specs.Lists.{item_at}
 use Rattle.cp_sexpr.specs.Syntax.{Form}
+use Rattle.cp_sexpr.specs.View.{view}
+use Rattle.cp_sexpr.specs.declared.form.Form as program
 use Rattle.cp_language.specs.Faults.{place_of}
 use Rattle.cp_model.specs.Same.{same_text}
 use Rattle.cp_language.specs.Roles.{Headed, headed}
@@ -30,6 +32,11 @@ item-asked inside f found at es o p is e g h =
 
 pub item-missing : (inside : Place → List Form → List Place) (found : Option Form) (o : Option Place) → None ≡ found → o ≡ first_onto o (optional_misfits inside found)
 item-missing inside found o is = ap (λ x. first_onto o (optional_misfits inside x)) is
+
+-- no entries
+pub no-entries : (fs : List program.Form) → length fs ≡ 0 → map view fs ≡ []
+no-entries [] e = refl
+no-entries (f ∷ fs) e = absurd (omega (arith, e))
 
 -- an entry at least, and what is asked of all
 pub all-asked : (inside : List Form → List Place) (f : Form) (found : Option Form) (at : Place) (es : List Form) (o p q : Option Place) → Some f ≡ found → at ≡ place_of f → es ≡ forms_after_head f

@@ -11,7 +11,7 @@ use Rattle.cp_report.specs.Misfits.{entries_misfits, list_misfits}
 use Rattle.cp_report.specs.Heads.{forms_after_head, entries_or_none, optional_misfits}
 use Rattle.cp_report.specs.Spelled.{Scope}
 use Rattle.cp_report.specs.Skeletons.{strand_number_misfits, mapping_misfits, map_misfits, problem_variables, strands_mapped}
-use Rattle.cp_stated.proofs.NoMisfits.{holds}
+use Rattle.cp_report.proofs.NoMisfits.{holds}
 
 module _ (strands : List SkeletonStrand) where
   below : (f : Form) → strand_number_misfits strands f ≡ [] → number_of f < length strands

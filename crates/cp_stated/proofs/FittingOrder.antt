@@ -17,7 +17,7 @@ use Rattle.cp_report.specs.Misfits.{misfit_unless, list_misfits, entries_misfits
 use Rattle.cp_report.specs.Heads.{forms_after_head, entries_or_none, optional_misfits}
 use Rattle.cp_report.specs.Skeletons.{node_misfits, has_pair, is_further_pair, pair_stated, pair_misfits, pairs_misfits, precedes_misfits, is_in_order}
 use Rattle.cp_language.proofs.Bodies.{IsNextPair, AreBuilt, built_behind, is_sent, is_received, differ}
-use Rattle.cp_stated.proofs.NoMisfits.{none_of_unless, holds}
+use Rattle.cp_report.proofs.NoMisfits.{none_of_unless, holds}
 
 module _ (strands : List SkeletonStrand) where
   -- the five tests of a pair

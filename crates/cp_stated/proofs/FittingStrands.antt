@@ -16,7 +16,7 @@ use Rattle.cp_report.specs.Heads.{forms_after_head, items_with, strand_heads}
 use Rattle.cp_report.specs.Spelled.{Scope, term_misfits}
 use Rattle.cp_report.specs.Skeletons.{scope_of, term_or_tag, height_misfits, prefix_misfits, instance_misfits, strand_misfits, states_instance, instance_with, instance_of_entries, strand_of, strands_of_label, strands_misfits}
 use Rattle.cp_language.proofs.Strands.{role_listed, height_there}
-use Rattle.cp_stated.proofs.NoMisfits.{none_of_unless, holds, none_of_each}
+use Rattle.cp_report.proofs.NoMisfits.{none_of_unless, holds, none_of_each}
 
 -- The role is one of these, and has this height.
 pub record IsOf (roles : List Role) (role : Role) (height : ℕ) : Type 0 where

@@ -22,7 +22,7 @@ use Rattle.cp_report.specs.Misfits.{misfit_unless, unless_misfit, list_misfits, 
 use Rattle.cp_report.specs.Heads.{forms_after_head, entries_or_none, place_or, optional_misfits}
 use Rattle.cp_report.specs.Spelled.{Scope, atom_misfits}
 use Rattle.cp_report.specs.Skeletons.{node_misfits, has_atoms, has_uniques, assumption_misfits, carries_value, is_instance_there, may_be_origin, unique_of, second_place, unique_misfits, uniques_misfits}
-use Rattle.cp_stated.proofs.NoMisfits.{none_of_unless, holds}
+use Rattle.cp_report.proofs.NoMisfits.{none_of_unless, holds}
 
 -- ---- what is given
 

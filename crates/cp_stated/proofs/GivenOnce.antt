@@ -3,13 +3,14 @@
 use Rattle.std.proofs.Common.{◌≡◌, ℕ, List, [], ◌∷◌, ◌++◌, Bool, true, map, refl, sym, ap, ◌∙◌, ⊎_elim}
 use Rattle.std.specs.Prelude.{Option, Some, None, codes}
 use Rattle.std.proofs.lemmas.Bool.Decides.{same_from_decides}
+use Rattle.cp_lists.specs.Lists.{IsIn}
 use Rattle.cp_base.specs.declared.place.Place.{Place}
 use Rattle.cp_model.specs.Term.{AtomTerm, Term}
 use Rattle.cp_model.specs.declared.variable.Declaration.{Declaration}
 use Rattle.cp_model.specs.Skeleton.{SkeletonStrand, UniqueAt, Assumptions, FromProblem, skeleton_of}
 use Rattle.cp_model.specs.declared.node.OrderPair.{OrderPair}
 use Rattle.cp_model.specs.Given.{atoms_onto, uniques_onto, given_non, given_penetrator_non, given_uniques}
-use Rattle.cp_model.proofs.Gathered.{atoms, uniques, onto-takes, onto-only}
+use Rattle.cp_model.proofs.Gathered.{IsGathering, atoms, uniques, onto-takes, onto-only}
 use Rattle.cp_sexpr.specs.Syntax.{Form}
 use Rattle.cp_language.specs.Faults.{place_of}
 use Rattle.cp_language.specs.Problems.{Problem}
@@ -26,21 +27,21 @@ use Rattle.cp_stated.specs.AssumptionEntries.{assumptions_misfits, uniques_item_
 use Rattle.cp_stated.specs.ProblemMap.{map_misfits_to, values_by, from_problem_to}
 use Rattle.cp_stated.proofs.FittingValues.{given_atoms, given_there}
 
-pub atoms-once : (vs ws : List AtomTerm) → has_atoms vs (atoms_onto [] ws) ≡ has_atoms vs ws
-atoms-once vs ws =
-    same_from_decides {P = has_atoms vs ws ≡ true} (has_atoms vs (atoms_onto [] ws)) (has_atoms vs ws) (
-      λ e. all_atoms vs ws (λ v m. given_atoms vs (atoms_onto [] ws) e v (onto-takes atoms [] ws v m)),
-      λ e. all_atoms vs (atoms_onto [] ws) (λ v m. ⊎_elim (λ n. elim n [ ]) (given_atoms vs ws e v) (onto-only atoms [] ws v m)),
+-- A test of all items of a list answers the same where each stands once.
+same-once : {A : Type 0} {has : List A → A → Bool} {onto : List A → List A → List A} (g : IsGathering has onto) (all : List A → Bool) (P : A → Type 0) → ((xs : List A) → all xs ≡ true → (v : A) → IsIn v xs → P v)
+    → ((xs : List A) → ((v : A) → IsIn v xs → P v) → all xs ≡ true) → (xs : List A) → all (onto [] xs) ≡ all xs
+same-once {onto = onto} g all P each from xs =
+    same_from_decides {P = all xs ≡ true} (all (onto [] xs)) (all xs) (
+      λ e. from xs (λ v m. each (onto [] xs) e v (onto-takes g [] xs v m)),
+      λ e. from (onto [] xs) (λ v m. ⊎_elim (λ n. elim n [ ]) (each xs e v) (onto-only g [] xs v m)),
     )
     (λ e. e, λ e. e)
 
-pub uniques-once : (us ws : List UniqueAt) → has_uniques us (uniques_onto [] ws) ≡ has_uniques us ws
-uniques-once us ws =
-    same_from_decides {P = has_uniques us ws ≡ true} (has_uniques us (uniques_onto [] ws)) (has_uniques us ws) (
-      λ e. all_uniques us ws (λ u m. given_there us (uniques_onto [] ws) e u (onto-takes uniques [] ws u m)),
-      λ e. all_uniques us (uniques_onto [] ws) (λ u m. ⊎_elim (λ n. elim n [ ]) (given_there us ws e u) (onto-only uniques [] ws u m)),
-    )
-    (λ e. e, λ e. e)
+atoms-once : (vs ws : List AtomTerm) → has_atoms vs (atoms_onto [] ws) ≡ has_atoms vs ws
+atoms-once vs ws = same-once atoms (has_atoms vs) (λ v. IsIn v vs) (given_atoms vs) (all_atoms vs) ws
+
+uniques-once : (us ws : List UniqueAt) → has_uniques us (uniques_onto [] ws) ≡ has_uniques us ws
+uniques-once us ws = same-once uniques (has_uniques us) (λ u. IsIn u us) (given_there us) (all_uniques us) ws
 
 pub values-once : (at : Place) (word : List ℕ) (items : List Form) (given ws : List AtomTerm) → given ≡ atoms_onto [] ws → values_misfits at word given items ≡ values_misfits at word ws items
 values-once at word items given ws e =

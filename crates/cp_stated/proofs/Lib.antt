@@ -1,4 +1,3 @@
-pub mod NoMisfits
 pub mod FittingStrands
 pub mod FittingOrder
 pub mod FittingValues

@@ -23,7 +23,7 @@ use Rattle.cp_language.proofs.Atoms.{given_there, non_given, penetrator_non_give
 use Rattle.cp_language.proofs.Uniques as wellformed
 use Rattle.cp_language.proofs.NoCycle.{no_cycle, are_pairs}
 use Rattle.cp_language.proofs.Bodies.{AreBuilt}
-use Rattle.cp_stated.proofs.NoMisfits.{none_in_five}
+use Rattle.cp_report.proofs.NoMisfits.{none_in_five}
 use Rattle.cp_stated.proofs.FittingStrands.{strands_are_of}
 use Rattle.cp_stated.proofs.FittingOrder.{order_built, in_order}
 use Rattle.cp_stated.proofs.FittingValues as values

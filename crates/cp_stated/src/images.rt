@@ -55,14 +55,11 @@ fn values_among(
 ) -> Result<Vec<Atom>, AllocError>
     ensures { IfOk result (λ v. v.items ≡ filter (has_atom listed.now) (map (apply_to_atom (substitution_by values.now)) own.now)) }
 {
-    let mut images = Vec::new(alloc);
-    for value in own {
-        let image = applied_atom(alloc, values, value)?;
-        if !has_atom(listed, &image) {
-            continue;
-        }
-        images.push(image)?;
-    }
+    let mut images: Vec<Atom> = own
+        .iter()
+        .map(|value| applied_atom(alloc, values, value))
+        .try_collect(alloc)?;
+    images.retain(|image| has_atom(listed, image));
     Ok(images)
 }
 
@@ -75,8 +72,8 @@ fn unique_image(
 ) -> Result<UniqueAt, AllocError>
     ensures { IfOk result (λ u. u ≡ unique_image (map_by strands.now values.now) unique.now) }
 {
-    let value = applied_atom(alloc, values, unique.value())?;
-    Ok(UniqueAt::new(value, node_image(strands, unique.origin())))
+    let origin = node_image(strands, unique.origin());
+    applied_atom(alloc, values, unique.value()).map(|value| UniqueAt::new(value, origin))
 }
 
 /// The images of these unique values that are listed.
@@ -89,14 +86,11 @@ fn uniques_among(
 ) -> Result<Vec<UniqueAt>, AllocError>
     ensures { IfOk result (λ v. v.items ≡ filter (has_unique listed.now) (map (unique_image (map_by strands.now values.now)) own.now)) }
 {
-    let mut images = Vec::new(alloc);
-    for unique in own {
-        let image = unique_image(alloc, strands, values, unique)?;
-        if !has_unique(listed, &image) {
-            continue;
-        }
-        images.push(image)?;
-    }
+    let mut images: Vec<UniqueAt> = own
+        .iter()
+        .map(|unique| unique_image(alloc, strands, values, unique))
+        .try_collect(alloc)?;
+    images.retain(|image| has_unique(listed, image));
     Ok(images)
 }
 
@@ -147,8 +141,7 @@ fn is_in_order(
     if !is_there(strands, pair.later) {
         return Ok(false);
     }
-    let leading = Predecessors::new(alloc, pairs, pair.later)?;
-    Ok(leading.has(pair.earlier))
+    Predecessors::new(alloc, pairs, pair.later).map(|leading| leading.has(pair.earlier))
 }
 
 /// The images of these pairs, under the map to these strands and values, that are in the order of the label.

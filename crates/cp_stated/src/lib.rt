@@ -27,4 +27,4 @@ pub use nodes::{is_there, node_misfits, node_or_first, two_numbers_misfits};
 pub use problem_map::strand_number_misfits;
 pub use skeleton_items::around_strands_misfits;
 pub use skeletons::skeleton_stated;
-pub use stated_strands::{number_of, strands_of};
+pub use stated_strands::{number_of, numbers_of, strands_of};

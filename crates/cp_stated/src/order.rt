@@ -1,6 +1,5 @@
 // The order that a label form states.
 ghost use Rattle.std.specs.Prelude.{◌≡◌, ◌++◌, ◌∷◌, [], map, codes, Some, None, IfOk, OnOk};
-ghost use Rattle.cp_model.specs.Same.{same_node};
 ghost use Rattle.cp_sexpr.specs.View.{view};
 ghost use Rattle.cp_language.specs.Problems.{pair_of, between_strands};
 ghost use Rattle.cp_load.specs.Acyclic.{IsAcyclicIf};
@@ -18,23 +17,16 @@ use cp_load::{
 };
 use cp_scope::{item_at, items_behind, list_items, place_of};
 use cp_sexpr::Form;
-use cp_skel::{Node, OrderPair, Strand};
+use cp_skel::{OrderPair, Strand};
 use cp_spelled::{FirstMisfit, entries_under, lacking};
 use std::alloc::{AllocError, Global};
-
-/// Whether the two nodes are the same.
-fn is_same_node(node: Node, other: Node) -> bool
-    ensures { result ≡ same_node node other }
-{
-    node.strand == other.strand && node.index == other.index
-}
 
 /// Whether a pair is one of these.
 fn has_pair(pairs: &[OrderPair], pair: OrderPair) -> bool
     ensures { result ≡ has_pair pairs.now pair }
 {
     for other in pairs {
-        if is_same_node(other.earlier, pair.earlier) && is_same_node(other.later, pair.later) {
+        if *other == pair {
             return true;
         }
     }
@@ -67,8 +59,7 @@ fn is_further(alloc: Global, before: Before<'_>, pair: OrderPair) -> Result<bool
     if has_pair(before.pairs, pair) {
         return Ok(false);
     }
-    let closes = closes_cycle(alloc, before.pairs, before.acyclic, pair)?;
-    Ok(!closes)
+    closes_cycle(alloc, before.pairs, before.acyclic, pair).map(|closes| !closes)
 }
 
 /// The pair that a form states, if it states one.
@@ -159,21 +150,8 @@ fn pairs_misfits(
     Ok(())
 }
 
-/// The entries of an order must be pairs, at least one.
-fn precedes_misfits(
-    alloc: Global,
-    strands: &[Strand],
-    place: Place,
-    items: &[Form],
-    first: &mut FirstMisfit,
-) -> Result<(), AllocError>
-    ensures { OnOk result (first.new ≡ first_onto first.old (precedes_misfits strands.now place (map view items.now))) }
-{
-    lacking(1, place, items, first);
-    pairs_misfits(alloc, strands, items, first)
-}
-
-/// Notes where the order among these items of a label form, if there is one, does not fit.
+/// Notes where the order among these items of a label form, if there is one, does not fit: its entries must be pairs, at
+/// least one.
 pub(crate) fn order_misfits(
     alloc: Global,
     strands: &[Strand],
@@ -183,10 +161,12 @@ pub(crate) fn order_misfits(
     ensures { OnOk result (first.new ≡ first_onto first.old (optional_misfits (precedes_misfits strands.now)
         (item_with (codes "precedes" ∷ []) (map view items.now)))) }
 {
-    match item_with(items, b"precedes") {
-        Some(item) => precedes_misfits(alloc, strands, place_of(item), items_behind(item), first),
-        None => Ok(()),
-    }
+    let Some(item) = item_with(items, b"precedes") else {
+        return Ok(());
+    };
+    let entries = items_behind(item);
+    lacking(1, place_of(item), entries, first);
+    pairs_misfits(alloc, strands, entries, first)
 }
 
 /// The pairs that these items of a label form state.

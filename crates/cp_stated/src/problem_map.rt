@@ -9,7 +9,7 @@ ghost use Rattle.cp_spelled.specs.Views.{scope_view};
 ghost use Rattle.cp_stated.specs.ProblemMap.{strands_of_problem_misfits, map_misfits_to, values_by};
 
 use crate::heads::item_with;
-use crate::stated_strands::number_of;
+use crate::stated_strands::numbers_of;
 use cp_base::Place;
 use cp_scope::{items_behind, list_items, place_of};
 use cp_sexpr::Form;
@@ -81,26 +81,8 @@ pub(crate) struct Ends<'a> {
     pub(crate) scope: Scope<'a>,
 }
 
-/// The head of a map must be followed by a strand for each of the problem's, and a maplet for each of its variables.
-fn map_entries_misfits(
-    alloc: Global,
-    ends: Ends<'_>,
-    place: Place,
-    items: &[Form],
-    first: &mut FirstMisfit,
-) -> Result<(), AllocError>
-    ensures { OnOk result (first.new ≡ first_onto first.old (map_misfits_to ends.entry.problem.now ends.entry.names.now
-        (scope_view ends.entry.scope) ends.entry.strands.now place (map view items.now))) }
-{
-    let Some((numbers, maplets)) = items.split_first() else {
-        first.note(place);
-        return Ok(());
-    };
-    strands_mapped_misfits(ends.problem, ends.strands, numbers, first);
-    mapping_misfits(alloc, ends.scope, ends.names, place, maplets, first)
-}
-
-/// Notes where the map among these items of a label form, if there is one, does not fit.
+/// Notes where the map among these items of a label form, if there is one, does not fit. Its head must be followed by a
+/// strand for each of the problem's, and a maplet for each of its variables.
 pub(crate) fn map_misfits(
     alloc: Global,
     ends: Ends<'_>,
@@ -110,25 +92,26 @@ pub(crate) fn map_misfits(
     ensures { OnOk result (first.new ≡ first_onto first.old (optional_misfits (map_misfits_to ends.entry.problem.now ends.entry.names.now
         (scope_view ends.entry.scope) ends.entry.strands.now) (item_with (codes "map" ∷ []) (map view items.now)))) }
 {
-    match item_with(items, b"map") {
-        Some(item) => map_entries_misfits(alloc, ends, place_of(item), items_behind(item), first),
-        None => Ok(()),
-    }
+    let Some(item) = item_with(items, b"map") else {
+        return Ok(());
+    };
+    let place = place_of(item);
+    let Some((numbers, maplets)) = items_behind(item).split_first() else {
+        first.note(place);
+        return Ok(());
+    };
+    strands_mapped_misfits(ends.problem, ends.strands, numbers, first);
+    mapping_misfits(alloc, ends.scope, ends.names, place, maplets, first)
 }
 
 /// The strands that the entries of a map state.
 pub(crate) fn strands_mapped(alloc: Global, entries: &[Form]) -> Result<Vec<usize>, AllocError>
     ensures { IfOk result (λ v. v.items ≡ strands_mapped (map view entries.now)) }
 {
-    let mut numbers = Vec::new(alloc);
-    let Some((strands, _)) = entries.split_first() else {
-        return Ok(numbers);
-    };
-    let forms = list_items(strands);
-    for form in forms {
-        numbers.push(number_of(form))?;
+    match entries {
+        [] => Ok(Vec::new(alloc)),
+        [strands, ..] => numbers_of(alloc, list_items(strands)),
     }
-    Ok(numbers)
 }
 
 /// The terms that the entries of a map give to the problem's variables, which have these names in a report.

@@ -29,6 +29,13 @@ pub fn number_of(form: &Form) -> usize
     }
 }
 
+/// The numbers that forms are; 0 for a form that is none.
+pub fn numbers_of(alloc: Global, items: &[Form]) -> Result<Vec<usize>, AllocError>
+    ensures { IfOk result (λ v. v.items ≡ map number_of (map view items.now)) }
+{
+    items.iter().map(|item| number_of(item)).collect(alloc)
+}
+
 /// Placeholder for a strand that does not fit.
 fn no_strand(alloc: Global) -> Result<Strand, AllocError>
     ensures { IfOk result (λ s. s ≡ listener (tag_term [])) }

@@ -111,8 +111,8 @@ fn unique_of(alloc: Global, scope: Scope<'_>, form: &Form) -> Result<UniqueAt, A
     ensures { IfOk result (λ u. u ≡ unique_of (scope_view scope.entry) (view form.now)) }
 {
     let items = list_items(form);
-    let value = atom_if_there(alloc, scope, item_at(items, 0))?;
-    Ok(UniqueAt::new(value, node_or_first(item_at(items, 1))))
+    let origin = node_or_first(item_at(items, 1));
+    atom_if_there(alloc, scope, item_at(items, 0)).map(|value| UniqueAt::new(value, origin))
 }
 
 /// The place of the second entry of a list; of a form without one its own place.
@@ -246,11 +246,9 @@ pub(crate) fn uniques_under(
     requires { scope_view scope ≡ scope_of (map view items.now) }
     ensures { IfOk result (λ v. v.items ≡ uniques_under (map view items.now)) }
 {
-    let mut uniques = Vec::new(alloc);
     let entries = entries_under(items, b"uniq-orig");
-    for item in entries {
-        let unique = unique_of(alloc, scope, item)?;
-        uniques.push(unique)?;
-    }
-    Ok(uniques)
+    entries
+        .iter()
+        .map(|item| unique_of(alloc, scope, item))
+        .try_collect(alloc)
 }

@@ -124,11 +124,9 @@ pub(crate) fn atoms_under(
     requires { scope_view scope ≡ scope_of (map view items.now) }
     ensures { IfOk result (λ v. v.items ≡ atoms_under word.now (map view items.now)) }
 {
-    let mut values = Vec::new(alloc);
     let entries = entries_under(items, word);
-    for item in entries {
-        let value = atom_in(alloc, scope, item)?;
-        values.push(value)?;
-    }
-    Ok(values)
+    entries
+        .iter()
+        .map(|item| atom_in(alloc, scope, item))
+        .try_collect(alloc)
 }

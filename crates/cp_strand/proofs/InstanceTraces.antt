@@ -1,7 +1,6 @@
 -- The events of instances, by the terms of the program's lists.
-use Rattle.std.proofs.Common.{◌≡◌, ◌<◌, ◌≤◌, ℕ, zero, suc, List, [], ◌∷◌, ◌++◌, Some, map, take, drop, length, ap, refl, sym, ◌∙◌}
+use Rattle.std.proofs.Common.{◌≡◌, ◌<◌, ℕ, zero, suc, List, [], ◌∷◌, Some, map, take, ap, refl, sym, ◌∙◌}
 use Rattle.std.specs.Prelude.{None}
-use Rattle.std.proofs.lemmas.List.{drop_all, append-nil}
 use Rattle.cp_lists.specs.Lists.{item_at}
 use Rattle.cp_lists.proofs.Items.{take_of_item, map_of_item}
 use Rattle.cp_model.specs.Term.{Term, Substitution, apply_to}
@@ -39,10 +38,7 @@ pub no_instance_event : (i : InstanceData) (es : List (Event Term)) (n : ℕ) �
 no_instance_event i es n own none =
     none_of_map (event_map (apply_to (substitution_by i.values))) i.role.trace i.height n (none ∙ ap (λ xs. item_at xs n) own) ∙ ap (λ xs. item_at xs n) (sym (instance_trace i))
 
--- Once none of the prefix is left, the events that were made are those of the instance.
-pub all_instance_events : (i : InstanceData) (es made : List (Event Term)) (n : ℕ) → es ≡ prefix_of i.role i.height → length es ≤ n →
-    made ++ map (event_map (apply_to (substitution_by i.values))) (drop n es) ≡ map (event_map (apply_to (substitution_by i.values))) es → made ≡ skeleton_trace (instance_view i)
-all_instance_events i es made n own left all =
-    let rest : drop n es ≡ [] = drop_all n es left in
-    sym (append-nil made) ∙ ap (λ xs. made ++ map (event_map (apply_to (substitution_by i.values))) xs) (sym rest) ∙ all
-    ∙ ap (map (event_map (apply_to (substitution_by i.values)))) own ∙ sym (instance_trace i)
+-- The events of the prefix under its terms are those of the instance.
+pub all_instance_events : (i : InstanceData) (es made : List (Event Term)) → es ≡ prefix_of i.role i.height →
+    made ≡ map (event_map (apply_to (substitution_by i.values))) es → made ≡ skeleton_trace (instance_view i)
+all_instance_events i es made own all = all ∙ ap (map (event_map (apply_to (substitution_by i.values)))) own ∙ sym (instance_trace i)

@@ -9,11 +9,7 @@ use std::alloc::{AllocError, Global};
 pub fn copy_terms(alloc: Global, terms: &[Term]) -> Result<Vec<Term>, AllocError>
     ensures { IfOk result (λ v. v.items ≡ terms.now) }
 {
-    let mut copies = Vec::with_capacity(alloc, terms.len())?;
-    for term in terms {
-        copies.push(term.copy()?)?;
-    }
-    Ok(copies)
+    terms.iter().map(|term| term.copy()).try_collect(alloc)
 }
 
 /// Copies of these atoms.

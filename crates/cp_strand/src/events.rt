@@ -1,5 +1,5 @@
 // Terms and events of instances.
-ghost use Rattle.std.specs.Prelude.{◌≡◌, option_map, IfOk, IfSome};
+ghost use Rattle.std.specs.Prelude.{◌≡◌, IfOk, IfSome};
 ghost use Rattle.cp_lists.specs.Lists.{item_at};
 ghost use Rattle.cp_model.specs.Term.{apply_to, apply_to_atom};
 ghost use Rattle.cp_model.specs.Strand.{event_map};
@@ -12,6 +12,7 @@ use crate::prefix_variables::prefix_of;
 use crate::protocol::Event;
 use crate::strand::{Body, Instance, Strand};
 use crate::values::ByNumber;
+use cp_model::item_at;
 use cp_term::{Term, substituted};
 use std::alloc::{AllocError, Global};
 
@@ -38,16 +39,9 @@ fn applied_event(alloc: Global, values: &[Term], event: &Event) -> Result<Event,
     ensures { IfOk result (λ e. e ≡ event_map (apply_to (substitution_by values.now)) event.now) }
 {
     match event {
-        Event::Send(message) => Ok(Event::Send(applied(alloc, values, message)?)),
-        Event::Receive(message) => Ok(Event::Receive(applied(alloc, values, message)?)),
+        Event::Send(message) => applied(alloc, values, message).map(Event::Send),
+        Event::Receive(message) => applied(alloc, values, message).map(Event::Receive),
     }
-}
-
-/// The event at an index, from 0.
-pub(crate) fn event_at(events: &[Event], place: usize) -> Option<&Event>
-    ensures { option_map (λ e. e.now) result ≡ item_at events.now place }
-{
-    events.get(place)
 }
 
 /// The event at an index of an instance, from 0.
@@ -61,8 +55,8 @@ fn instance_event(
     if index >= instance.height() {
         return Ok(None);
     }
-    match event_at(instance.role().trace(), index) {
-        Some(event) => Ok(Some(applied_event(alloc, instance.values(), event)?)),
+    match item_at(instance.role().trace(), index) {
+        Some(event) => applied_event(alloc, instance.values(), event).map(Some),
         None => Ok(None),
     }
 }
@@ -71,12 +65,11 @@ fn instance_event(
 fn instance_events(alloc: Global, instance: &Instance) -> Result<Vec<Event>, AllocError>
     ensures { IfOk result (λ es. es.items ≡ skeleton_trace (instance_view instance.now)) }
 {
-    let events = prefix_of(instance.role(), instance.height());
-    let mut applied = Vec::with_capacity(alloc, events.len())?;
-    for event in events {
-        applied.push(applied_event(alloc, instance.values(), event)?)?;
-    }
-    Ok(applied)
+    let values = instance.values();
+    prefix_of(instance.role(), instance.height())
+        .iter()
+        .map(|event| applied_event(alloc, values, event))
+        .try_collect(alloc)
 }
 
 /// The events that a strand keeps for an instance: all of them if its role is small, otherwise none, since the events
@@ -90,7 +83,7 @@ pub(crate) fn held_events(
     if !instance.role().is_small() {
         return Ok(None);
     }
-    Ok(Some(instance_events(alloc, instance)?))
+    instance_events(alloc, instance).map(Some)
 }
 
 /// A copy of the event.
@@ -98,8 +91,8 @@ fn copy_of(event: &Event) -> Result<Event, AllocError>
     ensures { IfOk result (λ e. e ≡ event.now) }
 {
     match event {
-        Event::Send(message) => Ok(Event::Send(message.copy()?)),
-        Event::Receive(message) => Ok(Event::Receive(message.copy()?)),
+        Event::Send(message) => message.copy().map(Event::Send),
+        Event::Receive(message) => message.copy().map(Event::Receive),
     }
 }
 
@@ -107,8 +100,8 @@ fn copy_of(event: &Event) -> Result<Event, AllocError>
 fn copy_at(events: &[Event], index: usize) -> Result<Option<Event>, AllocError>
     ensures { IfOk result (λ e. e ≡ item_at events.now index) }
 {
-    match event_at(events, index) {
-        Some(event) => Ok(Some(copy_of(event)?)),
+    match item_at(events, index) {
+        Some(event) => copy_of(event).map(Some),
         None => Ok(None),
     }
 }
@@ -118,8 +111,8 @@ fn listener_event(message: &Term, index: usize) -> Result<Option<Event>, AllocEr
     ensures { IfOk result (λ e. e ≡ item_at (skeleton_trace (listener message.now)) index) }
 {
     match index {
-        0 => Ok(Some(Event::Receive(message.copy()?))),
-        1 => Ok(Some(Event::Send(message.copy()?))),
+        0 => message.copy().map(|message| Some(Event::Receive(message))),
+        1 => message.copy().map(|message| Some(Event::Send(message))),
         _ => Ok(None),
     }
 }

@@ -8,7 +8,7 @@ ghost use Rattle.cp_strand.specs.Valued.{term_or, valued};
 use crate::prefix_variables::{is_added, prefix_of};
 use crate::protocol::Role;
 use crate::strand::Instance;
-use crate::values::value_at;
+use cp_model::item_at;
 use cp_term::{Sort, Term, VarId, var};
 use std::alloc::{AllocError, Global};
 use std::rc::Rc;
@@ -49,10 +49,10 @@ fn terms_of(
     for (number, declaration) in role.variables().iter().enumerate() {
         let id = VarId::numbered(number);
         if !is_added(earlier, prefix, id, declaration.sort) {
-            terms.push(term_or_variable(alloc, value_at(old, number), id, declaration.sort)?)?;
+            terms.push(term_or_variable(alloc, item_at(old, number), id, declaration.sort)?)?;
             continue;
         }
-        terms.push(term_or_variable(alloc, value_at(values, next), id, declaration.sort)?)?;
+        terms.push(term_or_variable(alloc, item_at(values, next), id, declaration.sort)?)?;
         next += 1;
     }
     Ok(terms)
@@ -75,6 +75,5 @@ pub fn instance_of(
         old.now 0 role.now.value.variables values.now) }
 {
     let values = terms_of(alloc, role, before, height, old, values)?;
-    let role = role.clone()?;
-    Ok(Instance::new(role, height, values))
+    role.clone().map(|role| Instance::new(role, height, values))
 }

@@ -21,18 +21,11 @@ pub fn prefix_of(role: &Role, height: usize) -> &[Event]
     prefix
 }
 
-/// Whether the sorts are the same.
-fn is_same_sort(first: Sort, second: Sort) -> bool
-    ensures { result ≡ same_sort first second }
-{
-    first == second
-}
-
 /// Whether one variable is the other.
 fn is_variable(id: VarId, sort: Sort, other: VarId, other_sort: Sort) -> bool
     ensures { result ≡ (same_sort sort other_sort && (id == other)) }
 {
-    is_same_sort(sort, other_sort) && id == other
+    sort == other_sort && id == other
 }
 
 /// Whether the variable occurs in the term.

@@ -6,10 +6,10 @@ ghost use Rattle.cp_model.specs.Homomorphism.{substitution_by};
 ghost use Rattle.cp_strand.specs.View.{instance_view};
 ghost use Rattle.cp_strand.specs.Origins.{IsCarriedByOne, OriginatesUnder};
 
-use crate::events::event_at;
 use crate::protocol::Event;
 use crate::strand::{Instance, Strand, StrandShape};
 use crate::terms_under::carries_under;
+use cp_model::item_at;
 use cp_term::{Term, carries};
 
 /// The index among events at which a term originates, if it does.
@@ -44,7 +44,7 @@ fn is_carried_by_one(values: &[Term], events: &[Event], t: &Term) -> bool
 fn originates_under(values: &[Term], events: &[Event], index: usize, t: &Term) -> bool
     ensures { IsTrue result ↔ OriginatesUnder (substitution_by values.now) events.now t.now index }
 {
-    let Some(event) = event_at(events, index) else {
+    let Some(event) = item_at(events, index) else {
         return false;
     };
     match event {

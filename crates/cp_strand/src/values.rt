@@ -1,20 +1,12 @@
 // The terms that the list of an instance, or any other, gives to variables.
 ghost use Rattle.std.specs.Prelude.{◌≡◌, MatchOption, IfOk};
-ghost use Rattle.std.specs.Option.{option_map};
-ghost use Rattle.cp_lists.specs.Lists.{item_at};
 ghost use Rattle.cp_model.specs.Homomorphism.{substitution_by};
 ghost use Rattle.cp_model.specs.Term.{apply_to};
 ghost use Rattle.cp_term.specs.Variables.{variable_of_sort};
 
+use cp_model::item_at;
 use cp_term::{Sort, Term, Valuation, VarId, is_of_sort, var};
 use std::alloc::{AllocError, Global};
-
-/// The term at an index, from 0.
-pub(crate) fn value_at(values: &[Term], place: usize) -> Option<&Term>
-    ensures { option_map (λ t. t.now) result ≡ item_at values.now place }
-{
-    values.get(place)
-}
 
 /// The term that replaces a variable of this sort, if any.
 pub(crate) fn value_of<'a>(values: &'a [Term], sort: Sort, variable: VarId) -> Option<&'a Term>
@@ -22,7 +14,7 @@ pub(crate) fn value_of<'a>(values: &'a [Term], sort: Sort, variable: VarId) -> O
         (apply_to (substitution_by values.now) (variable_of_sort sort variable) ≡ variable_of_sort sort variable)
         (λ t. apply_to (substitution_by values.now) (variable_of_sort sort variable) ≡ t.now) }
 {
-    let term = value_at(values, variable.number())?;
+    let term = item_at(values, variable.number())?;
     if is_of_sort(term, sort) {
         Some(term)
     } else {

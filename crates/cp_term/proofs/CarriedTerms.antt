@@ -1,9 +1,15 @@
 -- What a term carries, one of its parts carries, or it is it.
-use Rattle.std.proofs.Common.{◌≡◌, ◌≢◌, inl, inr}
+use Rattle.std.proofs.Common.{◌≡◌, ◌≢◌, ◌≤◌, inl, inr}
 use Rattle.std.proofs.lemmas.Bool.{or_cases}
 use Rattle.cp_model.specs.Term.{KeyTerm, Term, pair_term, enc_term, IsCarriedByTerm, itself_term, in_left_term, in_right_term, in_plaintext_term}
 use Rattle.cp_model.proofs.CarriedParts.{made_carries, last_left}
 use Rattle.cp_model.proofs.SameTests.{term_is, carried, is_carried}
+use Rattle.cp_term.specs.Size.{term_size}
+
+-- What the rest carries is all that is left to look for.
+abbrev pub IsLeftToSearch : Term → Term → Term → Type 0
+IsLeftToSearch part rest whole =
+    (term_size rest ≤ term_size whole) × (IsCarriedByTerm part rest → IsCarriedByTerm part whole) × (IsCarriedByTerm part whole → IsCarriedByTerm part rest)
 
 pub same_carries : (whole rest part : Term) → rest ≡ part → (IsCarriedByTerm part rest → IsCarriedByTerm part whole) → IsCarriedByTerm part whole
 same_carries whole rest part e up = made_carries (IsCarriedByTerm part) whole rest part e itself_term up

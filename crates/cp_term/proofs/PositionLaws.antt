@@ -1,5 +1,5 @@
 -- The positions of a term are those at which a term stands.
-use Rattle.std.proofs.Common.{Bool, true, false, List, [], ◌∷◌, ◌++◌, Some, ◌≡◌, ◌⊎◌, inl, inr, refl, sym, ap, ◌∙◌, subst, ⊎_elim}
+use Rattle.std.proofs.Common.{Bool, true, false, List, [], ◌∷◌, ◌++◌, Some, ◌≡◌, inl, inr, refl, sym, ap, ◌∙◌, subst, ⊎_elim}
 use Rattle.std.specs.Prelude.{◌↔◌, option_and_then}
 use Rattle.cp_lists.specs.Lists.{IsIn, here, there}
 use Rattle.cp_lists.proofs.Members.{in_append_left, in_append_right, in_append}

@@ -1,5 +1,5 @@
 -- The tests of equality are true exactly of equal values.
-use Rattle.std.proofs.Common.{ℕ, Bool, true, List, Option, Some, None, ◌≡◌, refl, ap, subst}
+use Rattle.std.proofs.Common.{ℕ, Bool, true, List, Option, Some, None, ◌≡◌, ◌≤◌, refl, ap, subst}
 use Rattle.std.specs.Prelude.{nat_eq}
 use Rattle.std.specs.Bool.{Decides}
 use Rattle.std.specs.Cmp.Lexicographic.{pointwise}
@@ -9,6 +9,11 @@ use Rattle.std.proofs.lemmas.Slice.Eq.{slice_eq-Decides}
 use Rattle.cp_model.specs.Term.{AtomTerm, Term}
 use Rattle.cp_model.specs.Same.{same_bool, same_atom, same_term}
 use Rattle.cp_model.proofs.SameTests.{bool_is, same_bool_itself, atom_is, is_atom, term_is, is_term}
+use Rattle.cp_term.specs.Size.{term_size}
+
+-- Whether a and b are equal is all that is left to tell of two wholes.
+abbrev pub AreLeftToCompare : Term → Term → Term → Term → Type 0
+AreLeftToCompare a b whole other = (term_size a ≤ term_size whole) × (a ≡ b → whole ≡ other) × (whole ≡ other → a ≡ b)
 
 pub bytes_Decides : (x y : List ℕ) → Decides (pointwise nat_eq x y) (x ≡ y)
 bytes_Decides x y = slice_eq-Decides Decides-eqb x y (pointwise nat_eq x y) refl

@@ -1,14 +1,11 @@
 -- Terms of some sorts, and what they are made of.
 use Rattle.std.specs.Prelude.{◌≡◌, ℕ}
+pub use Rattle.cp_model.specs.Term.{key_as_term}
 use Rattle.cp_model.specs.Term.{KeyTerm, symmetric_term, skey_variable, AtomTerm, text_variable, datum_variable, name_variable, key_term, Term, tag_term, atom_term, pair_term, enc_term}
 
 -- A variable of sort name, as a term.
 abbrev pub name_of : ℕ → Term
 name_of n = atom_term (name_variable n)
-
--- A key, as a term.
-abbrev pub key_as_term : KeyTerm → Term
-key_as_term k = atom_term (key_term k)
 
 -- The term is a variable of sort name.
 pub record IsName (t : Term) : Type 0 where

@@ -61,6 +61,24 @@ pub fn ltk(alloc: Global, a: Term, b: Term) -> Result<Term, AllocError>
     Term::made(alloc, Node::Ltk(name_in(&a), name_in(&b)))
 }
 
+/// The public key of a name, or its private key if the flag is set, with a purpose or without one.
+pub(crate) fn key_of_name(
+    alloc: Global,
+    flag: bool,
+    purpose: Option<&str>,
+    name: VarId,
+) -> Result<Term, AllocError>
+    ensures { IfOk result (λ t. t ≡ key_as_term (asymmetric_term flag (pubk_term (option_map (λ s. s.now) purpose.entry) name))) }
+{
+    match purpose {
+        None => Term::made(alloc, Node::Pubk(flag, None, name)),
+        Some(text) => {
+            let text = Text::new(alloc, text)?;
+            Term::made(alloc, Node::Pubk(flag, Some(text), name))
+        }
+    }
+}
+
 /// The public key of a name, with a purpose or without one. The name must be a variable of sort name.
 pub fn pubk(alloc: Global, purpose: Option<&str>, name: Term) -> Result<Term, AllocError>
     requires { IsName name }
@@ -71,14 +89,7 @@ pub fn pubk(alloc: Global, purpose: Option<&str>, name: Term) -> Result<Term, Al
         → value_of g t ≡ message.atom (message.key
         (message.asymmetric false (message.pubk (option_map (λ s. s.now) purpose.entry) x)))) }
 {
-    let id = name_in(&name);
-    match purpose {
-        None => Term::made(alloc, Node::Pubk(false, None, id)),
-        Some(text) => {
-            let text = Text::new(alloc, text)?;
-            Term::made(alloc, Node::Pubk(false, Some(text), id))
-        }
-    }
+    key_of_name(alloc, false, purpose, name_in(&name))
 }
 
 /// The pair of two terms.

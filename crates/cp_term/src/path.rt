@@ -66,8 +66,7 @@ impl Path {
         ensures ok { OnOk result (self.new ≡ self.old ++ step ∷ []) }
         ensures err { OnErr result (self.new ≡ self.old) }
     {
-        self.steps.push(step)?;
-        Ok(())
+        self.steps.push(step).map_err(AllocError::from)
     }
 
     /// Keeps the first `len` steps.

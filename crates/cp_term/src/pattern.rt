@@ -1,71 +1,20 @@
 // Patterns.
-ghost use Rattle.std.specs.Prelude.{◌≡◌, [], ◌++◌, ◌∷◌, IfOk, OnOk, OnErr};
+ghost use Rattle.std.specs.Prelude.{◌≡◌, IfOk};
 ghost use Rattle.cp_lists.specs.Lists.{IsIn};
 ghost use Rattle.cp_model.specs.Pattern.{IsPattern};
 ghost use Rattle.cp_model.specs.Term.{variables_of};
 ghost use Rattle.cp_model.specs.declared.variable.Variable.{Variable};
 
 use crate::term::Term;
-use cp_model::Variable;
-use std::alloc::{AllocError, Global};
+use cp_model::{Sequence, Variable};
+use std::alloc::AllocError;
 use std::marker::Model;
 
 /// The local variables of a pattern, in order.
-#[derive(Drop)]
-pub struct Locals {
-    variables: Vec<Variable>,
-}
+pub type Locals = Sequence<Variable>;
 
-impl Model for Locals {
-    ghost use Rattle.std.specs.Prelude.{List};
-    ghost use Rattle.cp_model.specs.declared.variable.Variable.{Variable};
-
-    ghost Value = { List Variable };
-
-    ghost view = { λ l. l.variables.items };
-}
-
-impl Locals {
-    /// No variables.
-    pub fn new(alloc: Global) -> Locals
-        ensures { result ≡ [] }
-    {
-        Locals {
-            variables: Vec::new(alloc),
-        }
-    }
-
-    /// These variables.
-    pub fn of(variables: Vec<Variable>) -> Locals
-        ensures { result ≡ variables.items }
-    {
-        Locals { variables }
-    }
-
-    /// Appends a variable. On an error nothing is added.
-    pub fn push(&mut self, variable: Variable) -> Result<(), AllocError>
-        ensures ok { OnOk result (self.new ≡ self.old ++ variable ∷ []) }
-        ensures err { OnErr result (self.new ≡ self.old) }
-    {
-        self.variables.push(variable)?;
-        Ok(())
-    }
-
-    /// The variables.
-    pub fn as_slice(&self) -> &[Variable]
-        ensures { result.now ≡ self.now }
-    {
-        self.variables.as_slice()
-    }
-
-    /// The same variables.
-    pub fn copy(&self) -> Result<Locals, AllocError>
-        ensures { IfOk result (λ l. l ≡ self.now) }
-    {
-        let variables = Vec::from_slice(*self.variables.allocator(), self.variables.as_slice())?;
-        Ok(Locals { variables })
-    }
-}
+/// Patterns, in order.
+pub type Patterns = Sequence<Pattern>;
 
 /// An encryption whose local variables stand for any atom of their sort. Contracts see the term and its locals.
 #[derive(Drop)]

@@ -1,7 +1,7 @@
 // Carried positions in a term.
-ghost use Rattle.std.specs.Prelude.{◌≡◌, ◌↔◌, ◌++◌, min, List, Some, IsTrue, IfOk, OnOk};
+ghost use Rattle.std.specs.Prelude.{◌≡◌, ◌↔◌, ◌++◌, min, Bool, List, Some, IsTrue, IfOk, OnOk};
 ghost use Rattle.std.specs.Option.{option_copied};
-ghost use Rattle.cp_model.specs.Term.{IsCarriedByTerm};
+ghost use Rattle.cp_model.specs.Term.{Term as Plain, IsCarriedByTerm};
 ghost use Rattle.cp_lists.specs.Lists.{IsIn};
 ghost use Rattle.cp_model.specs.declared.step.Step.{Step as StepData};
 ghost use Rattle.cp_term.specs.Preorder.{AreInPreorder};
@@ -51,38 +51,62 @@ pub fn at<'a>(whole: &'a Term, path: &Path) -> Option<&'a Term>
     Some(rest)
 }
 
-/// Appends this path if the term is the part.
-fn add_here(term: &Term, part: &Term, here: &Path, found: &mut Vec<Path>) -> Result<(), AllocError>
+/// A test of terms.
+pub trait TermTest {
+    /// Which terms pass.
+    ghost passing: { Self → Plain → Bool };
+
+    /// Whether the term passes.
+    fn passes(&self, term: &Term) -> bool
+        ensures { result ≡ passing self.now term.now };
+}
+
+/// A term passes itself alone.
+impl TermTest for Term {
+    ghost passing = { same_term };
+
+    fn passes(&self, term: &Term) -> bool {
+        self.same(term)
+    }
+}
+
+/// Appends this path if the term passes the test.
+fn add_here<T: TermTest>(
+    term: &Term,
+    test: &T,
+    here: &Path,
+    found: &mut Vec<Path>,
+) -> Result<(), AllocError>
     ensures { OnOk result (found.new.items
-        ≡ found.old.items ++ prefixed here.now (here_if (same_term part.now term.now))) }
+        ≡ found.old.items ++ prefixed here.now (here_if (T.passing test.now term.now))) }
 {
-    if part.same(term) {
+    if test.passes(term) {
         let path = here.copy()?;
         found.push(path)?;
     }
     Ok(())
 }
 
-/// Appends the paths at which the whole carries the part, each after the steps to here.
-fn add_paths(
+/// Appends the paths at which the whole carries a term that passes the test, each after the steps to here.
+fn add_paths<T: TermTest>(
     whole: &Term,
-    part: &Term,
+    test: &T,
     here: &mut Path,
     found: &mut Vec<Path>,
 ) -> Result<(), AllocError>
     ensures added { OnOk result (found.new.items
-        ≡ found.old.items ++ prefixed here.old (positions_where (same_term part.now) whole.now)) }
+        ≡ found.old.items ++ prefixed here.old (positions_where (T.passing test.now) whole.now)) }
     ensures back { OnOk result (here.new ≡ here.old) }
 {
     let start = here.len();
     let mut rest = whole;
     loop {
-        add_here(rest, part, here, found)?;
+        add_here(rest, test, here, found)?;
         let level = here.len();
         match rest.node() {
             Node::Pair(left, right) => {
                 here.push(Step::Left)?;
-                add_paths(left, part, here, found)?;
+                add_paths(left, test, here, found)?;
                 here.truncate(level);
                 here.push(Step::Right)?;
                 rest = right;
@@ -99,6 +123,20 @@ fn add_paths(
     }
 }
 
+/// The positions at which the whole carries a term that passes the test, in preorder, left before right.
+pub fn paths_where<T: TermTest>(
+    alloc: Global,
+    whole: &Term,
+    test: &T,
+) -> Result<Vec<Path>, AllocError>
+    ensures { IfOk result (λ v. v.items ≡ positions_where (T.passing test.now) whole.now) }
+{
+    let mut found = Vec::new(alloc);
+    let mut here = Path::new(alloc);
+    add_paths(whole, test, &mut here, &mut found)?;
+    Ok(found)
+}
+
 /// The positions at which the whole carries the part, in preorder, left before right.
 pub fn paths_of(alloc: Global, whole: &Term, part: &Term) -> Result<Vec<Path>, AllocError>
     ensures paths { IfOk result (λ v. v.items ≡ positions_where (same_term part.now) whole.now) }
@@ -106,10 +144,7 @@ pub fn paths_of(alloc: Global, whole: &Term, part: &Term) -> Result<Vec<Path>, A
         → IsIn path v.items ↔ (term_at whole.now path ≡ Some part.now)) }
     ensures in_preorder { IfOk result (λ v. AreInPreorder v.items) }
 {
-    let mut found = Vec::new(alloc);
-    let mut here = Path::new(alloc);
-    add_paths(whole, part, &mut here, &mut found)?;
-    Ok(found)
+    paths_where(alloc, whole, part)
 }
 
 /// The depth: 1 for a tag or an atom, otherwise one more than the greatest depth of the parts, but at most `u32::MAX`.

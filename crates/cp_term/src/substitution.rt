@@ -6,9 +6,9 @@ ghost use Rattle.cp_term.specs.Keys.{key_as_term, IsKey};
 ghost use Rattle.cp_term.specs.Spines.{tail_of, HasTail};
 ghost use Rattle.cp_term.specs.Variables.{variable_of_sort};
 
-use crate::makers::{enc, invert, ltk, pair, pubk, var};
+use crate::makers::{enc, invert, key_of_name, pair};
 use crate::shape::Shape;
-use crate::term::Term;
+use crate::term::{Node, Term};
 use crate::variable::VarId;
 use cp_model::Sort;
 use std::alloc::{AllocError, Global};
@@ -53,10 +53,7 @@ fn ltk_under<V: Valuation>(
     if c == a && d == b {
         return Ok(None);
     }
-    let first = var(alloc, c, Sort::Name)?;
-    let second = var(alloc, d, Sort::Name)?;
-    let key = ltk(alloc, first, second)?;
-    Ok(Some(key))
+    Term::made(alloc, Node::Ltk(c, d)).map(Some)
 }
 
 /// A new key of a name, or `None` if the name does not change.
@@ -75,14 +72,7 @@ fn pubk_under<V: Valuation>(
     if b == a {
         return Ok(None);
     }
-    let name = var(alloc, b, Sort::Name)?;
-    let key = pubk(alloc, purpose, name)?;
-    if flag {
-        let inverse = invert(alloc, &key)?;
-        Ok(Some(inverse))
-    } else {
-        Ok(Some(key))
-    }
+    key_of_name(alloc, flag, purpose, b).map(Some)
 }
 
 /// A new tag or term of an atom sort, or `None` if it does not change.
@@ -96,10 +86,7 @@ fn leaf_under<V: Valuation>(
 {
     match leaf.shape() {
         Shape::Variable(variable, sort) => match values.term_for(sort, variable) {
-            Some(term) => {
-                let term = term.copy()?;
-                Ok(Some(term))
-            }
+            Some(term) => term.copy().map(Some),
             None => Ok(None),
         },
         Shape::Inverse(variable) => match values.term_for(Sort::Akey, variable) {
@@ -157,7 +144,7 @@ fn pair_of(
 {
     match new_parts(left, right, new_left, new_right)? {
         None => Ok(None),
-        Some((first, second)) => Ok(Some(pair(alloc, first, second)?)),
+        Some((first, second)) => pair(alloc, first, second).map(Some),
     }
 }
 
@@ -175,7 +162,7 @@ fn encryption_of(
 {
     match new_parts(body, key, new_body, new_key)? {
         None => Ok(None),
-        Some((plain, under)) => Ok(Some(enc(alloc, plain, under)?)),
+        Some((plain, under)) => enc(alloc, plain, under).map(Some),
     }
 }
 

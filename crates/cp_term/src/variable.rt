@@ -48,25 +48,14 @@ struct Entry {
     sort: Sort,
 }
 
-impl Entry {
-    fn copy(&self) -> Result<Entry, AllocError>
-        ensures { IfOk result (λ e. declared_by e ≡ declared_by self.now) }
-    {
-        let root = self.root.clone()?;
-        Ok(Entry {
-            root,
-            sort: self.sort,
-        })
-    }
-}
-
 fn copy_entries(alloc: Global, entries: &[Entry]) -> Result<Vec<Entry>, AllocError>
     ensures { IfOk result (λ v. map declared_by v.items ≡ map declared_by entries.now) }
 {
     let mut copies = Vec::new(alloc);
     for entry in entries {
-        let copy = entry.copy()?;
-        copies.push(copy)?;
+        let root = entry.root.clone()?;
+        let sort = entry.sort;
+        copies.push(Entry { root, sort })?;
     }
     Ok(copies)
 }

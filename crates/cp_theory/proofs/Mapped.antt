@@ -1,10 +1,9 @@
 -- A skeleton that carries a homomorphism from its problem carries one under a substitution, and with more pairs.
-use Rattle.std.proofs.Common.{◌≡◌, ℕ, zero, suc, ◌+◌, List, [], ◌∷◌, ◌++◌, Option, Some, map, refl, sym, ap, ap₂, ◌∙◌, subst, arith, le_refl}
+use Rattle.std.proofs.Common.{◌≡◌, ℕ, zero, suc, ◌+◌, List, [], ◌∷◌, ◌++◌, Some, map, refl, sym, ap, ap₂, ◌∙◌, subst, arith, le_refl}
 use Rattle.cp_lists.specs.Lists.{item_at, IsIn, here, there, one_step, more_steps}
-use Rattle.cp_model.specs.Term.{symmetric_term, asymmetric_term, AtomTerm, text_variable, datum_variable, name_variable, key_term, variable_term, Term, atom_term, variables_of, Substitution, apply_to_atom, apply_to, composed, AgreeOnTerms}
+use Rattle.cp_model.specs.Term.{AtomTerm, variable_term, Term, variables_of, Substitution, apply_to_atom, apply_to, composed, AgreeOnTerms}
 use Rattle.cp_model.specs.Bindings.{Binding, as_substitution}
 use Rattle.cp_model.specs.declared.sort.Sort.{Sort}
-use Rattle.cp_model.specs.declared.sort.Sort.TheVariants.{Text as text_sort, Datum as datum_sort, Name as name_sort, Skey as skey_sort, Akey as akey_sort}
 use Rattle.cp_model.specs.declared.variable.Variable.{Variable}
 use Rattle.cp_model.specs.Strand.{Role, prefix_of}
 use Rattle.cp_model.specs.declared.variable.Declaration.{Declaration}
@@ -12,11 +11,12 @@ use Rattle.cp_model.specs.Bundle.{node_at}
 use Rattle.cp_model.specs.declared.node.Node.{Node}
 use Rattle.cp_model.specs.Skeleton.{instance, listener, Skeleton, OrderStep, along_strand_of, along_pair, Before}
 use Rattle.cp_model.specs.declared.node.OrderPair.{OrderPair}
-use Rattle.cp_model.specs.Homomorphism.{SkeletonMap, GoesToInstance, IsHomomorphism, substitution_by, text_in, datum_in, name_in, skey_in, akey_in, map_from_problem, CarriesHomomorphism}
+use Rattle.cp_model.specs.Homomorphism.{SkeletonMap, GoesToInstance, IsHomomorphism, substitution_by, map_from_problem, CarriesHomomorphism}
 use Rattle.cp_model.specs.Problem.{variables_of_strands, variables_of_atoms, variables_of_uniques, variables_of_assumptions, variables_of_skeleton, variable_terms, declared_sort, IsDeclared}
 use Rattle.cp_model.specs.PointOfView.{MapsToItself}
 use Rattle.cp_lists.proofs.Members.{in_append_left, in_append_right, into_map}
 use Rattle.cp_lists.proofs.Items.{map_of_item}
+use Rattle.cp_model.proofs.DeclaredTerms.{by_item}
 use Rattle.cp_model.proofs.LawTerms.{term_composed}
 use Rattle.cp_model.proofs.LawAgreement.{agree_atom, agree_term}
 use Rattle.cp_model.proofs.LawOrder.{before_wider}
@@ -92,15 +92,6 @@ to_under s k = record {
   penetrator_non = λ v inv. into_map (apply_to_atom s) inv;
   unique = λ u inu. into_map (unique_under s) inu;
 }
-
--- The substitution by terms gives a variable what stands at its number.
-by_item : (r : Substitution) (ts : List Term) (sort : Sort) (n : ℕ) → item_at ts n ≡ Some (apply_to r (variable_term (record { sort = sort; number = n }))) →
-    apply_to (substitution_by ts) (variable_term (record { sort = sort; number = n })) ≡ apply_to r (variable_term (record { sort = sort; number = n }))
-by_item r ts text_sort n e = ap (λ (o : Option Term). atom_term (text_variable (text_in n o))) e
-by_item r ts datum_sort n e = ap (λ (o : Option Term). atom_term (datum_variable (datum_in n o))) e
-by_item r ts name_sort n e = ap (λ (o : Option Term). atom_term (name_variable (name_in n o))) e
-by_item r ts skey_sort n e = ap (λ (o : Option Term). atom_term (key_term (symmetric_term (skey_in n o)))) e
-by_item r ts akey_sort n e = ap (λ (o : Option Term). atom_term (key_term (asymmetric_term (akey_in n o).0 (akey_in n o).1))) e
 
 -- Each term of declared variables is one of them.
 record IsOneOf (ds : List Declaration) (n : ℕ) (t : Term) : Type 0 where

@@ -13,7 +13,8 @@ use Rattle.cp_cohort.proofs.SoundChildren.{sound_child}
 use Rattle.cp_escape.proofs.EscapeGuards.{first_is_in}
 use Rattle.cp_escape.proofs.Widened.{guards_still}
 use Rattle.cp_expansion.proofs.OnceMore.{declared_more}
-use Rattle.cp_expansion.proofs.Tables.{skeleton_in_table, declared_in_table, test_in_table, guards_in_table}
+use Rattle.cp_derive.proofs.InTable.{test_in_table}
+use Rattle.cp_expansion.proofs.Tables.{skeleton_in_table, declared_in_table, guards_in_table}
 use Rattle.cp_expansion.specs.Expansion.{IsWidening, asked_under, AreWidened, has_most, none_widens, one_widens}
 
 -- What the law of cohorts wants of a guarded test.

@@ -20,7 +20,8 @@ use Rattle.cp_general.specs.Generalisation.{IsMaximallyGeneral, GeneralisesTo}
 use Rattle.cp_general.proofs.SoundGeneralisations.{is_fit}
 use Rattle.cp_tree.specs.Candidates.{IsCandidate, skeletons_of, IsLabelAt}
 use Rattle.cp_tree.specs.Made.{Made, made_of_root, made_of_generalisation, LabelLink, link_of, MayPointTo}
-use Rattle.cp_tree.specs.Searched.{mark_by_children, is_dead, is_seen, is_realised, is_generalised, above_bound, at_limit, is_tested, IsMarkedAmong, as_shape, as_instance, IsTreeFrom}
+use Rattle.cp_tree.specs.Searched.{mark_by_children, IsMarkedAmong, as_shape, as_instance, IsTreeFrom}
+use Rattle.cp_tree.proofs.Cases.{is_dead, is_seen, is_realised, is_generalised, above_bound, at_limit, is_tested}
 use Rattle.cp_tree.specs.Edges.{IsLeafLabel}
 use Rattle.cp_tree.specs.Marked.{IsShapeAmong, IsDeadRoot, IsSeenInLeast, IsGeneralised}
 use Rattle.cp_tree.proofs.Picked.{item_of, skeleton_at_place, place_of_item, place_before}

@@ -26,9 +26,10 @@ use Rattle.cp_cohort.proofs.SoundChildren.{more_itself, more_then, sound_child}
 use Rattle.cp_expansion.specs.Expansion.{guarded_test_about, Expansion, IsExpansionOf, AreWidened, has_most, none_widens, one_widens}
 use Rattle.cp_general.proofs.SoundGeneralisations.{same_table}
 use Rattle.cp_tree.specs.Made.{Made, made_of_root, link_of}
-use Rattle.cp_tree.specs.Searched.{IsMarkedAmong, Becomes, is_dead, is_seen, is_realised, is_generalised, above_bound, at_limit, is_tested, IsTreeFrom}
+use Rattle.cp_tree.specs.Searched.{IsMarkedAmong, IsTreeFrom}
+use Rattle.cp_tree.proofs.Cases.{Becomes, is_dead, is_seen, is_realised, is_generalised, above_bound, at_limit, is_tested}
 use Rattle.cp_tree.specs.Sound.{IsSoundMade, ExpandsSoundly}
-use Rattle.cp_tree.specs.Declared.{DeclaresItsOwn}
+use Rattle.cp_tree.specs.LabelVariables.{DeclaresItsOwn}
 use Rattle.cp_escape.proofs.EscapeGuards.{first_is_in}
 use Rattle.cp_tree.proofs.AskedOn.{IsWellAsked, asked_on, last_asked}
 use Rattle.cp_tree.proofs.SoundExpansions.{well_asked}

@@ -12,7 +12,8 @@ use Rattle.cp_model.specs.declared.tree.Outcome.TheVariants.{LimitSteps as at_st
 use Rattle.cp_model.specs.declared.tree.Limits.{Limits}
 use Rattle.cp_roots.specs.declared.root.Root.{Root}
 use Rattle.cp_tree.specs.Made.{Made, LabelLink, link_of}
-use Rattle.cp_tree.specs.Searched.{Becomes, is_dead, is_seen, is_realised, is_generalised, above_bound, at_limit, is_tested, IsMarkedAmong, IsMarked, HasOutcome, some_at_step_limit, some_at_strand_limit, none_at_limit, IsTreeFrom}
+use Rattle.cp_tree.specs.Searched.{IsMarkedAmong, IsMarked, HasOutcome, some_at_step_limit, some_at_strand_limit, none_at_limit, IsTreeFrom}
+use Rattle.cp_tree.proofs.Cases.{Becomes, is_dead, is_seen, is_realised, is_generalised, above_bound, at_limit, is_tested}
 use Rattle.cp_tree.proofs.MarksSay.{not_both}
 use Rattle.cp_tree.proofs.SoundLabels.{settled_here, becomes_here}
 use Rattle.cp_tree.proofs.ReachedLimits.{reached_steps, reached_strands}

@@ -2,6 +2,7 @@
 use Rattle.std.proofs.Common.{◌≡◌, inl, ℕ, zero, suc, [], ◌∷◌, true, false, Some, refl, ap, ◌∙◌, subst}
 use Rattle.cp_lists.specs.Lists.{item_at}
 use Rattle.cp_lists.proofs.Members.{not_in_none}
+use Rattle.cp_model.specs.Standing.{StandsApart}
 use Rattle.cp_model.specs.Skeleton.{IsSkeleton}
 use Rattle.cp_model.specs.Realisation.{KeepsAssumptions}
 use Rattle.cp_model.specs.Homomorphism.{CarriesHomomorphism}
@@ -45,14 +46,7 @@ heard_sound = record {
   from_problem = λ i root at. subst (λ (r : Root). CarriesHomomorphism heard r.skeleton) (the_root i root at) (own_carries locker.variables heard (itself heard_own));
   stated = λ i root at. subst (λ (r : Root). KeepsStated heard r.skeleton) (the_root i root at) (keeps_its_own locker.variables heard (states_itself heard_own));
   nowhere = λ i root at d b g is stands apart. lives root (the_root i root at) d;
-  covers = λ b h is stands. record {
-    number = 0;
-    root = heard_root;
-    at = refl;
-    lives = refl;
-    standing = h;
-    stands = stands;
-    apart = λ s t role height terms role' height' terms' on other same. absurd (no_instance s role height terms on);
-    factors = record { strands = refl; values = refl };
-  };
+  covers = λ b h is stands.
+      let apart : StandsApart heard_root.skeleton h = λ s t role height terms role' height' terms' on other same. absurd (no_instance s role height terms on) in
+      record { number = 0; root = heard_root; at = refl; lives = refl; standing = h; stands = stands; apart = apart; factors = record { strands = refl; values = refl } };
 }

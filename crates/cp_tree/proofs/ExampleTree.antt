@@ -1,5 +1,5 @@
 -- The example's tree is one that the search makes.
-use Rattle.std.proofs.Common.{◌≡◌, ◌≢◌, ◌<◌, inl, inr, ℕ, zero, suc, List, [], ◌∷◌, map, false, true, Some, None, refl, sym, ap, ◌∙◌, subst, arith}
+use Rattle.std.proofs.Common.{◌≡◌, ◌≢◌, ◌<◌, inl, inr, ℕ, zero, suc, List, [], ◌∷◌, length, map, false, true, Some, None, refl, sym, ap, ◌∙◌, subst, arith}
 use Rattle.cp_lists.specs.Lists.{item_at, IsIn, here, there, one_step}
 use Rattle.cp_lists.proofs.Members.{not_in_none, only_item}
 use Rattle.cp_model.specs.Term.{Term}
@@ -31,7 +31,8 @@ use Rattle.cp_expansion.specs.ChosenTest.{IsTestOf, last_listener}
 use Rattle.cp_expansion.specs.Expansion.{IsWidening, Expansion, IsExpansionOf, none_widens}
 use Rattle.cp_tree.specs.Candidates.{IsCandidate, Candidate}
 use Rattle.cp_tree.specs.Made.{Made, made_of_root, made_of_child, LabelLink, link_of, IsNew}
-use Rattle.cp_tree.specs.Searched.{Becomes, is_realised, is_tested, all_settled, then_settled, IsMarkedAmong, as_shape, IsMarked, none_at_limit, IsTreeFrom}
+use Rattle.cp_tree.specs.Searched.{all_settled, then_settled, IsMarkedAmong, as_shape, IsMarked, none_at_limit, IsTreeFrom}
+use Rattle.cp_tree.specs.Resolves.{Resolves}
 use Rattle.cp_tree.specs.Example.{heard_root, heard_test, heard_label, sent_label, heard_tree, one_step_limits}
 use Rattle.cp_tree.proofs.MarksSay.{not_both}
 use Rattle.cp_tree.proofs.ExampleGeneral.{sent_is_most_general}
@@ -104,6 +105,13 @@ expansion = record { test = heard_test; skeleton = heard; patterns = []; childre
 is_expansion : IsExpansionOf protocol heard expansion
 is_expansion = record { test = test_of_heard; escape = []; is_escape = no_escape; widened = none_widens (omega arith) is_cohort none_gives; table = refl }
 
+none_listed : (k : Skeleton) → AllDerivable k → ListsUnrealised k []
+none_listed k all = record {
+  each = λ n. (λ i. absurd (not_in_none i), λ u. absurd (u.underivable (all n u.message u.reception)));
+  others = λ n t at. inr (all n t at);
+  rising = tt;
+}
+
 -- ---- the child is realised, and new
 
 abbrev sent : Skeleton
@@ -164,11 +172,24 @@ only_candidate = record { within = omega arith; no_instance = λ n i. other_plac
 abbrev sent_made : Made
 sent_made = made_of_child 0 one_child
 
-expands : Becomes protocol one_step_limits links (IsMarkedAmong candidates) 0 0 (made_of_root heard_root) heard_label (sent_made ∷ [])
-expands = is_tested {nodes = reception ∷ []} {e = expansion} {children = 1 ∷ []} refl first_is_new lists_reception heard_unrealised (omega arith) (omega arith) is_expansion refl
+expands : Resolves protocol one_step_limits links (IsMarkedAmong candidates) 0 0 (made_of_root heard_root) heard_label (sent_made ∷ [])
+expands = record {
+  facts = record { dead = false; copy = None; unrealised = reception ∷ []; strands = length heard.strands };
+  are_facts = record { dead = refl; dead_none = λ dead. absurd (cc); listed = λ _. lists_reception; copy = λ _. first_is_new; strands = refl };
+  within = omega arith;
+  by_rule = record { expansion = expansion; is_expansion = is_expansion; children = 1 ∷ []; count = refl; label = refl; made = refl };
+}
 
-stays : Becomes protocol one_step_limits links (IsMarkedAmong candidates) 1 1 sent_made sent_label []
-stays = is_realised {mark = Some shape} refl second_is_new sent_realised sent_is_most_general (as_shape {p = 0} (record { candidate = record { number = 1; skeleton = sent }; at = refl; number = refl }) only_candidate)
+shape_among : IsMarkedAmong candidates 1 (Some shape)
+shape_among = as_shape {p = 0} (record { candidate = record { number = 1; skeleton = sent }; at = refl; number = refl }) only_candidate
+
+stays : Resolves protocol one_step_limits links (IsMarkedAmong candidates) 1 1 sent_made sent_label []
+stays = record {
+  facts = record { dead = false; copy = None; unrealised = []; strands = length sent.strands };
+  are_facts = record { dead = refl; dead_none = λ _. refl; listed = λ _. none_listed sent sent_realised; copy = λ _. second_is_new; strands = refl };
+  within = omega arith;
+  by_rule = inl (record { most_general = sent_is_most_general; mark = Some shape; marked = shape_among; is_leaf = (refl, refl) });
+}
 
 sent_is_candidate : IsCandidate sent_label
 sent_is_candidate = record { lives = λ e. cc; not_seen = λ n e. cc; realised = sent_realised; own = refl }

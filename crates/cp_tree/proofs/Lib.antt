@@ -1,6 +1,8 @@
 mod Acyclic
 pub mod Numbered
 pub mod Settled
+pub mod Cases
+pub mod ByRule
 pub mod Picked
 pub mod SoundLabels
 pub mod MarksSay

@@ -14,7 +14,8 @@ use Rattle.cp_shapes.specs.Shapes.{IsLeast, IsInstanceWithin, IsShapeAt, IsInsta
 use Rattle.cp_expansion.proofs.Tables.{derivable_from_table}
 use Rattle.cp_tree.specs.Candidates.{Candidate, IsCandidate, AreCandidates, skeletons_of, IsLabelAt}
 use Rattle.cp_tree.specs.Made.{Made, LabelLink, MayPointTo}
-use Rattle.cp_tree.specs.Searched.{mark_by_children, Becomes, is_dead, is_seen, is_realised, is_generalised, above_bound, at_limit, is_tested, IsMarkedAmong, as_shape, as_instance}
+use Rattle.cp_tree.specs.Searched.{mark_by_children, IsMarkedAmong, as_shape, as_instance}
+use Rattle.cp_tree.proofs.Cases.{Becomes, is_dead, is_seen, is_realised, is_generalised, above_bound, at_limit, is_tested}
 use Rattle.cp_tree.proofs.Picked.{one_place}
 
 -- A label is not marked by its children but where it has none, as dead.

@@ -33,7 +33,8 @@ use Rattle.cp_expansion.proofs.Tables.{skeleton_in_table, stands_in_table, stood
 use Rattle.cp_general.specs.Generalisation.{GeneralisesTo}
 use Rattle.cp_general.proofs.SoundGeneralisations.{is_fit, embeds_back}
 use Rattle.cp_tree.specs.Made.{Made, made_of_root, made_of_child, made_of_generalisation, LabelLink, link_of}
-use Rattle.cp_tree.specs.Searched.{mark_by_children, is_dead, is_seen, is_realised, is_generalised, above_bound, at_limit, is_tested, IsMarkedAmong, as_shape, as_instance, IsTreeFrom}
+use Rattle.cp_tree.specs.Searched.{mark_by_children, IsMarkedAmong, as_shape, as_instance, IsTreeFrom}
+use Rattle.cp_tree.proofs.Cases.{is_dead, is_seen, is_realised, is_generalised, above_bound, at_limit, is_tested}
 use Rattle.cp_tree.specs.Sound.{ExpandsSoundly}
 use Rattle.cp_tree.proofs.Numbered.{number_there}
 use Rattle.cp_tree.proofs.CandidatesEmbed.{as_labels}

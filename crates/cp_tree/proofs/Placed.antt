@@ -17,6 +17,7 @@ use Rattle.cp_roots.specs.declared.root.Root.{Root}
 use Rattle.cp_tree.specs.Made.{Made, made_of_root, LabelLink, link_of}
 use Rattle.cp_tree.specs.Searched.{AreResolved, all_settled, then_settled, IsMarkedAmong, children_of, IsTreeFrom}
 use Rattle.cp_tree.specs.Placed.{IsLabelOfRoot, RootsAreFirst}
+use Rattle.cp_tree.proofs.ByRule.{becomes}
 use Rattle.cp_tree.proofs.Numbered.{numbers_append, number_there}
 use Rattle.cp_tree.proofs.Settled.{IsOfMade, of_made, made_of}
 use Rattle.cp_tree.proofs.SoundLabels.{made, SettledHere, settled_here, of_made_here, same_here, parent_here, made_label}
@@ -40,7 +41,7 @@ module _ (protocol : Protocol) (limits : Limits) (links : List LabelLink) (marks
       → (q : ℕ) (x : Made) → item_at given q ≡ Some x → HasChild i (n + q) labels x
   has_child i before n made labels given all_settled e q x at = absurd (cc)
   has_child i before n made labels given (then_settled {m = m} {l = l} {made = ms} {labels = ls} {from_this = fs} {from_others = gs} b s) e q x at =
-      let parts = same_parts l.children (numbers_from n fs) (children_of ls) (numbers_from (n + length fs) gs) ((of_made protocol limits links marks i before m l fs b).count ∙ sym (numbers_length n fs)) (e ∙ numbers_append n (n + length fs) fs gs refl) in
+      let parts = same_parts l.children (numbers_from n fs) (children_of ls) (numbers_from (n + length fs) gs) ((of_made protocol limits links marks i before m l fs (becomes protocol limits links marks i before m l fs b)).count ∙ sym (numbers_length n fs)) (e ∙ numbers_append n (n + length fs) fs gs refl) in
       let first : l.children ≡ numbers_from n fs = parts.0 in
       let rest : children_of ls ≡ numbers_from (n + length fs) gs = parts.1 in
       ⊎_elim
@@ -51,7 +52,7 @@ module _ (protocol : Protocol) (limits : Limits) (links : List LabelLink) (marks
         listed = subst (λ (ns : List ℕ). IsIn (n + q) ns) (sym first) (number_there n q fs x front);
         number = i;
         number_is = omega arith;
-        parent = (made_of protocol limits links marks i before m l fs x b (at_place fs q x front)).parent;
+        parent = (made_of protocol limits links marks i before m l fs x (becomes protocol limits links marks i before m l fs b) (at_place fs q x front)).parent;
       })
       (λ (r : (p : ℕ) × (q ≡ length fs + p) × (item_at gs p ≡ Some x)).
       let place : (n + length fs) + r.0 ≡ n + q = (let w = r.1 in omega (arith, w)) in

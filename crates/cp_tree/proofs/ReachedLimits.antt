@@ -11,7 +11,9 @@ use Rattle.cp_model.specs.declared.tree.Mark.TheVariants.{LimitSteps as limit_st
 use Rattle.cp_model.specs.declared.tree.Limits.{Limits}
 use Rattle.cp_roots.specs.declared.root.Root.{Root}
 use Rattle.cp_tree.specs.Made.{Made, link_of, LabelLink}
-use Rattle.cp_tree.specs.Searched.{Becomes, is_dead, is_seen, is_realised, is_generalised, above_bound, at_limit, is_tested, AreResolved, all_settled, then_settled, IsMarkedAmong, IsMarked, IsTreeFrom}
+use Rattle.cp_tree.specs.Searched.{AreResolved, all_settled, then_settled, IsMarkedAmong, IsMarked, IsTreeFrom}
+use Rattle.cp_tree.proofs.ByRule.{becomes}
+use Rattle.cp_tree.proofs.Cases.{Becomes, is_dead, is_seen, is_realised, is_generalised, above_bound, at_limit, is_tested}
 use Rattle.cp_tree.proofs.MarksSay.{steps_says, strands_says}
 use Rattle.cp_tree.proofs.SoundLabels.{made, settled_here, becomes_here}
 
@@ -30,7 +32,7 @@ module _ (protocol : Protocol) (limits : Limits) (links : List LabelLink) (marks
   pub all_within : (i before : ℕ) (so : List Made) (labels : List Label) (given : List Made) → AreResolved protocol limits links marks i before so labels given → before ≤ limits.steps → before + expanded_count labels ≤ limits.steps
   all_within i before so labels given all_settled b = omega (arith, b)
   all_within i before so labels given (then_settled {m = m} {l = l} {made = ms} {labels = ls} {from_this = fs} {from_others = gs} h s) b =
-      let r = all_within (suc i) (before + is_expanded l.test) ms ls gs s (counts_within i before m l fs h b) in
+      let r = all_within (suc i) (before + is_expanded l.test) ms ls gs s (counts_within i before m l fs (becomes protocol limits links marks i before m l fs h) b) in
       omega (arith, r)
 
   -- ---- a label that was expanded

@@ -20,8 +20,10 @@ use Rattle.cp_cohort.specs.declared.child.Child.{Child}
 use Rattle.cp_expansion.specs.Expansion.{Expansion, IsExpansionOf}
 use Rattle.cp_general.specs.Generalisation.{GeneralisesTo}
 use Rattle.cp_tree.specs.Made.{Made, made_of_child, made_of_generalisation, LabelLink}
-use Rattle.cp_tree.specs.Searched.{leaf, Becomes, is_dead, is_seen, is_realised, is_generalised, above_bound, at_limit, is_tested, AreResolved, all_settled, then_settled, children_of}
+use Rattle.cp_tree.specs.Searched.{leaf, AreResolved, all_settled, then_settled, children_of}
+use Rattle.cp_tree.proofs.Cases.{Becomes, is_dead, is_seen, is_realised, is_generalised, above_bound, at_limit, is_tested}
 use Rattle.cp_tree.proofs.Numbered.{numbers_append}
+use Rattle.cp_tree.proofs.ByRule.{becomes}
 
 module _ (protocol : Protocol) (limits : Limits) (links : List LabelLink) (marks : ℕ → Option Mark → Type 0) where
   -- ---- what becomes of one
@@ -125,7 +127,7 @@ module _ (protocol : Protocol) (limits : Limits) (links : List LabelLink) (marks
   settled_at i before n made labels given all_settled e place l at = absurd (cc)
   settled_at i before n made labels given (then_settled {m = m} {l = x} {made = ms} {labels = ls} {from_this = fs} {from_others = gs} b s) e zero l at =
       let same : x ≡ l = cc in
-      let parts = same_parts x.children (numbers_from n fs) (children_of ls) (numbers_from (n + length fs) gs) ((of_made i before m x fs b).count ∙ sym (numbers_length n fs)) (e ∙ numbers_append n (n + length fs) fs gs refl) in
+      let parts = same_parts x.children (numbers_from n fs) (children_of ls) (numbers_from (n + length fs) gs) ((of_made i before m x fs (becomes protocol limits links marks i before m x fs b)).count ∙ sym (numbers_length n fs)) (e ∙ numbers_append n (n + length fs) fs gs refl) in
       let first : x.children ≡ numbers_from n fs = parts.0 in
       let none : n ≡ n + 0 = omega arith in
       let there_first : (q : ℕ) (y : Made) → item_at fs q ≡ Some y → item_at (fs ++ gs) (0 + q) ≡ Some y = (λ q y p. let z : 0 + q ≡ q = omega arith in ap (item_at (fs ++ gs)) z ∙ item_still fs gs q y p) in
@@ -137,13 +139,13 @@ module _ (protocol : Protocol) (limits : Limits) (links : List LabelLink) (marks
         expanded_before = before;
         counted = omega arith;
         gives = fs;
-        becomes = subst (λ (y : Label). Becomes protocol limits links marks i before m y fs) same b;
+        becomes = subst (λ (y : Label). Becomes protocol limits links marks i before m y fs) same (becomes protocol limits links marks i before m x fs b);
         offset = 0;
         numbers = ap (λ (y : Label). y.children) (sym same) ∙ first ∙ ap (λ (a : ℕ). numbers_from a fs) none;
         behind = there_first;
       }
   settled_at i before n made labels given (then_settled {m = m} {l = x} {made = ms} {labels = ls} {from_this = fs} {from_others = gs} b s) e (suc place) l at =
-      let parts = same_parts x.children (numbers_from n fs) (children_of ls) (numbers_from (n + length fs) gs) ((of_made i before m x fs b).count ∙ sym (numbers_length n fs)) (e ∙ numbers_append n (n + length fs) fs gs refl) in
+      let parts = same_parts x.children (numbers_from n fs) (children_of ls) (numbers_from (n + length fs) gs) ((of_made i before m x fs (becomes protocol limits links marks i before m x fs b)).count ∙ sym (numbers_length n fs)) (e ∙ numbers_append n (n + length fs) fs gs refl) in
       let rest : children_of ls ≡ numbers_from (n + length fs) gs = parts.1 in
       let r = settled_at (suc i) (before + is_expanded x.test) (n + length fs) ms ls gs s rest place l at in
       let later : (n + length fs) + r.offset ≡ n + (length fs + r.offset) = omega arith in
@@ -184,6 +186,6 @@ module _ (protocol : Protocol) (limits : Limits) (links : List LabelLink) (marks
   made_from i before made labels given all_settled x p = absurd (not_in_none p)
   made_from i before made labels given (then_settled {m = m} {l = l} {made = ms} {labels = ls} {from_this = fs} {from_others = gs} b s) x p =
       ⊎_elim
-      (λ (a : IsIn x fs). record { place = 0; so = m; at_made = refl; number = i; number_is = omega arith; is_made = made_of i before m l fs x b a })
+      (λ (a : IsIn x fs). record { place = 0; so = m; at_made = refl; number = i; number_is = omega arith; is_made = made_of i before m l fs x (becomes protocol limits links marks i before m l fs b) a })
       (λ (a : IsIn x gs). from_later i m ms x (made_from (suc i) (before + is_expanded l.test) ms ls gs s x a))
       (in_append fs gs p)

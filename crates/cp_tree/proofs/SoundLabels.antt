@@ -13,7 +13,8 @@ use Rattle.cp_skel.specs.Tables.{DiffersInTable}
 use Rattle.cp_roots.specs.declared.root.Root.{Root}
 use Rattle.cp_roots.specs.Sound.{AreSound}
 use Rattle.cp_tree.specs.Made.{Made, made_of_root, link_of}
-use Rattle.cp_tree.specs.Searched.{IsMarkedAmong, Becomes, is_dead, is_seen, is_realised, is_generalised, above_bound, at_limit, is_tested, IsTreeFrom}
+use Rattle.cp_tree.specs.Searched.{IsMarkedAmong, IsTreeFrom}
+use Rattle.cp_tree.proofs.Cases.{Becomes, is_dead, is_seen, is_realised, is_generalised, above_bound, at_limit, is_tested}
 use Rattle.cp_tree.specs.Sound.{IsSoundMade, ExpandsSoundly}
 use Rattle.cp_tree.proofs.Settled.{IsOfMade, of_made, unexpanded, IsMadeOfChild, IsMadeOfGeneralisation, IsSettledAt, settled_at, label_of_made, made_from}
 use Rattle.cp_tree.proofs.MarksSay.{not_both}

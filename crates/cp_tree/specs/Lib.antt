@@ -1,9 +1,11 @@
 pub mod Candidates
 pub mod Made
+pub mod Rules
+pub mod Resolves
 pub mod Searched
 pub mod Sound
 pub mod Edges
 pub mod Placed
 pub mod Example
-pub mod Declared
+pub mod LabelVariables
 pub mod Marked

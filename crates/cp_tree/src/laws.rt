@@ -16,7 +16,7 @@ ghost use Rattle.cp_roots.specs.declared.root.Root.{Root};
 ghost use Rattle.cp_roots.specs.Sound.{AreSound};
 ghost use Rattle.cp_tree.specs.Searched.{IsTreeFrom};
 ghost use Rattle.cp_tree.specs.Edges.{edges};
-ghost use Rattle.cp_tree.specs.Declared.{DeclaresItsOwn};
+ghost use Rattle.cp_tree.specs.LabelVariables.{DeclaresItsOwn};
 ghost use Rattle.cp_tree.specs.Placed.{RootsAreFirst, AreRootsGeneralised};
 
 /// The labels of the roots come first. Label j is a child of label i exactly if it was made from label i. Edges lead from a label

@@ -1,5 +1,5 @@
-//! Derivation trees: which trees a search makes, and the laws that such trees are true of their problem, lawful, ordered and
-//! within their limits.
+//! Derivation trees: which trees a search makes, the rules by which it resolves labels, and the laws that such trees are true of
+//! their problem, lawful, ordered and within their limits.
 #![tactic(auto)]
 
 mod examples;
@@ -8,6 +8,7 @@ mod generalisation_law;
 mod laws;
 mod limits;
 mod marks;
+mod rules;
 
 pub use examples::heard_encryption_has_a_tree;
 pub use expansion_law::expansions_are_sound;
@@ -18,3 +19,4 @@ pub use laws::{
 };
 pub use limits::limits_are_exact;
 pub use marks::marks_have_causes;
+pub use rules::Rule;

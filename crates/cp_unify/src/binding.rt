@@ -85,11 +85,12 @@ impl Binding {
         let variable = VarId::numbered(self.variable.number);
         var(alloc, variable, self.variable.sort)
     }
+}
 
-    /// Another handle to the same binding.
-    pub(crate) fn copy(&self) -> Result<Binding, AllocError>
-        ensures { IfOk result (λ b. b ≡ self.now) }
-    {
+impl Clone for Binding {
+    ghost is_clone = { λ a b. b ≡ a };
+
+    fn clone(&self) -> Result<Binding, AllocError> {
         let term = self.term.copy()?;
         Ok(Binding {
             variable: self.variable,

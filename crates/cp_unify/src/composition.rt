@@ -20,7 +20,7 @@ pub(crate) fn join(alloc: Global, first: &Subst, second: &Subst) -> Result<Subst
         bindings.push(Binding::new(binding.variable(), term))?;
     }
     for binding in second.bindings() {
-        let copy = binding.copy()?;
+        let copy = binding.clone()?;
         bindings.push(copy)?;
     }
     Subst::made(alloc, bindings)

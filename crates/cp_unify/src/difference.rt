@@ -24,6 +24,15 @@ pub(crate) enum Difference {
     Bind(Binding),
 }
 
+/// A variable of this sort bound to a term.
+fn bind(sort: Sort, x: VarId, term: &Term) -> Result<Difference, AllocError>
+    requires { is_of_sort sort term.now ≡ true }
+    ensures { IfOk result (λ d. d ≡ binds sort x term.now) }
+{
+    let copy = term.copy()?;
+    Ok(Difference::Bind(Binding::of(sort, x, copy)))
+}
+
 /// Binds the later of two variables of this sort: x to b, or y to a.
 fn bind_later(sort: Sort, x: VarId, a: &Term, y: VarId, b: &Term) -> Result<Difference, AllocError>
     requires first { is_of_sort sort a.now ≡ true }
@@ -34,11 +43,9 @@ fn bind_later(sort: Sort, x: VarId, a: &Term, y: VarId, b: &Term) -> Result<Diff
         return Ok(Difference::Same);
     }
     if x.number() < y.number() {
-        let term = a.copy()?;
-        Ok(Difference::Bind(Binding::of(sort, y, term)))
+        bind(sort, y, a)
     } else {
-        let term = b.copy()?;
-        Ok(Difference::Bind(Binding::of(sort, x, term)))
+        bind(sort, x, b)
     }
 }
 
@@ -59,8 +66,7 @@ fn inverse_of(alloc: Global, x: VarId) -> Result<Term, AllocError>
     ensures { IfOk result (λ t. t ≡ atom_term (akey_atom true x)) }
 {
     let key = var(alloc, x, Sort::Akey)?;
-    let inverse = invert(alloc, &key)?;
-    Ok(inverse)
+    invert(alloc, &key)
 }
 
 /// The difference of two variables of sort akey that must be inverses of each other. No key is its own inverse.
@@ -98,15 +104,6 @@ pub(crate) fn is_same_purpose(p: Option<&str>, q: Option<&str>) -> bool
         (Some(x), Some(y)) => x == y,
         _ => false,
     }
-}
-
-/// A variable of this sort bound to a term.
-fn bind(sort: Sort, x: VarId, term: &Term) -> Result<Difference, AllocError>
-    requires { is_of_sort sort term.now ≡ true }
-    ensures { IfOk result (λ d. d ≡ binds sort x term.now) }
-{
-    let copy = term.copy()?;
-    Ok(Difference::Bind(Binding::of(sort, x, copy)))
 }
 
 /// Binds a variable of sort akey whose inverse must be a key of a name.

@@ -81,8 +81,7 @@ fn variable_match(
         Some(false) => Ok(None),
         None => {
             let copy = term.copy()?;
-            let more = given.with(Binding::of(sort, variable, copy))?;
-            Ok(Some(more))
+            given.with(Binding::of(sort, variable, copy)).map(Some)
         }
     }
 }

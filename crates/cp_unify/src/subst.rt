@@ -120,10 +120,7 @@ impl Subst {
     pub fn copy(&self, alloc: Global) -> Result<Subst, AllocError>
         ensures { IfOk result (λ s. s ≡ self.now) }
     {
-        let mut bindings = Vec::with_capacity(alloc, self.bindings.len())?;
-        for binding in self.bindings() {
-            bindings.push(binding.copy()?)?;
-        }
+        let bindings = Vec::from_clones(alloc, self.bindings())?;
         let places = Vec::from_slice(alloc, &self.places)?;
         Ok(Subst {
             bindings,

@@ -41,8 +41,7 @@ fn solved_form(alloc: Global, s: &Subst) -> Result<Option<Subst>, AllocError>
         ((a b : Plain) → HasNoUnifier a b s.now) (λ r. AreSolvedBut s.now [] r)) }
 {
     if s.is_solved() {
-        let same = s.copy(alloc)?;
-        return Ok(Some(same));
+        return s.copy(alloc).map(Some);
     }
     let mut solved = Subst::new(alloc);
     for binding in s.bindings() {

@@ -1,6 +1,6 @@
 // A program that tests a report from outside: whether it is what the search answers to the problems that stand in it.
-// It reads the report back, makes the input anew from the forms in it, searches again, and compares the trees up to the
-// names of each label's variables. It tests what the contracts of the libraries promise, and has none of its own: it is
+// It reads the report back, searches the problems of its input again, and compares the trees up to the names of each
+// label's variables. It tests what the contracts of the libraries promise, and has none of its own: it is
 // proved safe.
 //
 // The words are `analyse [--limit N] [--bound N]`, those with which `cpsa` made the report, and the report is the
@@ -18,7 +18,6 @@
 #![tactic(auto)]
 
 mod comparison;
-mod found_trees;
 mod operations;
 mod report_check;
 mod report_text;
@@ -31,7 +30,7 @@ mod verdict;
 use cp_base::Status;
 use report_check::verdict_on;
 use reprint::printed_again;
-use std::alloc::Global;
+use std::alloc::{AllocError, Global};
 use std::io::Write;
 use std::process::ExitCode;
 use std::rt::Env;
@@ -42,7 +41,9 @@ use verdict::Verdict;
 // The words of the command line. Words that are not UTF-8 are no command.
 fn words(rt: &(impl Env + Alloc<A = Global>)) -> Result<Vec<String>, Stopped> {
     match env::args(rt) {
-        Ok(words) => Ok(words.collect(rt.alloc())?),
+        Ok(words) => words
+            .collect(rt.alloc())
+            .map_err(|error: AllocError| Stopped::from(error)),
         Err(error) => Err(Stopped::memory_or(error, Stopped::Usage)),
     }
 }
@@ -58,13 +59,9 @@ fn answer(rt: &HostRuntime) -> Result<Output, Stopped> {
     let words = words(rt)?;
     match words.as_slice() {
         [_, word] if word.as_str() == "print" => {
-            let report = printed_again(rt.alloc(), rt.stdin())?;
-            Ok(Output::Report(report))
+            printed_again(rt.alloc(), rt.stdin()).map(|report| Output::Report(report))
         }
-        _ => {
-            let verdict = verdict_on(rt.alloc(), &words, rt.stdin())?;
-            Ok(Output::Verdict(verdict))
-        }
+        _ => verdict_on(rt.alloc(), &words, rt.stdin()).map(|verdict| Output::Verdict(verdict)),
     }
 }
 

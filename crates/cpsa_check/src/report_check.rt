@@ -1,10 +1,11 @@
 // From words and a report to the verdict on it.
 use crate::comparison::compared;
-use crate::found_trees::{searched, written};
-use crate::report_text::{forms_in, read_all};
+use crate::report_text::forms_in;
 use crate::stopped::Stopped;
 use crate::verdict::Verdict;
 use cp_readback::read_back;
+use cp_search::search;
+use cp_sexpr::Form;
 use cp_skel::Limits;
 use cp_words::{CommandName, read_command};
 use std::alloc::Global;
@@ -19,14 +20,18 @@ fn limits_in(alloc: Global, words: &[String]) -> Result<Limits, Stopped> {
     }
 }
 
-/// The verdict on the report with this text.
-fn verdict_on_text(alloc: Global, limits: Limits, text: &[u8]) -> Result<Verdict, Stopped> {
-    let forms = forms_in(alloc, text)?;
-    let report = read_back(alloc, &forms)?;
-    let input = written(alloc, &report.entries)?;
-    let input = forms_in(alloc, &input)?;
-    let found = searched(alloc, &input, limits)?;
-    Ok(compared(alloc, &report.trees, &found)?)
+/// The verdict on the report with these forms: its trees are compared with those that the search makes of its problems.
+fn verdict_on_forms(alloc: Global, limits: Limits, forms: &[Form]) -> Result<Verdict, Stopped> {
+    let report = read_back(alloc, forms)?;
+    let mut found = Vec::new(alloc);
+    for entry in &report.entries {
+        let Some(problem) = entry.problem() else {
+            continue;
+        };
+        let tree = search(alloc, &problem.protocol, &problem.skeleton, limits)?;
+        found.push(tree)?;
+    }
+    compared(alloc, &report.trees, &found).map_err(|error| Stopped::from(error))
 }
 
 /// The verdict on the report that is read. The words are those with which it is said to have been made.
@@ -36,6 +41,6 @@ pub(crate) fn verdict_on<R: Read + Drop>(
     input: R,
 ) -> Result<Verdict, Stopped> {
     let limits = limits_in(alloc, words)?;
-    let text = read_all(alloc, input)?;
-    verdict_on_text(alloc, limits, &text)
+    let forms = forms_in(alloc, input)?;
+    verdict_on_forms(alloc, limits, &forms)
 }

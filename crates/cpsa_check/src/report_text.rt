@@ -1,4 +1,4 @@
-// The text of a report, and the forms of a text.
+// The forms of a report.
 use crate::stopped::Stopped;
 use cp_sexpr::{Form, MAX_LENGTH, read};
 use std::alloc::Global;
@@ -7,19 +7,14 @@ use std::io::Read;
 /// How many bytes are read: one more than a text may have.
 const MOST_BYTES: u64 = MAX_LENGTH as u64 + 1;
 
-/// What is read to the end, or at most to one byte more than a text may have.
-pub(crate) fn read_all<R: Read + Drop>(alloc: Global, input: R) -> Result<Vec<u8>, Stopped> {
+/// The forms of the text that is read, if it is not too long.
+pub(crate) fn forms_in<R: Read + Drop>(alloc: Global, input: R) -> Result<Vec<Form>, Stopped> {
     let mut text = Vec::new(alloc);
-    match input.take(MOST_BYTES).read_to_end(&mut text) {
-        Ok(_) => Ok(text),
-        Err(error) => Err(Stopped::memory_or(error, Stopped::ReadFault)),
+    if let Err(error) = input.take(MOST_BYTES).read_to_end(&mut text) {
+        return Err(Stopped::memory_or(error, Stopped::ReadFault));
     }
-}
-
-/// The forms of a text, if it is not too long.
-pub(crate) fn forms_in(alloc: Global, text: &[u8]) -> Result<Vec<Form>, Stopped> {
     if text.len() > MAX_LENGTH {
         return Err(Stopped::TooLong);
     }
-    Ok(read(alloc, text)?)
+    read(alloc, &text).map_err(|error| Stopped::from(error))
 }

@@ -1,6 +1,5 @@
 // Why there is no verdict.
 use cp_base::{Place, Status};
-use cp_load::LoadError;
 use cp_readback::ReadBackError;
 use cp_sexpr::ReadError;
 use cp_words::WordsError;
@@ -78,17 +77,8 @@ impl From<ReadError> for Stopped {
 impl From<ReadBackError> for Stopped {
     fn from(error: ReadBackError) -> Stopped {
         match error {
-            ReadBackError::NotReport(place) => Stopped::NoReport(place),
+            ReadBackError::Refused(place) => Stopped::NoReport(place),
             ReadBackError::Memory => Stopped::Memory,
-        }
-    }
-}
-
-impl From<LoadError> for Stopped {
-    fn from(error: LoadError) -> Stopped {
-        match error {
-            LoadError::Refused(refusal) => Stopped::NoReport(refusal.place),
-            LoadError::Memory => Stopped::Memory,
         }
     }
 }

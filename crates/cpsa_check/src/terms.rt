@@ -1,40 +1,33 @@
 // The terms of two labels, place by place.
 use cp_skel::{Event, Label, LocatedEvent};
-use cp_term::{Pattern, Term};
+use cp_term::Term;
 use cp_unify::{Subst, matching_beside};
 use std::alloc::{AllocError, Global};
 
-/// Appends the messages at the nodes of a skeleton.
-fn add_messages(occurrences: &[LocatedEvent], terms: &mut Vec<Term>) -> Result<(), AllocError> {
-    for occurrence in occurrences {
-        match &occurrence.event {
-            Event::Send(message) | Event::Receive(message) => terms.push(message.copy()?)?,
-        }
+/// The message of an event.
+fn message_of(event: &Event) -> &Term {
+    match event {
+        Event::Send(message) | Event::Receive(message) => message,
     }
-    Ok(())
 }
 
-/// Appends the terms of patterns.
-fn add_patterns(patterns: &[Pattern], terms: &mut Vec<Term>) -> Result<(), AllocError> {
-    for pattern in patterns {
-        terms.push(pattern.term().copy()?)?;
-    }
-    Ok(())
-}
-
-/// The messages at a label's nodes, the critical term of its test, and the terms of its patterns.
-fn terms_of(alloc: Global, label: &Label) -> Result<Vec<Term>, AllocError> {
-    let mut terms = Vec::new(alloc);
-    add_messages(&label.skeleton.events(alloc)?, &mut terms)?;
+/// The messages of a label's events, the terms of its patterns, and the critical term of its test.
+fn terms_of<'a>(
+    alloc: Global,
+    label: &'a Label,
+    events: &'a [LocatedEvent],
+) -> Result<Vec<&'a Term>, AllocError> {
+    let messages = events.iter().map(|located| message_of(&located.event));
+    let patterns = label.escape.as_slice().iter().map(|pattern| pattern.term());
+    let mut terms: Vec<&'a Term> = messages.chain(patterns).collect(alloc)?;
     if let Some(test) = &label.test {
-        terms.push(test.critical.copy()?)?;
+        terms.push(&test.critical)?;
     }
-    add_patterns(label.escape.as_slice(), &mut terms)?;
     Ok(terms)
 }
 
 /// Whether variables of the first terms have values under which these terms are the others, place by place.
-fn can_become(alloc: Global, terms: &[Term], others: &[Term]) -> Result<bool, AllocError> {
+fn can_become(alloc: Global, terms: &[&Term], others: &[&Term]) -> Result<bool, AllocError> {
     let mut values = Subst::new(alloc);
     for (term, other) in terms.iter().zip(others) {
         let Some(more) = matching_beside(alloc, term, other, values)? else {
@@ -52,10 +45,12 @@ pub(crate) fn have_same_terms(
     one: &Label,
     other: &Label,
 ) -> Result<bool, AllocError> {
-    let terms = terms_of(alloc, one)?;
-    let others = terms_of(alloc, other)?;
-    if terms.len() != others.len() {
+    let events = one.skeleton.events(alloc)?;
+    let terms = terms_of(alloc, one, &events)?;
+    let other_events = other.skeleton.events(alloc)?;
+    let others = terms_of(alloc, other, &other_events)?;
+    if terms.len() != others.len() || !can_become(alloc, &terms, &others)? {
         return Ok(false);
     }
-    Ok(can_become(alloc, &terms, &others)? && can_become(alloc, &others, &terms)?)
+    can_become(alloc, &others, &terms)
 }

@@ -5,8 +5,8 @@ use Rattle.cp_load.specs.declared.input.Problem.{Problem}
 use Rattle.cp_app.proofs.Trees.{is_listed, none_next, tree_next, trees_done}
 use Rattle.cp_app.proofs.analysis.trees_of.Goals as goal
 
-pub add_tree-requires : goal.add_tree-requires
-add_tree-requires c =
+pub tree_of-requires : goal.tree_of-requires
+tree_of-requires c =
     record { analysable = c.requires.analysable _ (is_listed c.args.entries.now c.loop-entry.entry-index c.entry-item.result (problem_view c.in-Some.problem.now) c.loop-entry-test.true c.entry-item.is c.in-Some.ensures) }
 
 pub loop-entry-preserved-in_default : goal.loop-entry-preserved-in_default
@@ -16,8 +16,8 @@ loop-entry-preserved-in_default c =
 
 pub loop-entry-preserved : goal.loop-entry-preserved
 loop-entry-preserved c =
-    tree_next c.args.limits c.args.entries.now c.loop-entry.entry-index c.entry-item.result (problem_view c.in-Some.problem.now) c.loop-entry.trees.items c.add_tree.new.trees.items c.loop-entry-test.true c.entry-item.is c.in-Some.ensures
-    c.in_ok-add_tree.ensures c.loop-entry.invariant
+    tree_next c.args.limits c.args.entries.now c.loop-entry.entry-index c.entry-item.result (problem_view c.in-Some.problem.now) c.loop-entry.trees.items c.push.new.self.items c.loop-entry-test.true c.entry-item.is c.in-Some.ensures
+    (c.in_ok-tree.tree, c.in_ok-tree.ensures, c.in_ok-push.ensures.items) c.loop-entry.invariant
 
 pub returns : goal.returns
 returns c = trees_done c.args.limits c.args.entries.now c.loop-entry.entry-index c.loop-entry.trees.items c.loop-entry-test.false c.loop-entry.invariant

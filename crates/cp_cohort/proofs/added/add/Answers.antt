@@ -10,11 +10,6 @@ use Rattle.cp_cohort.proofs.added.add.Goals as goal
 pub loop-role-init : goal.loop-role-init
 loop-role-init c = puts_first (λ role. EachGives (AddsEvent c.args.guarded_test.now role.value) (numbers_from 0 role.value.trace)) c.roles-all.result.now c.args.children.now.items
 
-pub add_role-requires : goal.add_role-requires
-add_role-requires c = record {
-  test = c.requires.test;
-}
-
 pub loop-role-preserved : goal.loop-role-preserved
 loop-role-preserved c =
     puts_next (λ role. EachGives (AddsEvent c.args.guarded_test.now role.value) (numbers_from 0 role.value.trace)) c.roles-all.result.now c.loop-role.role-index c.role-item.result

@@ -20,7 +20,7 @@ pub release-requires : goal.release-requires
 release-requires c =
     let sent = c.is_sent.ensures.sent c.if-not-is_sent.false in
     added_pair_at c.args.guarded_test.now c.args.role.now.value c.args.index sent.0 sent.1 c.in_ok-grown.grown (c.in_ok-grown.ensures c.args.index (add-one c.args.index)).adds
-    (length c.strands-strand.result.now) (number (goal.at.release-requires c).In_ok-grown) c.requires.test
+    (length c.strands-strand.result.now) (number (goal.at.release-requires c).In_ok-grown) c.is_test.ensures
 
 pub returns : goal.returns
 returns c =

@@ -12,7 +12,7 @@ pub add_event-requires : goal.add_event-requires
 add_event-requires c =
     let same : length c.trace-events.result.now ≡ length c.args.role.now.value.trace =
     ap length (c.trace-events.ensures ∙ ap (λ (r : Role). r.trace) c.deref.ensures) in
-    record { test = c.requires.test; reached = omega (arith, same, c.loop-index-test.true) }
+    record { reached = omega (arith, same, c.loop-index-test.true) }
 
 pub loop-index-preserved : goal.loop-index-preserved
 loop-index-preserved c =

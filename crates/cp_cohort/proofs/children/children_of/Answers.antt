@@ -1,7 +1,6 @@
+use Rattle.cp_cohort.proofs.FourLists.{all_put}
 use Rattle.cp_cohort.proofs.children.children_of.Goals as goal
 
-pub put_all-requires : goal.put_all-requires
-put_all-requires c = record { test = c.requires.test; empty = c.in_ok-children.ensures.items }
-
 pub returns : goal.returns
-returns c = c.in_ok-put_all.ensures
+returns c =
+    all_put c.args.protocol.now c.args.guarded_test.now _ _ _ _ _ c.in_ok-children.ensures.items c.in_ok-contract.ensures c.in_ok-displace.ensures c.in_ok-add.ensures c.in_ok-listen.ensures

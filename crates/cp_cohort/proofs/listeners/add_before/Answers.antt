@@ -15,7 +15,7 @@ add_order-requires c =
     let adds : AddsListener c.args.term.now q.skeleton c.add_listener.new.self = listener_added q.skeleton c.args.k.now c.add_listener.new.self c.args.term.now c.in_ok-message.message c.requires.copied c.in_ok-message.ensures c.in_ok-strand.ensures.changed in
     record {
       pair = subst (λ (z : GuardedTest). IsOrderPair c.add_listener.new.self (record { earlier = record { strand = c.in_ok-strand.strand; index = 1 }; later = z.node })) (sym c.guarded_test.view_is)
-          (may_be_put q c.args.term.now c.requires.test c.in_ok-strand.strand number c.add_listener.new.self adds);
+          (may_be_put q c.args.term.now c.is_test.ensures c.in_ok-strand.strand number c.add_listener.new.self adds);
     }
 
 pub unreachable-requires : goal.unreachable-requires
@@ -24,7 +24,7 @@ unreachable-requires c =
     let number : c.in_ok-strand.strand ≡ length q.skeleton.strands = c.in_ok-strand.ensures.number ∙ ap (λ (k : Skeleton). length k.strands) c.requires.copied in
     let adds : AddsListener c.args.term.now q.skeleton c.add_listener.new.self = listener_added q.skeleton c.args.k.now c.add_listener.new.self c.args.term.now c.in_ok-message.message c.requires.copied c.in_ok-message.ensures c.in_ok-strand.ensures.changed in
     let sound : IsSound q.skeleton = subst (λ (k : Skeleton). IsSound k) c.requires.copied c.is_sound.ensures in
-    never_refused q c.args.term.now c.requires.test c.in_ok-strand.strand number c.add_listener.new.self adds sound
+    never_refused q c.args.term.now c.is_test.ensures c.in_ok-strand.strand number c.add_listener.new.self adds sound
     (subst (λ (z : GuardedTest). Before c.add_listener.new.self z.node (record { strand = c.in_ok-strand.strand; index = 1 })) c.guarded_test.view_is (c.in_ok-add_order.ensures.refused.0 c.if-not-branch.true))
 
 pub returns : goal.returns

@@ -1,6 +1,10 @@
 use Rattle.std.proofs.Common.{ap, ◌∙◌, ◌∷◌, [], subst}
 use Rattle.std.proofs.lemmas.Result.{on_ok_weaker}
 use Rattle.cp_model.specs.Term.{Term}
+use Rattle.std.specs.Prelude.{◌↔◌}
+use Rattle.cp_model.specs.Derivable.{DerivableAt}
+use Rattle.cp_derive.specs.Given.{IsDerivable}
+use Rattle.cp_derive.specs.AtNode.{SkeletonNode}
 use Rattle.cp_cohort.specs.GatheredLists.{terms_onto}
 use Rattle.cp_cohort.specs.Cohort.{GuardedTest}
 use Rattle.cp_cohort.specs.HeardTerms.{FreesOnto}
@@ -20,7 +24,7 @@ returns-then-buildable c =
     (λ e.
     subst (λ (z : GuardedTest). FreesOnto z c.args.terms.now.items c.add_term.new.terms.items) c.guarded_test.view_is
     (freed_by_body q c.in-Encryption.body.now c.in-Encryption.key.now c.in-Encryption.ensures c.buildable.result
-    (asked_at q c.in_ok-known.known c.in-Encryption.key.now c.in_ok-known.ensures.given c.buildable.result c.buildable.ensures.exact) c.args.terms.now.items c.add_term.new.terms.items c.if-buildable.true
+    (asked_at q c.known.result.now c.in-Encryption.key.now (subst (λ (x : SkeletonNode). (t : Term) → IsDerivable c.known.result.now t ↔ DerivableAt x.skeleton x.node t) c.guarded_test.invariant.0 c.known.ensures) c.buildable.result c.buildable.ensures.exact) c.args.terms.now.items c.add_term.new.terms.items c.if-buildable.true
     (e ∙ ap (λ (t : Term). terms_onto c.args.terms.now.items (t ∷ [])) c.in_ok-plaintext.ensures)))
     c.add_term.ensures
 
@@ -31,6 +35,6 @@ returns c =
     (λ e.
     subst (λ (z : GuardedTest). FreesOnto z c.args.terms.now.items c.add_term-2.new.terms.items) c.guarded_test.view_is
     (freed_by_key q c.in-Encryption.body.now c.in-Encryption.key.now c.in-Encryption.ensures c.buildable.result
-    (asked_at q c.in_ok-known.known c.in-Encryption.key.now c.in_ok-known.ensures.given c.buildable.result c.buildable.ensures.exact) c.args.terms.now.items c.add_term-2.new.terms.items c.if-buildable.false
+    (asked_at q c.known.result.now c.in-Encryption.key.now (subst (λ (x : SkeletonNode). (t : Term) → IsDerivable c.known.result.now t ↔ DerivableAt x.skeleton x.node t) c.guarded_test.invariant.0 c.known.ensures) c.buildable.result c.buildable.ensures.exact) c.args.terms.now.items c.add_term-2.new.terms.items c.if-buildable.false
     (e ∙ ap (λ (t : Term). terms_onto c.args.terms.now.items (t ∷ [])) c.in_ok-key.ensures)))
     c.add_term-2.ensures

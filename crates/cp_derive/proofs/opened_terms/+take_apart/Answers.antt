@@ -1,4 +1,5 @@
 use Rattle.std.proofs.Common.{arith}
+use Rattle.std.proofs.lemmas.Result.{on_ok_weaker}
 use Rattle.cp_derive.proofs.TermParts.{takes_pair}
 use Rattle.cp_derive.proofs.opened_terms.+take_apart.Goals as goal
 
@@ -9,4 +10,4 @@ loop-opening-preserved t c = (
 )
 
 pub returns-in-Encryption : goal.returns-in-Encryption
-returns-in-Encryption t c = c.loop-opening.invariant.1 _ (c.in_ok-lock-in-Encryption.ensures c.args.secrets.now)
+returns-in-Encryption t c = on_ok_weaker c.lock.result (λ e. c.loop-opening.invariant.1 _ (e c.args.secrets.now)) c.lock.ensures

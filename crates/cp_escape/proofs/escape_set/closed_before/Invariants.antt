@@ -5,4 +5,4 @@ use Rattle.cp_escape.proofs.escape_set.closed_before.Given as goal
 
 abbrev pub invariant-loop-occurrence : goal.invariant-loop-occurrence
 invariant-loop-occurrence l =
-    PutsSoFar (GivesEvent l.k l.node l.known l.critical) l.occurrence-items (drop l.occurrence-index l.occurrence-items) [] l.encryptions.items
+    PutsSoFar (GivesEvent l.test.skeleton l.test.node l.known l.critical) l.occurrences (drop l.occurrence-index l.occurrences) [] l.encryptions.items

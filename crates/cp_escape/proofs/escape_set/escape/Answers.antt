@@ -1,31 +1,14 @@
-use Rattle.std.proofs.Common.{List, map, ap, ◌∙◌, subst}
-use Rattle.std.proofs.lemmas.Result.{IfOk-weaker}
-use Rattle.cp_lists.specs.Lists.{IsIn}
-use Rattle.cp_model.specs.Term.{Term}
-use Rattle.cp_escape.specs.Escape.{whole_pattern}
-use Rattle.cp_escape.proofs.EscapeGuards.{is_whole_pattern, is_escape, escape_guards, empty_where_none}
+use Rattle.std.proofs.Common.{◌≡◌, ◌↔◌, [], subst}
+use Rattle.std.specs.Prelude.{IfOk}
+use Rattle.cp_theory.specs.Guards.{Guards}
+use Rattle.cp_derive.specs.AtTest.{SkeletonTest}
+use Rattle.cp_escape.specs.Escape.{IsEscape}
+use Rattle.cp_escape.specs.Sent.{CarriesBefore}
 use Rattle.cp_escape.proofs.escape_set.escape.Goals as goal
 
-pub whole_patterns-requires : goal.whole_patterns-requires
-whole_patterns-requires c e i =
-    is_whole_pattern c.args.k.now c.args.node c.args.critical.now c.in_ok-encryptions.encryptions.items c.in_ok-encryptions.ensures e
-    (subst (λ (es : List Term). IsIn e es) c.deref.ensures.value i)
-
-pub returns-clause-exact : goal.returns-clause-exact
-returns-clause-exact c =
-    IfOk-weaker c.whole_patterns.result _ _
-    (λ ps same. is_escape c.args.k.now c.args.node c.args.critical.now c.in_ok-encryptions.encryptions.items ps.items c.in_ok-encryptions.ensures (same ∙ ap (map whole_pattern) c.deref.ensures.value))
-    c.whole_patterns.ensures
-
-pub returns-clause-guards : goal.returns-clause-guards
-returns-clause-guards c =
-    IfOk-weaker c.whole_patterns.result _ _
-    (λ ps same. escape_guards c.args.k.now c.args.node c.args.critical.now c.in_ok-encryptions.encryptions.items ps.items c.in_ok-encryptions.ensures (same ∙ ap (map whole_pattern) c.deref.ensures.value)
-    c.requires.test)
-    c.whole_patterns.ensures
-
-pub returns-clause-empty : goal.returns-clause-empty
-returns-clause-empty c =
-    IfOk-weaker c.whole_patterns.result _ _
-    (λ ps same. empty_where_none c.args.k.now c.args.node c.args.critical.now c.in_ok-encryptions.encryptions.items ps.items c.in_ok-encryptions.ensures (same ∙ ap (map whole_pattern) c.deref.ensures.value))
-    c.whole_patterns.ensures
+pub returns : goal.returns
+returns c = record {
+  exact = subst (λ (t : SkeletonTest). IfOk c.escape_at.result (λ ps. IsEscape t.skeleton t.node t.critical ps.items)) c.in_ok-test.ensures c.escape_at.ensures.exact;
+  guards = subst (λ (t : SkeletonTest). IfOk c.escape_at.result (λ ps. Guards ps.items t.skeleton t.node t.critical)) c.in_ok-test.ensures c.escape_at.ensures.guards;
+  empty = subst (λ (t : SkeletonTest). IfOk c.escape_at.result (λ ps. (ps.items ≡ []) ↔ (CarriesBefore t.skeleton t.node t.critical → ⊥))) c.in_ok-test.ensures c.escape_at.ensures.empty;
+}

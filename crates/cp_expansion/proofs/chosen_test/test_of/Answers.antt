@@ -1,23 +1,18 @@
-use Rattle.std.proofs.Common.{IsNone, refl, sym, subst}
-use Rattle.cp_model.specs.declared.strand.Event.TheVariants.{Receive as recv}
-use Rattle.cp_expansion.proofs.Chosen.{none_left, chosen_reception}
+use Rattle.std.proofs.lemmas.Option.{IfSome_then}
+use Rattle.std.proofs.lemmas.Result.{IfOk-weaker}
+use Rattle.std.proofs.Common.{refl}
+use Rattle.cp_expansion.proofs.Chosen.{none_left, chosen_test, chosen_some}
 use Rattle.cp_expansion.proofs.chosen_test.test_of.Goals as goal
 
 pub returns-in_default-clause-none : goal.returns-in_default-clause-none
 returns-in_default-clause-none c = ((λ e. none_left c.args.k.now c.args.unrealised.now c.chosen.result c.chosen.ensures c.in_default.not-Some), λ e. refl)
 
-pub critical-requires : goal.critical-requires
-critical-requires c =
-    let r = chosen_reception c.args.k.now c.args.unrealised.now c.chosen.result c.in-Some.node c.requires.listed c.chosen.ensures c.in-Some.is in
-    record { there = (recv r.message, r.reception) }
-
-pub returns-in_default-2-clause-none : goal.returns-in_default-2-clause-none
-returns-in_default-2-clause-none c =
-    let r = chosen_reception c.args.k.now c.args.unrealised.now c.chosen.result c.in-Some.node c.requires.listed c.chosen.ensures c.in-Some.is in
-    let none : IsNone c.in_ok-critical.field-0 = subst IsNone (sym c.in_default-2.is) refl in
-    absurd (r.underivable ((c.in_ok-critical.ensures.none (recv r.message) r.reception).0 none))
+pub returns-clause-skeleton : goal.returns-clause-skeleton
+returns-clause-skeleton c = IfOk-weaker c.test_at.result _ _ (λ t h. IfSome_then t h (λ x there. there.0)) c.test_at.ensures.there
 
 pub returns-clause-test : goal.returns-clause-test
 returns-clause-test c =
-    let r = chosen_reception c.args.k.now c.args.unrealised.now c.chosen.result c.in-Some.node c.requires.listed c.chosen.ensures c.in-Some.is in
-    record { at_node = r.tested; message = r.message; reception = r.reception; path = c.in-Some-2.critical.path; critical = (rw c.in-Some-2.is at c.in_ok-critical.ensures.first) (recv r.message) r.reception }
+    chosen_test c.args.k.now c.args.unrealised.now c.chosen.result c.in-Some.node c.requires.listed c.chosen.ensures c.in-Some.is c.test_at.result c.test_at.ensures.there c.test_at.ensures.first
+
+pub returns-clause-none : goal.returns-clause-none
+returns-clause-none c = chosen_some c.args.k.now c.args.unrealised.now c.chosen.result c.in-Some.node c.requires.listed c.chosen.ensures c.in-Some.is c.test_at.result c.test_at.ensures.none

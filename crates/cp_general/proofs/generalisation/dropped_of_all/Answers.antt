@@ -1,10 +1,16 @@
+use Rattle.std.proofs.Common.{◌∙◌}
+use Rattle.cp_general.proofs.Stepped.{way_goes_on, way_ends}
 use Rattle.cp_general.proofs.generalisation.dropped_of_all.Goals as goal
 
-pub drop_pairs-requires-clause-lists : goal.drop_pairs-requires-clause-lists
-drop_pairs-requires-clause-lists c = (rw c.in-Some.is at c.in_ok-left.ensures.some).leaves.lists
+pub loop-left-preserved : goal.loop-left-preserved
+loop-left-preserved c =
+    let drops = rw c.in-Some-2.is at c.in_ok-next.ensures.some in
+    record {
+      lists = drops.leaves.lists;
+      fit = drops.leaves.fit;
+      way = λ first begins. way_goes_on first c.loop-left.left c.in-Some-2.next (c.loop-left.invariant.way first begins) drops;
+      variables = (rw c.in-Some-2.is at c.in_ok-next.ensures.variables) ∙ c.loop-left.invariant.variables;
+    }
 
-pub drop_pairs-requires-clause-fit : goal.drop_pairs-requires-clause-fit
-drop_pairs-requires-clause-fit c = (rw c.in-Some.is at c.in_ok-left.ensures.some).leaves.fit
-
-pub returns-in_ok-drop_pairs-in-Some-clause-some : goal.returns-in_ok-drop_pairs-in-Some-clause-some
-returns-in_ok-drop_pairs-in-Some-clause-some c = λ k begins. c.in_ok-drop_pairs-in-Some.ensures.leads k (begins c.in-Some.left (rw c.in-Some.is at c.in_ok-left.ensures.some))
+pub returns-clause-some : goal.returns-clause-some
+returns-clause-some c = λ k begins. way_ends k c.loop-left.left (c.loop-left.invariant.way k begins) (rw c.in_default-2.is at c.in_ok-next.ensures.none)

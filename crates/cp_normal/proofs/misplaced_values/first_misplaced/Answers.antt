@@ -1,4 +1,4 @@
 use Rattle.cp_normal.proofs.misplaced_values.first_misplaced.Goals as goal
 
-pub returns-then-not-branch : goal.returns-then-not-branch
-returns-then-not-branch c = c.in_ok-some_is_misplaced.ensures.none (search)
+pub returns-then-not-some_is_misplaced : goal.returns-then-not-some_is_misplaced
+returns-then-not-some_is_misplaced c = c.some_is_misplaced.ensures.none (search)

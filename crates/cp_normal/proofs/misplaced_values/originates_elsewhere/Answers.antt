@@ -9,5 +9,5 @@ pub returns-then-not-carries_value : goal.returns-then-not-carries_value
 returns-then-not-carries_value c = (
   λ r. absurd (not_both refl r),
   λ s. absurd (not_carried c.args.k.now c.args.occurrence.now c.args.unique.now c.requires.is_there
-      (λ h. not_both c.if-not-carries_value.true (c.carries_value.ensures.1 (subst (λ (v : AtomTerm). IsCarriedByTerm (atom_term v) (payload c.args.occurrence.now.event)) (sym c.value.ensures) h))) s),
+      (λ h. not_both c.if-not-carries_value.true (c.carries_value.ensures.1 (subst (λ (v : AtomTerm). IsCarriedByTerm (atom_term v) (payload c.args.occurrence.now.event)) (sym c.value-value.ensures) h))) s),
 )

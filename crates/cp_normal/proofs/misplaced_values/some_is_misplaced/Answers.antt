@@ -13,7 +13,7 @@ pub loop-occurrence-preserved : goal.loop-occurrence-preserved
 loop-occurrence-preserved c =
     let own = c.uniquely_originating-uniques.ensures ∙ ap (λ a. a.uniquely_originating) c.assumptions.ensures in
     none_next (OriginatesMisplaced c.args.k.now) c.args.occurrences.now c.loop-occurrence.occurrence-index c.occurrence-item.result c.occurrence-item.result c.loop-occurrence-test.true c.occurrence-item.is
-    (λ s. (rw c.in-None.is at c.in_ok-first_at.ensures) s.0 (subst (IsIn s.0) (sym own) s.1) s.2)
+    (λ s. (rw c.in-None.is at c.first_at.ensures) s.0 (subst (IsIn s.0) (sym own) s.1) s.2)
     c.loop-occurrence.invariant
 
 pub returns-clause-none : goal.returns-clause-none
@@ -22,5 +22,5 @@ returns-clause-none c = λ e. none_is_misplaced c.args.k.now c.args.occurrences.
 pub returns-in-Some-clause-some : goal.returns-in-Some-clause-some
 returns-in-Some-clause-some c = λ t settled.
     let own = c.uniquely_originating-uniques.ensures ∙ ap (λ a. a.uniquely_originating) c.assumptions.ensures in
-    let f = rw c.in-Some.is at c.in_ok-first_at.ensures in
+    let f = rw c.in-Some.is at c.first_at.ensures in
     settled f.entry _ (record { listed = subst (IsIn f.entry) own (at_place _ _ f.entry f.at_place); originates = f.originates_elsewhere.1; elsewhere = f.originates_elsewhere.0 })

@@ -10,13 +10,13 @@ use Rattle.cp_normal.proofs.normal.is_normal.Goals as goal
 pub returns-then-is_refuted : goal.returns-then-is_refuted
 returns-then-is_refuted c = refuted_not_normal c.args.k.now (c.is_refuted.ensures.0 c.if-is_refuted.true)
 
-pub returns-then-branch : goal.returns-then-branch
-returns-then-branch c = misplaced_not_normal c.args.k.now (c.in_ok-some_is_misplaced.ensures.some c.if-branch.true)
+pub returns-then-some_is_misplaced : goal.returns-then-some_is_misplaced
+returns-then-some_is_misplaced c = misplaced_not_normal c.args.k.now (c.some_is_misplaced.ensures.some c.if-some_is_misplaced.true)
 
 pub returns : goal.returns
 returns c =
     let k = c.args.k.now in
     let added = subst (λ (ps : List OrderPair). (p : OrderPair) → IsIn p ps ↔ IsAddedPair k p) (sym c.deref-4.ensures.value) c.in_ok-added.ensures in
     IfOk-weaker c.all_lead.result _ _
-    (λ all h. normal_if k _ _ all c.is_sound.ensures (c.pairs.ensures ∙ c.order.ensures) (λ r. not_both c.if-is_refuted.false (c.is_refuted.ensures.1 r)) (c.in_ok-some_is_misplaced.ensures.none c.if-branch.false) added h)
+    (λ all h. normal_if k _ _ all c.is_sound.ensures (c.pairs.ensures ∙ c.order.ensures) (λ r. not_both c.if-is_refuted.false (c.is_refuted.ensures.1 r)) (c.some_is_misplaced.ensures.none c.if-some_is_misplaced.false) added h)
     c.all_lead.ensures

@@ -1,11 +1,13 @@
 use Rattle.std.proofs.Common.{rules, tests}
 use Rattle.std.proofs.lemmas.Iterator.{cases_from_any, YieldsList-from_slice}
+use Rattle.cp_model.specs.Skeleton.{UniqueAt}
 use Rattle.cp_skel.specs.declared.events.LocatedEvent.{LocatedEvent}
 use Rattle.cp_normal.specs.Events.{IsCarriedBefore}
-use Rattle.cp_normal.proofs.AnyItem.{some_has}
+use Rattle.cp_collapse.proofs.AnyItem.{some_has}
 use Rattle.cp_normal.proofs.origins.some_is_carried_before.Goals as goal
 
 pub returns : goal.returns
 returns c =
-    let has = λ (o : LocatedEvent). IsCarriedBefore c.args.unique.now o in
+    let u : UniqueAt = record { value = c.args.value.now; origin = c.args.origin } in
+    let has = λ (o : LocatedEvent). IsCarriedBefore u o in
     some_has has _ _ (cases_from_any _ _ _ has (λ (o : LocatedEvent). has o → ⊥) c.any.ensures.ran (YieldsList-from_slice c.args.occurrences.now cc) (λ x q k. search (rules, tests)) (λ x q k. search (rules, tests)))

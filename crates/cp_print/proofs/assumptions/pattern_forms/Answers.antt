@@ -1,10 +1,9 @@
+use Rattle.std.proofs.Common.{rules}
 use Rattle.cp_language.specs.Printed.{pattern_form}
 use Rattle.cp_language.specs.Report.{named_by}
+use Rattle.cp_lists.proofs.Collected.{collected_from_slice}
 use Rattle.cp_sexpr.specs.View.{view}
-use Rattle.cp_print.proofs.PatternForms.{one_more}
 use Rattle.cp_print.proofs.assumptions.pattern_forms.Goals as goal
 
-pub loop-pattern-preserved : goal.loop-pattern-preserved
-loop-pattern-preserved c =
-    one_more view (pattern_form (named_by c.args.names.now)) c.args.patterns.now c.loop-pattern.pattern-index c.pattern-item.result _ c.loop-pattern.forms.items _ c.in_ok-pattern_form.field-0
-    c.loop-pattern-test.true c.pattern-item.is c.in_ok-pattern_form.ensures c.in_ok-push.ensures.items c.loop-pattern.invariant
+pub returns : goal.returns
+returns c = collected_from_slice view (pattern_form (named_by c.args.names.now)) c.args.patterns.now c.try_collect.result (λ x y q k. search rules) c.try_collect.ensures.runs c.map.ensures.runs c.iter.ensures.runs c.iter.ensures.rest

@@ -1,4 +1,4 @@
-use Rattle.std.proofs.Common.{◌≡◌, true, false, ◌+◌, [], ◌∷◌, sym, ◌∙◌}
+use Rattle.std.proofs.Common.{◌≡◌, false, ◌+◌, [], ◌∷◌, sym, ◌∙◌}
 use Rattle.cp_language.specs.ShapesText.{chosen_from}
 use Rattle.cp_sexpr.specs.View.{view}
 use Rattle.cp_print.specs.Chosen.{chosen_by}

@@ -1,4 +1,5 @@
 use Rattle.std.proofs.Common.{[], ◌∷◌, ap, ◌∙◌}
+use Rattle.std.proofs.lemmas.Result.{on_ok_weaker, on_err_weaker}
 use Rattle.cp_language.specs.Names.{problem_names}
 use Rattle.cp_language.specs.ShapesText.{chosen_from, chosen_tree_forms}
 use Rattle.cp_load.specs.Inputs.{problem_view}
@@ -13,7 +14,9 @@ pub returns-clause-ok : goal.returns-clause-ok
 returns-clause-ok c =
     let names = c.deref.ensures.value ∙ c.in_ok-names.ensures ∙ ap (λ t. problem_names c.args.problem.now.declared t) c.variables.ensures in
     let parts = tree_parts (chosen_by c.args.chosen) (problem_view c.args.problem.now) c.args.tree.now c.deref.result.now c.as_slice.result.now (view c.in_ok-status.status) names c.as_slice.ensures c.in_ok-status.ensures in
-    written_both c.args.out.now.items c.args.ends.now.items c.put_labels.new.out.items c.put_labels.new.ends.items (chosen_from (chosen_by c.args.chosen) c.deref.result.now 0 c.as_slice.result.now) (view c.in_ok-status.status ∷ []) (chosen_tree_forms (chosen_by c.args.chosen) (problem_view c.args.problem.now) c.args.tree.now) parts c.put.new.out.items c.put.new.ends.items c.in_ok-put_labels.ensures.ok c.in_ok-put.ensures.ok
+    on_ok_weaker c.put.result
+    (λ h. written_both c.args.out.now.items c.args.ends.now.items c.put_labels.new.out.items c.put_labels.new.ends.items (chosen_from (chosen_by c.args.chosen) c.deref.result.now 0 c.as_slice.result.now) (view c.in_ok-status.status ∷ []) (chosen_tree_forms (chosen_by c.args.chosen) (problem_view c.args.problem.now) c.args.tree.now) parts c.put.new.out.items c.put.new.ends.items c.in_ok-put_labels.ensures.ok h)
+    c.put.ensures.ok
 
 pub returns-in_err-put_labels-clause-err : goal.returns-in_err-put_labels-clause-err
 returns-in_err-put_labels-clause-err c =
@@ -21,8 +24,10 @@ returns-in_err-put_labels-clause-err c =
     let parts = tree_parts (chosen_by c.args.chosen) (problem_view c.args.problem.now) c.args.tree.now c.deref.result.now c.as_slice.result.now (view c.in_ok-status.status) names c.as_slice.ensures c.in_ok-status.ensures in
     OnErr-from c.from_residual-in_err-put_labels.result (first_failed c.args.out.now.items c.args.ends.now.items c.put_labels.new.out.items c.put_labels.new.ends.items (chosen_from (chosen_by c.args.chosen) c.deref.result.now 0 c.as_slice.result.now) (view c.in_ok-status.status ∷ []) (chosen_tree_forms (chosen_by c.args.chosen) (problem_view c.args.problem.now) c.args.tree.now) parts c.in_err-put_labels.ensures.err)
 
-pub returns-in_err-put-clause-err : goal.returns-in_err-put-clause-err
-returns-in_err-put-clause-err c =
+pub returns-clause-err : goal.returns-clause-err
+returns-clause-err c =
     let names = c.deref.ensures.value ∙ c.in_ok-names.ensures ∙ ap (λ t. problem_names c.args.problem.now.declared t) c.variables.ensures in
     let parts = tree_parts (chosen_by c.args.chosen) (problem_view c.args.problem.now) c.args.tree.now c.deref.result.now c.as_slice.result.now (view c.in_ok-status.status) names c.as_slice.ensures c.in_ok-status.ensures in
-    OnErr-from c.from_residual-in_err-put.result (second_failed c.args.out.now.items c.args.ends.now.items c.put_labels.new.out.items c.put_labels.new.ends.items (chosen_from (chosen_by c.args.chosen) c.deref.result.now 0 c.as_slice.result.now) (view c.in_ok-status.status ∷ []) (chosen_tree_forms (chosen_by c.args.chosen) (problem_view c.args.problem.now) c.args.tree.now) parts c.put.new.out.items c.in_ok-put_labels.ensures.ok c.in_err-put.ensures.err)
+    on_err_weaker c.put.result
+    (λ h. second_failed c.args.out.now.items c.args.ends.now.items c.put_labels.new.out.items c.put_labels.new.ends.items (chosen_from (chosen_by c.args.chosen) c.deref.result.now 0 c.as_slice.result.now) (view c.in_ok-status.status ∷ []) (chosen_tree_forms (chosen_by c.args.chosen) (problem_view c.args.problem.now) c.args.tree.now) parts c.put.new.out.items c.in_ok-put_labels.ensures.ok h)
+    c.put.ensures.err

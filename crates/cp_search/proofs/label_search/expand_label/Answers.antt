@@ -1,20 +1,35 @@
+use Rattle.std.proofs.Common.{IsNone, refl, sym, subst, ◌∙◌}
 use Rattle.std.proofs.lemmas.Result.{IfOk-weaker}
+use Rattle.cp_derive.specs.Unrealised.{ListsUnrealised}
+use Rattle.cp_expansion.specs.Expansion.{IsExpansionOf}
+use Rattle.cp_expansion.specs.Views.{expansion_by}
 use Rattle.cp_search.proofs.LabelExpanded.{label_expanded}
 use Rattle.cp_search.proofs.label_search.expand_label.Goals as goal
 
-pub expansion_of-requires : goal.expansion_of-requires
-expansion_of-requires c =
+pub expand-requires : goal.expand-requires
+expand-requires c =
     let label = c.label-label.result.now in
     let lives = c.requires.unrealised label c.label-label.ensures in
     let sound = c.requires.sound.each c.args.number label c.label-label.ensures in
-    record { skeleton = sound.skeleton; declared = sound.declared; listed = (c.requires.found.each c.args.number label c.label-label.ensures).listed lives.0; unrealised = lives.1 }
+    record {
+      skeleton = sound.skeleton;
+      declared = sound.declared;
+      listed = subst (λ ns. ListsUnrealised label.skeleton ns) (sym c.as_slice.ensures) ((c.are_found.ensures.each c.args.number label c.label-label.ensures).listed lives.0);
+    }
+
+pub unreachable-requires : goal.unreachable-requires
+unreachable-requires c =
+    let lives = c.requires.unrealised c.label-label.result.now c.label-label.ensures in
+    let none : IsNone c.in_ok-test.field-0 = subst IsNone (sym c.in_default.is) refl in
+    lives.1 (sym c.as_slice.ensures ∙ (c.in_ok-test.ensures.none).0 none)
 
 pub returns : goal.returns
 returns c =
     let label = c.label-label.result.now in
     let lives = c.requires.unrealised label c.label-label.ensures in
+    let exact : IsExpansionOf c.args.protocol.now label.skeleton (expansion_by c.in-Some.test c.in-Some.expansion) = rw c.in-Some.is at c.in_ok-test.ensures.exact in
     IfOk-weaker c.expand_to.result _ _
-    (λ e h. label_expanded c.args.protocol.now c.args.number c.args.made.now c.expand_to.new.made label c.in_ok-test.test c.in_ok-test.expansion e c.requires.sound c.label-label.ensures lives
-    ((c.requires.found.each c.args.number label c.label-label.ensures).listed lives.0) (λ vs k own. c.expansions_are_sound.ensures c.args.protocol.now vs k c.is_sound.ensures own) c.in_ok-test.ensures
+    (λ e h. label_expanded c.args.protocol.now c.args.number c.args.made.now c.expand_to.new.made label c.in-Some.test c.in-Some.expansion e c.requires.sound c.label-label.ensures lives
+    ((c.are_found.ensures.each c.args.number label c.label-label.ensures).listed lives.0) (λ vs k own. c.expansions_are_sound.ensures c.args.protocol.now vs k c.is_sound.ensures own) exact
     h.0 h.1 h.2 h.3 h.4)
     c.expand_to.ensures

@@ -7,18 +7,8 @@ use Rattle.cp_search.proofs.label_search.search_from.Goals as goal
 pub loop-search-init : goal.loop-search-init
 loop-search-init c = searched_first c.args.protocol.now c.args.limits c.args.roots.items c.in_ok-made.made c.in_ok-made.ensures c.requires.sound c.new.result.items c.new.ensures.items
 
-pub resolve_leaves-requires : goal.resolve_leaves-requires
-resolve_leaves-requires c =
-    let r : IsSearched c.args.protocol.now c.args.limits (map made_of_root c.args.roots.items) c.loop-search.search.made c.loop-search.search.settled.items c.loop-search.search.expanded = c.loop-search.invariant in
-    record { found = r.found }
-
 pub expand_next-requires-clause-next : goal.expand_next-requires-clause-next
 expand_next-requires-clause-next c = c.in_ok-resolve_leaves.ensures.next c.if-branch.true
-
-pub expand_next-requires-clause-found : goal.expand_next-requires-clause-found
-expand_next-requires-clause-found c =
-    let r : IsSearched c.args.protocol.now c.args.limits (map made_of_root c.args.roots.items) c.resolve_leaves.new.search.made c.resolve_leaves.new.search.settled.items c.resolve_leaves.new.search.expanded = c.in_ok-resolve_leaves.ensures.searched c.args.protocol.now (map made_of_root c.args.roots.items) c.loop-search.invariant in
-    r.found
 
 pub expand_next-requires-clause-sound : goal.expand_next-requires-clause-sound
 expand_next-requires-clause-sound c =

@@ -12,7 +12,7 @@ use Rattle.cp_model.specs.declared.tree.Limits.{Limits}
 use Rattle.cp_theory.specs.Lawful.{IsLawful}
 use Rattle.cp_roots.specs.declared.root.Root.{Root}
 use Rattle.cp_roots.proofs.Over.{skeleton_over}
-use Rattle.cp_tree.specs.Declared.{DeclaresItsOwn}
+use Rattle.cp_tree.specs.LabelVariables.{DeclaresItsOwn}
 use Rattle.cp_tree.specs.Searched.{IsTreeFrom, IsTreeOf}
 use Rattle.cp_tree.specs.Edges.{edges}
 use Rattle.cp_tree.proofs.OwnVariables.{own_declared}

@@ -1,38 +1,33 @@
 use Rattle.std.proofs.Common.{◌+◌, ◌++◌, drop, sym, ap, ◌∙◌, arith}
-use Rattle.cp_sexpr.specs.ListSpelling.{gap_before, next_by, first_by}
+use Rattle.cp_sexpr.specs.ListSpelling.{gap_before, next_by}
 use Rattle.cp_sexpr.specs.Spelling.{spelling}
 use Rattle.cp_sexpr.specs.View.{view, views}
-use Rattle.cp_sexpr.proofs.Spelled.{OnErr-from, front_of_part, list_front, list_stopped, item_front, first_items, next_items}
+use Rattle.cp_sexpr.proofs.Spelled.{first_items, next_items}
+use Rattle.cp_sexpr.proofs.GrownText.{list_begins, list_goes_on, list_ends, empty_list, none_left}
 use Rattle.cp_sexpr.proofs.writer.+write.Goals as goal
+use Rattle.cp_sexpr.proofs.writer.+write.Goals.{append_list-in-Some+else-loop-item-test, append_list-in_default}
 
-pub write_list-returns-in_err-write-clause-err : goal.write_list-returns-in_err-write-clause-err
-write_list-returns-in_err-write-clause-err t c =
+pub append_list-loop-item-init : goal.append_list-loop-item-init
+append_list-loop-item-init t c =
     let top = c.args.is_top in
-    let parts = first_items top c.args.items.now c.in-Some.others.now c.in-Some.first.now c.in-Some.ensures.cases.0 in
-    OnErr-from c.from_residual-in_err-write.result
-    (list_front c.args.out.now.items c.push.new.self.items c.write.new.out.items (first_by top (views c.args.items.now)) c.in_ok-push.ensures.items
-    (front_of_part c.push.new.self.items c.write.new.out.items (spelling (view c.in-Some.first.now)) (next_by top (views c.in-Some.others.now)) _ c.in_err-write.ensures.err parts))
+    let others = c.in-Some.others.now in
+    let parts = first_items top c.args.items.now others c.in-Some.first.now c.in-Some.ensures.cases.0 in
+    list_begins c.args.out.now c.push.new.self c.append_form.new.out (spelling (view c.in-Some.first.now)) (next_by top (views others)) _ c.push.ensures c.append_form.ensures parts
 
-pub write_list-returns-in_err-extend_from_slice-clause-err : goal.write_list-returns-in_err-extend_from_slice-clause-err
-write_list-returns-in_err-extend_from_slice-clause-err t c =
-    let l = c.loop-item in
-    OnErr-from c.from_residual-in_err-extend_from_slice.result
-    (list_stopped c.args.out.now.items l.out.items c.extend_from_slice.new.self.items l.invariant.0 _ _ l.invariant.1 l.invariant.2 c.in_err-extend_from_slice.ensures.items)
-
-pub write_list-returns-in_err-write-2-clause-err : goal.write_list-returns-in_err-write-2-clause-err
-write_list-returns-in_err-write-2-clause-err t c =
+pub append_list-loop-item-preserved : goal.append_list-loop-item-preserved
+append_list-loop-item-preserved t c =
     let l = c.loop-item in
     let top = c.args.is_top in
     let item = c.item-item.result in
-    let done = l.invariant.0 in
-    let rest = next_by top (views (drop (l.item-index + 1) c.in-Some.others.now)) in
-    let next = next_items top c.in-Some.others.now l.item-index item (omega arith) ∙ ap (λ f. gap_before top (view f) ++ (spelling (view f) ++ rest)) (sym c.item-item.is) in
-    OnErr-from c.from_residual-in_err-write-2.result
-    (item_front c.args.out.now.items l.out.items c.extend_from_slice.new.self.items c.write-in-loop-item.new.out.items done (gap_before top (view item)) (spelling (view item)) rest _
-    l.invariant.1 (l.invariant.2 ∙ ap (λ s. done ++ s) next) (c.in_ok-extend_from_slice.ensures.items ∙ ap (λ s. l.out.items ++ s) c.gap.ensures) c.in_err-write-2.ensures.err)
+    let others = c.in-Some.others.now in
+    let left = next_by top (views (drop l.item-index others)) in
+    let rest = next_by top (views (drop (l.item-index + 1) others)) in
+    let next = next_items top others l.item-index item (omega arith) ∙ ap (λ f. gap_before top (view f) ++ (spelling (view f) ++ rest)) (sym c.item-item.is) in
+    let same = next ∙ ap (λ g. g ++ (spelling (view item) ++ rest)) (sym c.gap.ensures) in
+    list_goes_on c.args.out.now l.out c.append.new.self c.append_form-in-loop-item.new.out c.gap.result.now (spelling (view item)) left rest _ l.invariant same c.append.ensures c.append_form-in-loop-item.ensures
 
-pub write_list-returns-in_err-push-3-clause-err : goal.write_list-returns-in_err-push-3-clause-err
-write_list-returns-in_err-push-3-clause-err t c =
-    let l = c.loop-item in
-    OnErr-from c.from_residual-in_err-push-3.result
-    (list_stopped c.args.out.now.items l.out.items c.push-2.new.self.items l.invariant.0 _ _ l.invariant.1 l.invariant.2 c.in_err-push-3.ensures.items)
+pub append_list-returns : goal.append_list-returns
+append_list-returns t c = elim c.match-split_first.branch [
+  | append_list-in-Some+else-loop-item-test w ↦ list_ends c.args.out.now w.loop-item.out c.match-split_first.out c.push-2.new.self _ _ w.loop-item.invariant (none_left c.args.is_top w.in-Some.others.now w.loop-item.item-index w.loop-item-test.false) w.out-is c.push-2.ensures
+  | append_list-in_default w ↦ empty_list c.args.is_top c.args.out.now c.push.new.self c.match-split_first.out c.push-2.new.self c.args.items.now w.in_default.ensures.cases c.push.ensures w.out-is c.push-2.ensures
+]

@@ -4,7 +4,7 @@ use Rattle.std.proofs.lemmas.List.{drop_all}
 use Rattle.cp_lists.proofs.Members.{drop_read}
 use Rattle.cp_skel.proofs.EachOnce.{kept-taken, kept-left, kept-end}
 use Rattle.cp_skel.proofs.gathered.stated_first.Goals as goal
-use Rattle.cp_skel.proofs.gathered.stated_first.Goals.{then-has+in_ok-again+in_ok-add_once, else-has}
+use Rattle.cp_skel.proofs.gathered.stated_first.Goals.{then-has+in_ok-clone+in_ok-add_once, else-has}
 
 pub loop-item-preserved : goal.loop-item-preserved
 loop-item-preserved g c =
@@ -15,15 +15,15 @@ loop-item-preserved g c =
     let onto = g.T.Gathered.onto in
     let next = drop_read stated n v c.loop-item-test.true c.item-item.is in
     elim c.if-has.branch [
-      | then-has+in_ok-again+in_ok-add_once w ↦
-          kept-taken g.met.T.Gathered.gathers old (drop n stated) (drop (n + 1) stated) c.loop-item.listed.items c.if-has.listed.items _ v next c.loop-item.invariant
-          (c.has.ensures.0 w.if-has.true) (ap (λ l. l.items) w.listed-is ∙ w.in_ok-add_once.ensures.added ∙ ap (λ a. onto c.loop-item.listed.items (a ∷ [])) w.in_ok-again.ensures)
+      | then-has+in_ok-clone+in_ok-add_once w ↦
+          kept-taken g.T.Gathered.gathers old (drop n stated) (drop (n + 1) stated) c.loop-item.listed.items c.if-has.listed.items _ v next c.loop-item.invariant
+          (c.has.ensures.0 w.if-has.true) (ap (λ l. l.items) w.listed-is ∙ w.in_ok-add_once.ensures.added ∙ ap (λ a. onto c.loop-item.listed.items (a ∷ [])) (g.met.T.Gathered.same_clone v _ w.in_ok-clone.ensures.cases))
       | else-has w ↦
-          kept-left g.met.T.Gathered.gathers old (drop n stated) (drop (n + 1) stated) c.loop-item.listed.items c.if-has.listed.items _ v next c.loop-item.invariant
+          kept-left g.T.Gathered.gathers old (drop n stated) (drop (n + 1) stated) c.loop-item.listed.items c.if-has.listed.items _ v next c.loop-item.invariant
           (λ i. both_ways c.has.result w.if-has.false (c.has.ensures.1 i)) (ap (λ l. l.items) w.listed-is)
     ]
 
 pub returns : goal.returns
 returns g c =
-    kept-end g.met.T.Gathered.gathers c.args.old.now c.args.stated.now (drop c.loop-item.item-index c.args.stated.now) c.loop-item.listed.items c.add_each.new.items.items
+    kept-end g.T.Gathered.gathers c.args.old.now c.args.stated.now (drop c.loop-item.item-index c.args.stated.now) c.loop-item.listed.items c.add_each.new.items.items
     (drop_all c.loop-item.item-index c.args.stated.now c.loop-item-test.false) c.loop-item.invariant c.in_ok-add_each.ensures

@@ -1,8 +1,9 @@
-use Rattle.std.proofs.Common.{length, sym, ◌∙◌}
+use Rattle.std.proofs.Common.{rules, length, sym, ◌∙◌}
 use Rattle.cp_model.specs.Skeleton.{term_event_at}
 use Rattle.cp_model.specs.OrderTests.{reaches_within}
 use Rattle.cp_language.specs.Problems.{is_known, on_one_strand}
 use Rattle.cp_load.proofs.Cycles.{order-searched}
+use Rattle.cp_lists.proofs.Collected.{if_mapped}
 use Rattle.cp_stated.proofs.Among.{on-one-strand, not-there, led-to}
 use Rattle.cp_stated.proofs.images.is_in_order.Goals as goal
 
@@ -24,5 +25,6 @@ returns c =
     let a = on_one_strand p in
     let b = is_known (term_event_at c.args.strands.now p.later) in
     let r = reaches_within (length c.args.pairs.now) c.args.pairs.now p.earlier p.later in
-    order-searched c.args.pairs.now p.earlier p.later c.in_ok-leading.leading c.has.result c.in_ok-leading.ensures c.has.ensures
-    ∙ led-to a b r (sym c.is_on_one_strand.ensures ∙ c.if-is_on_one_strand.false) (sym c.is_there.ensures ∙ c.if-not-is_there.false)
+    if_mapped c.new.result c.map.result (λ leading answer gathered k.
+    order-searched c.args.pairs.now p.earlier p.later leading answer gathered (search rules)
+    ∙ led-to a b r (sym c.is_on_one_strand.ensures ∙ c.if-is_on_one_strand.false) (sym c.is_there.ensures ∙ c.if-not-is_there.false)) c.new.ensures c.map.ensures.cases

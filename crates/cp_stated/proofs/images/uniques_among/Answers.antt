@@ -1,19 +1,18 @@
+use Rattle.std.proofs.Common.{rules, map, ap, ◌∙◌}
+use Rattle.std.specs.Prelude.{Ok}
+use Rattle.std.specs.List.{filter}
+use Rattle.std.proofs.lemmas.Fn.{filter_same}
+use Rattle.std.proofs.lemmas.List.{map-id}
 use Rattle.cp_model.specs.Stated.{unique_image}
 use Rattle.cp_model.specs.Given.{has_unique}
 use Rattle.cp_report.specs.Skeletons.{map_by}
-use Rattle.cp_stated.proofs.FormLists.{kept-taken, kept-left, kept-done}
+use Rattle.cp_lists.proofs.Collected.{made_from_slice}
 use Rattle.cp_stated.proofs.images.uniques_among.Goals as goal
-
-pub loop-unique-preserved-then-not-has_unique : goal.loop-unique-preserved-then-not-has_unique
-loop-unique-preserved-then-not-has_unique c =
-    kept-left (unique_image (map_by c.args.strands.now c.args.values.now)) (has_unique c.args.listed.now) c.args.own.now c.loop-unique.unique-index c.unique-item.result c.loop-unique-test.true c.unique-item.is
-    c.in_ok-image.image c.has_unique.result c.in_ok-image.ensures c.has_unique.ensures c.if-not-has_unique.true c.loop-unique.images.items _ c.loop-unique.invariant
-
-pub loop-unique-preserved : goal.loop-unique-preserved
-loop-unique-preserved c =
-    kept-taken (unique_image (map_by c.args.strands.now c.args.values.now)) (has_unique c.args.listed.now) c.args.own.now c.loop-unique.unique-index c.unique-item.result c.loop-unique-test.true c.unique-item.is
-    c.in_ok-image.image c.has_unique.result c.in_ok-image.ensures c.has_unique.ensures c.if-not-has_unique.false c.loop-unique.images.items c.push.new.self.items _ c.in_ok-push.ensures.items c.loop-unique.invariant
 
 pub returns : goal.returns
 returns c =
-    kept-done (unique_image (map_by c.args.strands.now c.args.values.now)) (has_unique c.args.listed.now) c.args.own.now c.loop-unique.unique-index c.loop-unique-test.false c.loop-unique.images.items _ c.loop-unique.invariant
+    let make = unique_image (map_by c.args.strands.now c.args.values.now) in
+    let keep = has_unique c.args.listed.now in
+    filter_same _ keep _ (λ x b q k. search rules) c.in_ok-images.images.items c.retain.new.self.items c.retain.ensures.filtered
+    ∙ ap (filter keep) (made_from_slice make (λ x. x) c.args.own.now (Ok c.in_ok-images.images) (λ x y q k. search rules) c.in_ok-images.ensures.runs c.map.ensures.runs c.iter.ensures.runs c.iter.ensures.rest
+    ∙ ap (map make) (map-id c.args.own.now))

@@ -1,19 +1,18 @@
+use Rattle.std.proofs.Common.{rules, map, ap, ◌∙◌}
+use Rattle.std.specs.Prelude.{Ok}
+use Rattle.std.specs.List.{filter}
+use Rattle.std.proofs.lemmas.Fn.{filter_same}
+use Rattle.std.proofs.lemmas.List.{map-id}
 use Rattle.cp_model.specs.Term.{apply_to_atom}
 use Rattle.cp_model.specs.Homomorphism.{substitution_by}
 use Rattle.cp_model.specs.Given.{has_atom}
-use Rattle.cp_stated.proofs.FormLists.{kept-taken, kept-left, kept-done}
+use Rattle.cp_lists.proofs.Collected.{made_from_slice}
 use Rattle.cp_stated.proofs.images.values_among.Goals as goal
-
-pub loop-value-preserved-then-not-has_atom : goal.loop-value-preserved-then-not-has_atom
-loop-value-preserved-then-not-has_atom c =
-    kept-left (apply_to_atom (substitution_by c.args.values.now)) (has_atom c.args.listed.now) c.args.own.now c.loop-value.value-index c.value-item.result c.loop-value-test.true c.value-item.is
-    c.in_ok-image.image c.has_atom.result c.in_ok-image.ensures c.has_atom.ensures c.if-not-has_atom.true c.loop-value.images.items _ c.loop-value.invariant
-
-pub loop-value-preserved : goal.loop-value-preserved
-loop-value-preserved c =
-    kept-taken (apply_to_atom (substitution_by c.args.values.now)) (has_atom c.args.listed.now) c.args.own.now c.loop-value.value-index c.value-item.result c.loop-value-test.true c.value-item.is
-    c.in_ok-image.image c.has_atom.result c.in_ok-image.ensures c.has_atom.ensures c.if-not-has_atom.false c.loop-value.images.items c.push.new.self.items _ c.in_ok-push.ensures.items c.loop-value.invariant
 
 pub returns : goal.returns
 returns c =
-    kept-done (apply_to_atom (substitution_by c.args.values.now)) (has_atom c.args.listed.now) c.args.own.now c.loop-value.value-index c.loop-value-test.false c.loop-value.images.items _ c.loop-value.invariant
+    let make = apply_to_atom (substitution_by c.args.values.now) in
+    let keep = has_atom c.args.listed.now in
+    filter_same _ keep _ (λ x b q k. search rules) c.in_ok-images.images.items c.retain.new.self.items c.retain.ensures.filtered
+    ∙ ap (filter keep) (made_from_slice make (λ x. x) c.args.own.now (Ok c.in_ok-images.images) (λ x y q k. search rules) c.in_ok-images.ensures.runs c.map.ensures.runs c.iter.ensures.runs c.iter.ensures.rest
+    ∙ ap (map make) (map-id c.args.own.now))

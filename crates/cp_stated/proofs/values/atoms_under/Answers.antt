@@ -1,18 +1,15 @@
-use Rattle.std.proofs.Common.{◌++◌, ◌∷◌, [], map, ap, ◌∙◌}
+use Rattle.std.proofs.Common.{rules, map, ap, ◌∙◌}
+use Rattle.std.proofs.lemmas.Result.{IfOk-weaker}
 use Rattle.cp_sexpr.specs.View.{view}
 use Rattle.cp_report.specs.Heads.{entries_under}
 use Rattle.cp_report.specs.Spelled.{Scope, atom_in}
 use Rattle.cp_spelled.specs.Views.{scope_view}
-use Rattle.cp_spelled.proofs.Declared.{each-made, all-made}
+use Rattle.cp_lists.proofs.Collected.{made_from_slice}
 use Rattle.cp_stated.proofs.values.atoms_under.Goals as goal
-
-pub loop-item-preserved : goal.loop-item-preserved
-loop-item-preserved c =
-    let values = c.loop-item.values.items in
-    each-made c.entries_under-entries.result.now c.loop-item.item-index (atom_in (scope_view c.args.scope)) c.item-item.result c.loop-item-test.true c.item-item.is values c.push.new.self.items _
-    (c.in_ok-push.ensures.items ∙ ap (λ v. values ++ v ∷ []) c.in_ok-value.ensures) c.loop-item.invariant
 
 pub returns : goal.returns
 returns c =
-    all-made c.entries_under-entries.result.now c.loop-item.item-index (atom_in (scope_view c.args.scope)) c.loop-item-test.false c.loop-item.values.items _ c.loop-item.invariant
-    ∙ ap (map (atom_in (scope_view c.args.scope))) c.entries_under-entries.ensures ∙ ap (λ (s : Scope). map (atom_in s) (entries_under c.args.word.now (map view c.args.items.now))) c.requires
+    let make = atom_in (scope_view c.args.scope) in
+    IfOk-weaker c.try_collect.result _ _
+    (λ v e. e ∙ ap (map make) c.entries_under-entries.ensures ∙ ap (λ (s : Scope). map (atom_in s) (entries_under c.args.word.now (map view c.args.items.now))) c.requires)
+    (made_from_slice make view c.entries_under-entries.result.now c.try_collect.result (λ x y q k. search rules) c.try_collect.ensures.runs c.map.ensures.runs c.iter.ensures.runs c.iter.ensures.rest)

@@ -13,7 +13,7 @@ loop-number-preserved-then-not-is_added c =
       declaration-kept wanted c.args.old.now c.variables-declaration-items.result.now l.number l.next c.args.values.now d
           c.loop-number-test.true c.declaration-item.is
           c.numbered-id.result c.numbered-id.ensures c.is_added.result c.is_added.ensures l.terms.items c.push.new.self.items _ l.invariant.0
-          _ c.in_ok-term_or_variable.field-0 c.in_ok-term_or_variable.ensures c.in_ok-push.ensures.items c.if-not-is_added.true c.value_at.ensures,
+          _ c.in_ok-term_or_variable.field-0 c.in_ok-term_or_variable.ensures c.in_ok-push.ensures.items c.if-not-is_added.true c.item_at.ensures,
       omega (arith, l.invariant.1),
     )
 
@@ -25,7 +25,7 @@ loop-number-preserved c =
       declaration-taken wanted c.args.old.now c.variables-declaration-items.result.now l.number l.next c.args.values.now d
           c.loop-number-test.true c.declaration-item.is
           c.numbered-id.result c.numbered-id.ensures c.is_added.result c.is_added.ensures l.terms.items c.push-in-loop-number.new.self.items _ l.invariant.0
-          _ c.in_ok-term_or_variable-2.field-0 c.in_ok-term_or_variable-2.ensures c.in_ok-push-2.ensures.items c.if-not-is_added.false c.value_at-in-loop-number.ensures,
+          _ c.in_ok-term_or_variable-2.field-0 c.in_ok-term_or_variable-2.ensures c.in_ok-push-2.ensures.items c.if-not-is_added.false c.item_at-in-loop-number.ensures,
       omega (arith, l.invariant.1),
     )
 

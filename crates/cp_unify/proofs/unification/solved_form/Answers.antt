@@ -1,8 +1,12 @@
+use Rattle.std.proofs.Common.{◌≡◌, Some, rules}
+use Rattle.cp_lists.proofs.Collected.{ok_mapped}
 use Rattle.cp_unify.proofs.Answered.{already_solved, solved_but_all, none_early, next_early, all_found}
 use Rattle.cp_unify.proofs.unification.solved_form.Goals as goal
 
 pub returns-then-is_solved : goal.returns-then-is_solved
-returns-then-is_solved c = already_solved _ _ c.in_ok-same.ensures (c.is_solved.ensures c.if-is_solved.true)
+returns-then-is_solved c =
+    ok_mapped c.copy.result c.map.result c.copy.ensures c.map.ensures.cases
+    (λ x is y some. let made : y ≡ Some x = search rules in rw made (already_solved _ _ is (c.is_solved.ensures c.if-is_solved.true)))
 
 pub loop-binding-init : goal.loop-binding-init
 loop-binding-init c = rw c.new-solved.ensures (solved_but_all _)

@@ -1,4 +1,0 @@
-use Rattle.cp_items.proofs.label_tests.pattern_stated.Goals as goal
-
-pub returns : goal.returns
-returns c = rw c.in-Some.is at c.in_ok-pattern.ensures

@@ -1,8 +1,0 @@
-use Rattle.cp_collapse.specs.Property.{Has}
-use Rattle.cp_normal.specs.Events.{IsPairBetween}
-use Rattle.cp_normal.proofs.ListLoops.{IsGathering}
-use Rattle.cp_normal.proofs.pairs.add_pairs.Given as goal
-
-abbrev pub invariant-loop-occurrence : goal.invariant-loop-occurrence
-invariant-loop-occurrence l =
-    IsGathering (λ o p. Has (λ u. IsPairBetween o u p) l.uniques) l.occurrences l.occurrence-index l.initial.pairs.items l.pairs.items

@@ -1,7 +1,0 @@
-use Rattle.std.proofs.Common.{rules}
-use Rattle.std.proofs.lemmas.List.Sorted.{answers_always}
-use Rattle.cp_order.proofs.PairsInOrder.{key_of, sorted-by-key}
-use Rattle.cp_order.proofs.predecessors.sorted.Goals as goal
-
-pub returns-clause-order : goal.returns-clause-order
-returns-clause-order c = sorted-by-key _ (c.in_ok-sort_by_key.ensures.sorted key_of (answers_always _ _ _ (λ f a r g h. search rules)))
