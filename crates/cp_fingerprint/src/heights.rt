@@ -1,5 +1,5 @@
 // Counts role strands by role and height.
-ghost use Rattle.std.specs.Prelude.{◌≡◌, ◌↔◌, ◌≤◌, IsTrue, IfOk};
+ghost use Rattle.std.specs.Prelude.{◌≡◌, ◌↔◌, IsTrue, IfOk};
 ghost use Rattle.cp_fingerprint.specs.Heights.{heights_of, is_as_high, count_from, HaveNoMore};
 
 use cp_base::Text;
@@ -48,20 +48,15 @@ fn count(name: &Text, height: usize, heights: &[RoleHeight]) -> usize
         .count()
 }
 
-/// Whether `heights` has no more entries than `others` of this one's name that are at least as high.
-fn has_no_more(one: &RoleHeight, heights: &[RoleHeight], others: &[RoleHeight]) -> bool
-    ensures { IsTrue result ↔ (count_from 0 one.now.name one.now.height heights.now ≤ count_from 0 one.now.name one.now.height others.now) }
-{
-    count(&one.name, one.height, heights) <= count(&one.name, one.height, others)
-}
-
 /// Whether `heights` has, for each name and each height, no more entries than `others` of that name that are at least that high.
 /// Only the heights that occur in `heights` need to be compared.
 pub(crate) fn have_no_more(heights: &[RoleHeight], others: &[RoleHeight]) -> bool
     ensures { IsTrue result ↔ HaveNoMore heights.now others.now }
 {
     for one in heights {
-        if !has_no_more(one, heights, others) {
+        let wanted = count(&one.name, one.height, heights);
+        let room = count(&one.name, one.height, others);
+        if wanted > room {
             return false;
         }
     }

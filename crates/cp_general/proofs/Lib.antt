@@ -12,6 +12,7 @@ pub mod Deleted
 pub mod Ways
 pub mod Covered
 pub mod CoveringPairs
+mod LedBelow
 pub mod Listed
 pub mod Dropped
 pub mod FreePairs

@@ -5,17 +5,6 @@ ghost use Rattle.cp_general.specs.CoveringPairs.{led_to, predecessors_of, is_ear
 use cp_skel::{Node, OrderPair};
 use std::alloc::{AllocError, Global};
 
-/// The later nodes of the pairs that go from a node.
-fn led_to(alloc: Global, pairs: &[OrderPair], node: Node) -> Result<Vec<Node>, AllocError>
-    ensures { IfOk result (λ ns. ns.items ≡ led_to pairs.now node) }
-{
-    pairs
-        .iter()
-        .filter(|pair| pair.earlier == node)
-        .map(|pair| pair.later)
-        .collect(alloc)
-}
-
 /// The earlier nodes of the pairs that go to a node.
 fn predecessors_of(alloc: Global, pairs: &[OrderPair], node: Node) -> Result<Vec<Node>, AllocError>
     ensures { IfOk result (λ ns. ns.items ≡ predecessors_of pairs.now node) }
@@ -46,16 +35,11 @@ fn is_below_one(node: Node, others: &[Node]) -> bool
     false
 }
 
-/// Whether one of `nodes` is before one of `others` on the same strand.
-fn some_is_below(nodes: &[Node], others: &[Node]) -> bool
-    ensures { result ≡ some_is_below nodes.now others.now }
+/// Whether a pair leads from a node to one that is before one of `others` on its strand.
+fn leads_below(pairs: &[OrderPair], node: Node, others: &[Node]) -> bool
+    ensures { result ≡ some_is_below (led_to pairs.now node) others.now }
 {
-    for node in nodes {
-        if is_below_one(*node, others) {
-            return true;
-        }
-    }
-    false
+    pairs.iter().any(|pair| pair.earlier == node && is_below_one(pair.later, others))
 }
 
 /// Whether some node is between the two nodes of a pair. `pairs` must be all pairs of the order.
@@ -66,9 +50,7 @@ pub(crate) fn is_covered(
 ) -> Result<bool, AllocError>
     ensures { IfOk result (λ covered. covered ≡ is_covered pairs.now pair) }
 {
-    let mut firsts = led_to(alloc, pairs, pair.earlier)?;
-    firsts.push(pair.earlier)?;
     let mut lasts = predecessors_of(alloc, pairs, pair.later)?;
     lasts.push(pair.later)?;
-    Ok(some_is_below(&firsts, &lasts))
+    Ok(leads_below(pairs, pair.earlier, &lasts) || is_below_one(pair.earlier, &lasts))
 }

@@ -14,20 +14,17 @@ use crate::pairs::with_all_pairs;
 use cp_skel::Skeleton;
 use std::alloc::{AllocError, Global};
 
-/// The skeleton after strands are deleted until none can be; `None` if none can be deleted at first.
-fn deleted(alloc: Global, k: &Skeleton) -> Result<Option<Skeleton>, AllocError>
-    ensures some { IfOk result (λ found. IfSome found (λ h. ComesBySteps k.now h)) }
-    ensures last { IfOk result (λ found. IfSome found (λ h. DeletesNone h)) }
-    ensures none { IfOk result (λ found. IfNone found (DeletesNone k.now)) }
-    ensures variables { IfOk result (λ found. IfSome found (λ h. h.variables ≡ k.now.variables)) }
+/// The skeleton after further strands are deleted until none can be.
+fn deleted(alloc: Global, first: Skeleton) -> Result<Skeleton, AllocError>
+    ensures comes { IfOk result (λ h. (k : Plain) → ComesBySteps k first → ComesBySteps k h) }
+    ensures last { IfOk result (λ h. DeletesNone h) }
+    ensures variables { IfOk result (λ h. h.variables ≡ first.variables) }
 {
-    let Some(mut left) = first_deletion(alloc, k)? else {
-        return Ok(None);
-    };
+    let mut left = first;
     while let Some(next) = first_deletion(alloc, &left)? {
         left = next;
     }
-    Ok(Some(left))
+    Ok(left)
 }
 
 /// The skeleton after pairs are dropped until none can be; `None` if none can be dropped at first. It must be fit and list all
@@ -93,12 +90,13 @@ pub fn generalised(alloc: Global, k: &Skeleton) -> Result<Option<Skeleton>, Allo
     ensures none { IfOk result (λ found. IfNone found (IsMaximallyGeneral k.now)) }
     ensures variables { IfOk result (λ found. IfSome found (λ g. g.variables ≡ k.now.variables)) }
 {
-    match deleted(alloc, k)? {
-        Some(left) => match dropped(alloc, &left)? {
-            Some(freer) => Ok(Some(freer)),
-            None => Ok(Some(left)),
-        },
-        None => dropped(alloc, k),
+    let Some(first) = first_deletion(alloc, k)? else {
+        return dropped(alloc, k);
+    };
+    let left = deleted(alloc, first)?;
+    match dropped(alloc, &left)? {
+        Some(freer) => Ok(Some(freer)),
+        None => Ok(Some(left)),
     }
 }
 

@@ -1,20 +1,14 @@
 -- Variables that are looked for in a list.
-use Rattle.std.proofs.Common.{◌≡◌, List, [], ◌∷◌, Bool, ◌&&◌, ◌||◌, ◌==◌, refl, ap, ap₂}
+use Rattle.std.proofs.Common.{rules, ◌≡◌, List, [], ◌∷◌, Bool, ◌&&◌, ◌||◌, ◌==◌, refl, ap, ap₂}
 use Rattle.std.specs.List.{list_any}
 use Rattle.cp_model.specs.declared.sort.Sort.{Sort}
-use Rattle.cp_model.specs.declared.sort.Sort.TheVariants.{Text as text_sort, Datum as datum_sort, Name as name_sort, Skey as skey_sort, Akey as akey_sort}
 use Rattle.cp_model.specs.declared.variable.Variable.{Variable}
 use Rattle.cp_model.specs.contracts.sort.SortPartialEq.TheImpl.{ghosts as sorts}
 use Rattle.cp_model.specs.contracts.variable.VariablePartialEq.TheImpl.{ghosts as variables}
 use Rattle.cp_model.specs.Same.{same_sort, has_variable}
 
 sorts_alike : (s t : Sort) → sorts.eq s t ≡ same_sort s t
-sorts_alike text_sort text_sort = refl
-sorts_alike datum_sort datum_sort = refl
-sorts_alike name_sort name_sort = refl
-sorts_alike skey_sort skey_sort = refl
-sorts_alike akey_sort akey_sort = refl
-sorts_alike _ _ = refl
+sorts_alike s t = search rules
 
 -- The list has the variable where one of its items equals it.
 pub found_in : (xs : List Variable) (x : Variable) → list_any (λ y. variables.eq y x) xs ≡ has_variable xs x

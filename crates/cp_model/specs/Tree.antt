@@ -90,18 +90,29 @@ abbrev pub skeletons_left : List Label → List Skeleton
 skeletons_left [] = []
 skeletons_left (l ∷ ls) = if_left l.mark l.skeleton (skeletons_left ls)
 
--- What is true of the tree that is printed for a problem. Each label denotes a skeleton over the protocol, which carries a
--- homomorphism from the problem and keeps what the problem states itself. Each shape is realised; no shape embeds in
--- another; where the outcome is complete, every bundle in which the problem stands contains a shape through which that
--- standing factors; at a limit too it contains a shape or a label at a limit through which it does; and a limit is the
--- outcome only where its stated bound was reached.
+-- What is true of each label: it denotes a skeleton over the protocol, which carries a homomorphism from the problem and keeps
+-- what the problem states itself; a shape is realised.
+pub record IsLabelOf (protocol : Protocol) (problem : Skeleton) (label : Label) : Type 0 where
+  pub skeleton : IsSkeleton protocol label.skeleton
+  pub from_problem : CarriesHomomorphism problem label.skeleton
+  pub stated : KeepsStated problem label.skeleton
+  pub realised : label.mark ≡ Some shape → IsRealised protocol label.skeleton
+
+-- No shape embeds in another.
+abbrev pub AreApart : List Label → Type 0
+AreApart labels = (i j : ℕ) (l m : Label) → item_at labels i ≡ Some l → item_at labels j ≡ Some m → l.mark ≡ Some shape → m.mark ≡ Some shape → i ≢ j → Embeds l.skeleton m.skeleton → ⊥
+
+-- A limit is the outcome only where its stated bound was reached.
+pub record HasReachedLimit (limits : Limits) (tree : Tree) : Type 0 where
+  pub steps : tree.outcome ≡ at_step_limit → ReachedSteps limits tree
+  pub strands : tree.outcome ≡ at_strand_limit → ReachedStrands limits tree
+
+-- What is true of the tree that is printed for a problem, of its labels, its shapes and its outcome: where that is complete, every
+-- bundle in which the problem stands contains a shape through which that standing factors; at a limit too it contains a shape or a
+-- label at a limit through which it does.
 pub record IsTrueOf (protocol : Protocol) (problem : Skeleton) (limits : Limits) (tree : Tree) : Type 0 where
-  pub skeletons : (i : ℕ) (l : Label) → item_at tree.labels i ≡ Some l → IsSkeleton protocol l.skeleton
-  pub from_problem : (i : ℕ) (l : Label) → item_at tree.labels i ≡ Some l → CarriesHomomorphism problem l.skeleton
-  pub stated : (i : ℕ) (l : Label) → item_at tree.labels i ≡ Some l → KeepsStated problem l.skeleton
-  pub realised : (i : ℕ) (l : Label) → item_at tree.labels i ≡ Some l → l.mark ≡ Some shape → IsRealised protocol l.skeleton
-  pub none_embeds : (i j : ℕ) (l m : Label) → item_at tree.labels i ≡ Some l → item_at tree.labels j ≡ Some m → l.mark ≡ Some shape → m.mark ≡ Some shape → i ≢ j → Embeds l.skeleton m.skeleton → ⊥
+  pub labels : (i : ℕ) (l : Label) → item_at tree.labels i ≡ Some l → IsLabelOf protocol problem l
+  pub apart : AreApart tree.labels
   pub nothing_missed : tree.outcome ≡ complete → IsCompleteList protocol problem (shapes_of tree.labels)
   pub nothing_left_out : IsCompleteList protocol problem (skeletons_left tree.labels)
-  pub steps_reached : tree.outcome ≡ at_step_limit → ReachedSteps limits tree
-  pub strands_reached : tree.outcome ≡ at_strand_limit → ReachedStrands limits tree
+  pub limit_reached : HasReachedLimit limits tree

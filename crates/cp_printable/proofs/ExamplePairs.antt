@@ -100,4 +100,4 @@ paired_same = record {
 
 -- It does not go to another strand.
 pub paired_untrue : IsTrueOf heard_problem.protocol heard_problem.skeleton one_step_limits paired_tree → ⊥
-paired_untrue is = ((is.skeletons 0 paired_label refl).order_pairs along_listener here).between_strands refl
+paired_untrue is = ((is.labels 0 paired_label refl).skeleton.order_pairs along_listener here).between_strands refl

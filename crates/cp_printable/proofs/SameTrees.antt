@@ -14,7 +14,7 @@ use Rattle.cp_model.specs.PointOfView.{StatesItself}
 use Rattle.cp_model.specs.Skeleton.{Skeleton, IsSkeleton}
 use Rattle.cp_model.specs.Standing.{Standing, StandsIn, StandsApart}
 use Rattle.cp_model.specs.Homomorphism.{Embeds, FactorsThrough, Covers}
-use Rattle.cp_model.specs.Tree.{Test, Label, Tree, is_expanded, expanded_count, if_shape, shapes_of, if_left, skeletons_left, IsOpen, ReachedSteps, ReachedStrands, IsTrueOf}
+use Rattle.cp_model.specs.Tree.{Test, Label, Tree, is_expanded, expanded_count, if_shape, shapes_of, if_left, skeletons_left, IsOpen, ReachedSteps, ReachedStrands, IsLabelOf, IsTrueOf}
 use Rattle.cp_model.specs.declared.tree.Mark.{Mark}
 use Rattle.cp_model.specs.declared.tree.Mark.TheVariants.{Shape as shape, Dead as dead, Seen as seen, InstanceOf as instance_of, LimitSteps as limit_steps, LimitStrands as limit_strands}
 use Rattle.cp_model.specs.declared.tree.Limits.{Limits}
@@ -152,7 +152,7 @@ module _ (protocol : Protocol) (problem : Skeleton) (variables : List Declaratio
 
   -- Each label of the first tree denotes a skeleton over the protocol,
   was_skeleton : (l : Label) → IsIn l t.labels → IsSkeleton protocol l.skeleton
-  was_skeleton l i = let p = place_of i in is.skeletons p.0 l p.1
+  was_skeleton l i = let p = place_of i in (is.labels p.0 l p.1).skeleton
 
   -- and so does each label of the second.
   is_skeleton : (l m : Label) → IsIn l t.labels → IsIn m u.labels → IsSameLabel l m → IsSkeleton protocol m.skeleton
@@ -226,22 +226,24 @@ module _ (protocol : Protocol) (problem : Skeleton) (variables : List Declaratio
   -- The second tree is true of the problem.
   pub same_true : IsTrueOf protocol problem limits u
   same_true = record {
-    skeletons = λ i m at. let p = first i m at in is_skeleton p.0 m (at_place t.labels i p.0 p.1) (at_place u.labels i m at) p.2;
-    from_problem = λ i m at. let p = first i m at in same_carries (renaming p.2.number) p.0.skeleton m.skeleton p.2.skeleton variables problem own (is.from_problem i p.0 p.1);
-    stated = λ i m at. let p = first i m at in same_stated (renaming p.2.number) p.0.skeleton m.skeleton p.2.skeleton variables problem own (is.from_problem i p.0 p.1) (is.stated i p.0 p.1);
-    realised = λ i m at marked.
+    labels = λ i m at.
         let p = first i m at in
-        same_realised p.2.number (occurring p.0) p.2.one_to_one p.0.skeleton m.skeleton p.2.skeleton (in_skeleton p.0 m p.2) protocol
-        (is.skeletons i p.0 p.1) (is_skeleton p.0 m (at_place t.labels i p.0 p.1) (at_place u.labels i m at) p.2) (is.realised i p.0 p.1 (p.2.mark ∙ marked));
-    none_embeds = λ i j m o at au marked marked' other e.
+        let was : IsLabelOf protocol problem p.0 = is.labels i p.0 p.1 in
+        let skeleton = is_skeleton p.0 m (at_place t.labels i p.0 p.1) (at_place u.labels i m at) p.2 in
+        record {
+          skeleton = skeleton;
+          from_problem = same_carries (renaming p.2.number) p.0.skeleton m.skeleton p.2.skeleton variables problem own was.from_problem;
+          stated = same_stated (renaming p.2.number) p.0.skeleton m.skeleton p.2.skeleton variables problem own was.from_problem was.stated;
+          realised = λ marked. same_realised p.2.number (occurring p.0) p.2.one_to_one p.0.skeleton m.skeleton p.2.skeleton (in_skeleton p.0 m p.2) protocol was.skeleton skeleton (was.realised (p.2.mark ∙ marked));
+        };
+    apart = λ i j m o at au marked marked' other e.
         let p = first i m at in
         let q = first j o au in
-        is.none_embeds i j p.0 q.0 p.1 q.1 (p.2.mark ∙ marked) (q.2.mark ∙ marked') other
+        is.apart i j p.0 q.0 p.1 q.1 (p.2.mark ∙ marked) (q.2.mark ∙ marked') other
         (embeds_then p.0.skeleton m.skeleton q.0.skeleton (label_embeds p.0 m p.2) (embeds_then m.skeleton o.skeleton q.0.skeleton e (embeds_label q.0 o q.2)));
     nothing_missed = λ out b h bundle stands.
         covered (shapes_of t.labels) (shapes_of u.labels) b h (partner if_shape shape_puts shapes_of refl (λ l ls. refl) t.labels u.labels same.labels) (is.nothing_missed (same.outcome ∙ out) b h bundle stands);
     nothing_left_out = λ b h bundle stands.
         covered (skeletons_left t.labels) (skeletons_left u.labels) b h (partner if_left left_puts skeletons_left refl (λ l ls. refl) t.labels u.labels same.labels) (is.nothing_left_out b h bundle stands);
-    steps_reached = λ out. steps_too (is.steps_reached (same.outcome ∙ out));
-    strands_reached = λ out. strands_too (is.strands_reached (same.outcome ∙ out));
+    limit_reached = record { steps = λ out. steps_too (is.limit_reached.steps (same.outcome ∙ out)); strands = λ out. strands_too (is.limit_reached.strands (same.outcome ∙ out)) };
   }

@@ -5,7 +5,7 @@ use Rattle.cp_lists.specs.Lists.{IsIn}
 use Rattle.cp_lists.proofs.Items.{at_place}
 use Rattle.cp_model.specs.Strand.{Role}
 use Rattle.cp_model.specs.PointOfView.{IsPointOfView}
-use Rattle.cp_model.specs.Tree.{Label, Tree, IsTrueOf}
+use Rattle.cp_model.specs.Tree.{Label, Tree, IsLabelOf, IsTrueOf}
 use Rattle.cp_model.specs.declared.tree.Limits.{Limits}
 use Rattle.cp_model.specs.Declares.{DeclaresItsVariables}
 use Rattle.cp_tree.specs.Searched.{IsTreeOf}
@@ -24,19 +24,20 @@ module _ (p : Problem) (limits : Limits) (t : Tree) (declares : (role : Role) â†
   tree_fits i l at =
       let from = of.from_roots in
       let listed = at_place t.labels i l at in
+      let label : IsLabelOf p.protocol p.skeleton l = truth.labels i l at in
       let placed = label_placed p limits of.roots t of.are_roots from i l at in
       record {
         variables = variables l listed;
         few = few l listed;
-        stated = truth.stated i l at;
+        stated = label.stated;
         consistent = record {
-          skeleton = truth.skeletons i l at;
-          maps_all = maps_all p l.skeleton own (truth.from_problem i l at);
+          skeleton = label.skeleton;
+          maps_all = maps_all p l.skeleton own label.from_problem;
           operation = placed.operation;
           parent = placed.parents;
           unrealised = label_unrealised p.protocol p.variables limits of.roots t from i l at;
           test = label_test p.protocol p.variables limits of.roots t from i l at;
-          patterns = label_patterns p.protocol declares p.variables p.skeleton limits of.roots t own of.are_roots from truth.skeletons i l at;
+          patterns = label_patterns p.protocol declares p.variables p.skeleton limits of.roots t own of.are_roots from (Î» j m there. (truth.labels j m there).skeleton) i l at;
           escape = label_escape p.protocol p.variables limits of.roots t from i l at;
           children = label_children p limits of.roots t of.are_roots from i l at;
           mark = label_mark p.protocol p.variables limits of.roots t from i l at;

@@ -21,6 +21,7 @@ use Rattle.cp_language.specs.Faults.{fault, place_of}
 use Rattle.cp_language.specs.Roles.{Headed, headed, name_faults_at, vars_faults, declarations_of, trace_faults, events_stated, each_faults, item_faults, headed_item_faults, role_item_faults, role_faults, role_of, is_role_item, protocol_item_faults, role_name_onto, roles_faults, roles_in, item_or_none, items_behind}
 use Rattle.cp_scope.specs.FirstFault.{first_onto}
 use Rattle.cp_roles.specs.Named.{names_of_roles, role_behind, with_role}
+use Rattle.cp_scope.proofs.Views.{headed_is}
 use Rattle.cp_scope.proofs.Firsts.{first_onto-append, first_then_four}
 use Rattle.cp_scope.proofs.DeclaredIdentifiers.{AreSameNames, names-swap}
 
@@ -62,6 +63,11 @@ module _ (b : List (List ℕ)) (at : Place) (fs : List program.Form) (n v t : pr
       hp hq (hr ∙ ap (λ d. first_onto q (trace_faults d (view t))) e)
       (hs ∙ ap (λ d. first_onto r (each_faults (item_faults (role_item_faults d es)) rest)) e'' ∙ ap (λ us. first_onto r (each_faults (item_faults (role_item_faults (declarations_of (view v)) us)) rest)) events)
       ∙ ap (first_onto o) (role_items b at fs n v t l en ev et)
+
+pub role-stated : (b : List (List ℕ)) (f : Form) (h : Headed) → Some h ≡ headed f → role_item ≡ item_head h.head → role_faults b h.at h.items ≡ item_faults (protocol_item_faults b) f
+role-stated b f h is role =
+    let faults = protocol_item_faults b in
+    ap (λ i. faults h.at i h.items) role ∙ ap (λ at. headed_item_faults faults at (Some h)) (sym (ap place_of (headed_is f h (sym is)).whole)) ∙ ap (headed_item_faults faults (place_of f)) is
 
 -- ---- the names do not depend on their order
 

@@ -11,10 +11,10 @@ ghost use Rattle.cp_roles.specs.Named.{role_names, shared_roles_view, with_role}
 
 use crate::events::{events_of, trace_faults};
 use crate::uniques::{Scope, role_uniques_faults};
-use cp_base::{Code, Place, Text};
+use cp_base::{Code, Text};
 use cp_scope::{
-    FirstFault, ItemHead, Kind, atoms_faults, atoms_of, headed, is_word, item_head, items_behind,
-    name_of, place_of, variables_of,
+    FirstFault, HeadedList, ItemHead, Kind, atoms_faults, atoms_of, headed, is_word, item_head,
+    items_behind, name_of, place_of, variables_of,
 };
 use cp_sexpr::Form;
 use cp_strand::{Declaration, Event, Protocol, Role};
@@ -107,20 +107,19 @@ fn no_role(alloc: Global) -> Result<Role, AllocError>
     ))
 }
 
-/// The role with these items after its head. `before` are the roles before it. Notes its faults; what stands for a role
-/// with faults has no meaning.
+/// The role that a list states. `before` are the roles before it. Notes its faults; what stands for a role with faults
+/// has no meaning.
 fn role_of(
     alloc: Global,
     before: &[Rc<Role>],
-    place: Place,
-    items: &[Form],
+    list: HeadedList<'_>,
     first: &mut FirstFault,
 ) -> Result<Role, AllocError>
-    ensures faults { OnOk result (first.new ≡ first_onto first.old (role_faults (role_names before.now) place (map view items.now))) }
-    ensures role { IfOk result (λ r. r ≡ role_of (map view items.now)) }
+    ensures faults { OnOk result (first.new ≡ first_onto first.old (role_faults (role_names before.now) list.entry.place (map view list.entry.items.now))) }
+    ensures role { IfOk result (λ r. r ≡ role_of (map view list.entry.items.now)) }
 {
-    let [name, variables, trace, items @ ..] = items else {
-        first.note(place, Code::BadShape);
+    let [name, variables, trace, items @ ..] = list.items else {
+        first.note(list.place, Code::BadShape);
         return no_role(alloc);
     };
     role_name_faults(before, name, first);
@@ -162,7 +161,7 @@ fn protocol_item(
     };
     match item_head(list.head) {
         ItemHead::Role => {
-            let role = role_of(alloc, roles, place_of(form), list.items, first)?;
+            let role = role_of(alloc, roles, list, first)?;
             let role = Rc::new(alloc, role)?;
             roles.push(role)?;
         }

@@ -1,6 +1,6 @@
 -- How large forms are.
 use Rattle.std.proofs.Common.{◌≡◌, ℕ, zero, suc, ◌+◌, ◌<◌, List, [], ◌∷◌, length, get_or, map, Some, ap, arith}
-use Rattle.cp_sexpr.specs.Syntax.{Form, symbol, string, number, list, Forms, none, more, forms_of}
+use Rattle.cp_sexpr.specs.Syntax.{Form, list, Forms, none, more, forms_of}
 use Rattle.cp_sexpr.specs.View.{view}
 use Rattle.cp_sexpr.specs.declared.form.Form as program
 use Rattle.cp_language.specs.Roles.{Headed, headed}
@@ -8,10 +8,8 @@ use Rattle.cp_scope.proofs.Views.{headed_is}
 
 abbrev mutual
   pub form_size : Form → ℕ
-  form_size (symbol at t) = 1
-  form_size (string at t) = 1
-  form_size (number at n) = 1
   form_size (list at fs) = 1 + all_size fs
+  form_size f = 1
 
   pub all_size : Forms → ℕ
   all_size none = 1

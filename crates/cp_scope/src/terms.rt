@@ -1,6 +1,6 @@
 // What terms of the input stand for. What stands for a term with faults has no meaning.
 ghost use Rattle.std.specs.Prelude.{◌≡◌, [], map, option_map, None, IfOk};
-ghost use Rattle.cp_model.specs.Term.{variable_term, tag_term, atom_term, enc_term, asymmetric_term, pubk_term, symmetric_term, skey_variable};
+ghost use Rattle.cp_model.specs.Term.{variable_term, tag_term, enc_term, asymmetric_term, pubk_term, symmetric_term, skey_variable};
 ghost use Rattle.cp_sexpr.specs.View.{view};
 ghost use Rattle.cp_language.specs.Roles.{headed};
 ghost use Rattle.cp_language.specs.Terms.{variable_named, term_of_variable, paired, all_but_last, last_of, as_key, as_name, long_term, inverted, applied, term_of};
@@ -235,8 +235,7 @@ pub fn term_of(alloc: Global, variables: &[Declaration], form: &Form) -> Result<
     };
     let mut terms = Vec::new(alloc);
     for item in list.items {
-        let term = term_of(alloc, variables, item)?;
-        terms.push(term)?;
+        terms.push(term_of(alloc, variables, item)?)?;
     }
     applied(alloc, term_head(list.head), list.items, terms)
 }

@@ -1,8 +1,8 @@
 -- The pattern that a form is, where it fits.
-use Rattle.std.proofs.Common.{◌≡◌, ℕ, ◌+◌, List, [], ◌∷◌, ◌++◌, length, true, false, refl, sym, ◌∙◌, subst, arith}
-use Rattle.std.specs.Prelude.{codes}
+use Rattle.std.proofs.Common.{◌≡◌, ℕ, ◌+◌, List, [], ◌∷◌, ◌++◌, length, true, false, refl, sym, ap, ◌∙◌, subst}
+use Rattle.std.specs.Prelude.{Option, Some, None, codes}
 use Rattle.std.proofs.Math.Bool.{or-false}
-use Rattle.cp_lists.specs.Lists.{IsIn, here, there}
+use Rattle.cp_lists.specs.Lists.{IsIn}
 use Rattle.cp_lists.proofs.Appended.{none_in_both}
 use Rattle.cp_model.specs.Term.{Term, variables_of}
 use Rattle.cp_model.specs.declared.variable.Variable.{Variable}
@@ -10,12 +10,14 @@ use Rattle.cp_model.specs.declared.variable.Declaration.{Declaration}
 use Rattle.cp_model.specs.Pattern.{IsEncryption, IsPattern}
 use Rattle.cp_model.specs.Same.{same_text}
 use Rattle.cp_model.proofs.SameTests.{text_is}
-use Rattle.cp_sexpr.specs.Syntax.{Form, symbol, string, number, list, none, more}
+use Rattle.cp_sexpr.specs.Syntax.{Form, symbol, list, more, forms_of}
 use Rattle.cp_language.specs.Faults.{place_of}
+use Rattle.cp_language.specs.Roles.{Headed, headed}
 use Rattle.cp_language.specs.Terms.{paired, all_but_last, last_of, as_key}
 use Rattle.cp_report.specs.Misfits.{misfit_unless}
-use Rattle.cp_report.specs.Heads.{has_head}
+use Rattle.cp_report.specs.Heads.{has_head, is_headed_by}
 use Rattle.cp_report.specs.Spelled.{Scope, term_misfits, clash_misfits, locals_in, locals_onto, term_in, terms_in, pattern_scope, pattern_misfits, pattern_of, variables_of_locals}
+use Rattle.cp_scope.proofs.Views.{headed_is}
 use Rattle.cp_spelled.proofs.Gathered.{holds, each-stands}
 use Rattle.cp_spelled.proofs.Patterned.{Agree, term-agrees}
 
@@ -25,17 +27,16 @@ differ e = cc
 -- ---- an encryption
 
 encryption : (s : Scope) (f : Form) → has_head (codes "enc" ∷ []) f ≡ true → IsEncryption (term_in s f)
-encryption s (symbol at t) e = absurd (cc)
-encryption s (string at t) e = absurd (cc)
-encryption s (number at n) e = absurd (cc)
-encryption s (list at none) e = absurd (cc)
-encryption s (list at (more (string p t) fs)) e = absurd (cc)
-encryption s (list at (more (number p n) fs)) e = absurd (cc)
-encryption s (list at (more (list p gs) fs)) e = absurd (cc)
-encryption s (list at (more (symbol p t) fs)) e =
-    let is : t ≡ codes "enc" = text_is t (codes "enc") (sym (or-false (same_text t (codes "enc"))) ∙ e) in
-    let P : List ℕ → Type 0 = λ u. IsEncryption (term_in s (list at (more (symbol p u) fs))) in
-    subst P (sym is) (record { body = paired (all_but_last (terms_in s fs)); key = as_key (last_of (terms_in s fs)); encrypted = refl })
+encryption s f e = by_head (headed f) refl e
+  where
+    by_head : (o : Option Headed) → headed f ≡ o → is_headed_by (codes "enc" ∷ []) o ≡ true → IsEncryption (term_in s f)
+    by_head None is e = absurd (cc)
+    by_head (Some h) is e =
+        let shape = headed_is f h is in
+        let fs = forms_of h.items in
+        let named : h.head ≡ codes "enc" = text_is h.head (codes "enc") (sym (or-false (same_text h.head (codes "enc"))) ∙ e) in
+        subst (λ (g : Form). IsEncryption (term_in s g)) (sym (shape.whole ∙ ap (λ (t : List ℕ). list h.at (more (symbol shape.head_at t) fs)) named))
+        (record { body = paired (all_but_last (terms_in s fs)); key = as_key (last_of (terms_in s fs)); encrypted = refl })
 
 module _ (ds : List Declaration) (f : Form) (fits : pattern_misfits ds f ≡ []) where
   abbrev term : Term

@@ -2,7 +2,7 @@
 ghost use Rattle.std.specs.Prelude.{◌≡◌, ◌+◌, [], map, option_map, None, IfOk};
 ghost use Rattle.cp_sexpr.specs.View.{view};
 ghost use Rattle.cp_language.specs.Roles.{headed};
-ghost use Rattle.cp_language.specs.Terms.{variable_named, term_of_variable, as_atom};
+ghost use Rattle.cp_language.specs.Terms.{variable_named, term_of_variable};
 ghost use Rattle.cp_report.specs.Spelled.{local_by, variable_of_local, term_in, atom_in};
 ghost use Rattle.cp_report.specs.Skeletons.{term_or_tag};
 ghost use Rattle.cp_spelled.specs.Views.{scope_view};
@@ -89,8 +89,7 @@ pub fn term_in(alloc: Global, scope: Scope<'_>, form: &Form) -> Result<Term, All
     };
     let mut terms = Vec::new(alloc);
     for item in list.items {
-        let term = term_in(alloc, scope, item)?;
-        terms.push(term)?;
+        terms.push(term_in(alloc, scope, item)?)?;
     }
     headed_term(alloc, scope, list, terms)
 }

@@ -47,13 +47,14 @@ module _ (protocol : Protocol) (variables : List Declaration) (limits : Limits) 
 
   pub true_of : IsTrueOf protocol k limits tree
   true_of = record {
-    skeletons = are_skeletons protocol variables limits roots tree from k sound declared expands;
-    from_problem = labels_from_problem protocol variables limits roots tree from k sound declared expands generalises;
-    stated = labels_keep_stated protocol variables limits roots tree from k sound declared expands generalises;
-    realised = shapes_realised protocol variables limits roots tree from k sound declared expands;
-    none_embeds = none_embeds_in_another protocol variables limits roots tree from;
+    labels = λ i l at. record {
+      skeleton = are_skeletons protocol variables limits roots tree from k sound declared expands i l at;
+      from_problem = labels_from_problem protocol variables limits roots tree from k sound declared expands generalises i l at;
+      stated = labels_keep_stated protocol variables limits roots tree from k sound declared expands generalises i l at;
+      realised = shapes_realised protocol variables limits roots tree from k sound declared expands i l at;
+    };
+    apart = none_embeds_in_another protocol variables limits roots tree from;
     nothing_missed = shapes_complete;
     nothing_left_out = left_complete;
-    steps_reached = (exact_steps protocol variables limits roots tree from).0;
-    strands_reached = (exact_strands protocol variables limits roots tree from).0;
+    limit_reached = record { steps = (exact_steps protocol variables limits roots tree from).0; strands = (exact_strands protocol variables limits roots tree from).0 };
   }

@@ -10,7 +10,7 @@ use Rattle.cp_roles.proofs.roles.role_of.Goals as goal
 
 pub returns-in_default-clause-faults : goal.returns-in_default-clause-faults
 returns-in_default-clause-faults c =
-    let same = c.note.ensures ∙ ap (first_onto c.args.first.now) (few_items (role_names c.args.before.now) c.args.place c.args.items.now c.in_default.len_below) in
+    let same = c.note.ensures ∙ ap (first_onto c.args.first.now) (few_items (role_names c.args.before.now) c.args.list.place c.args.list.items.now c.in_default.len_below) in
     IfOk-weaker c.no_role.result _ _ (λ r h. same) c.no_role.ensures
 
 pub new-requires : goal.new-requires
@@ -20,7 +20,7 @@ new-requires c =
 
 pub returns-clause-faults : goal.returns-clause-faults
 returns-clause-faults c =
-    role-read (role_names c.args.before.now) c.args.place c.args.items.now c.name-item.result c.variables-item.result c.trace-item.result c.in-len3-up.len_at_least c.name-item.is c.variables-item.is c.trace-item.is
+    role-read (role_names c.args.before.now) c.args.list.place c.args.list.items.now c.name-item.result c.variables-item.result c.trace-item.result c.in-len3-up.len_at_least c.name-item.is c.variables-item.is c.trace-item.is
     c.deref.result.now c.deref-2.result.now c.deref-3.result.now c.deref-4.result.now
     c.args.first.now c.role_name_faults.new.first c.variables_of.new.first c.trace_faults.new.first c.role_items_faults.new.first
     (c.deref.ensures.value ∙ c.in_ok-variables.ensures.declared) (c.deref-2.ensures.value ∙ c.in_ok-variables.ensures.declared)
