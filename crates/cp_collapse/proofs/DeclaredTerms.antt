@@ -14,7 +14,7 @@ module _ (f : Substitution) (ds : List Declaration) (n : ℕ) (d : Declaration) 
   abbrev x : Variable
   x = record { sort = d.sort; number = n }
 
-  opened : terms_of f (declared_variables n (drop n ds)) ≡ image_of_variable f x ∷ terms_of f (declared_variables (n + 1) (drop (n + 1) ds))
+  pub opened : terms_of f (declared_variables n (drop n ds)) ≡ image_of_variable f x ∷ terms_of f (declared_variables (n + 1) (drop (n + 1) ds))
   opened =
       ap (λ (es : List Declaration). terms_of f (declared_variables n es)) (drop_read ds n d lt is)
       ∙ ap (λ m. image_of_variable f x ∷ terms_of f (declared_variables m (drop (n + 1) ds))) (sym (add-one n))

@@ -2,6 +2,7 @@ pub mod ItemsWithProperty
 pub mod AnyItem
 pub mod Values
 pub mod DeclaredTerms
+pub mod KeptTerms
 pub mod SameStrands
 pub mod AtomUnifiers
 pub mod OneUnifier

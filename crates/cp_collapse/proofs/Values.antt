@@ -65,3 +65,8 @@ declared_is s i k us vs ds is own all e =
     ∙ ap (λ (es : List Declaration). terms_of (composed (substitution_by i.values) s) (declared_variables 0 es)) all
     ∙ ap (λ (r : Substitution). terms_of (composed r s) (declared_variables 0 i.role.variables)) (sym (bindings_are i.values)))
     ∙ ap (declared_under s) is
+
+-- An instance whose terms are those of its declared variables under a substitution is left as it is.
+pub left_is : (s : Substitution) (i : InstanceData) (k : SkeletonStrand) (us : List Term) (ds : List Declaration) → instance_view i ≡ k → us ≡ i.values → ds ≡ i.role.variables →
+    us ≡ terms_of (composed (substitution_by us) s) (declared_variables 0 ds) → k ≡ declared_under s k
+left_is s i k us ds is own all e = sym is ∙ ap (λ (ts : List Term). instance i.role i.height (bindings_of ts)) (sym own) ∙ declared_is s i k us us ds is own all e

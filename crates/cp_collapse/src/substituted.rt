@@ -7,10 +7,10 @@ ghost use Rattle.cp_strand.specs.View.{instance_view};
 ghost use Rattle.cp_collapse.specs.SameSkeletons.{SaysTheSame};
 ghost use Rattle.cp_collapse.specs.Values.{declared_under};
 
-use crate::variable_terms::declared_terms;
+use crate::variable_terms::{declared_terms, leaves_declared};
 use cp_skel::{Assumptions, Atom, FromProblem, Instance, Skeleton, Strand, StrandShape, UniqueAt};
 use cp_term::Term;
-use cp_unify::{Subst, apply};
+use cp_unify::{Subst, apply, leaves};
 use std::alloc::{AllocError, Global};
 
 /// Data to which a substitution can be applied.
@@ -18,9 +18,25 @@ pub(crate) trait Substituted {
     /// The value under a substitution.
     ghost becomes: { Substitution → Self → Self };
 
+    /// Fast test: true only if the substitution leaves the value as it is.
+    fn is_left(&self, s: &Subst) -> bool
+        ensures { IsTrue result → becomes (as_substitution s.now) self.now ≡ self.now };
+
     /// Applies the substitution.
     fn under(&self, alloc: Global, s: &Subst) -> Result<Self, AllocError>
         ensures { IfOk result (λ x. x ≡ becomes (as_substitution s.now) self.now) };
+}
+
+/// Fast test: true only if the substitution leaves each item as it is.
+fn all_left<T: Substituted>(items: &[T], s: &Subst) -> bool
+    ensures { IsTrue result → map (T.becomes (as_substitution s.now)) items.now ≡ items.now }
+{
+    for item in items {
+        if !item.is_left(s) {
+            return false;
+        }
+    }
+    true
 }
 
 /// Applies the substitution to each item.
@@ -40,6 +56,10 @@ pub(crate) fn each_under<T: Substituted + Drop>(
 impl Substituted for Term {
     ghost becomes = { apply_to };
 
+    fn is_left(&self, s: &Subst) -> bool {
+        leaves(s, self)
+    }
+
     fn under(&self, alloc: Global, s: &Subst) -> Result<Term, AllocError> {
         apply(alloc, s, self)
     }
@@ -47,6 +67,10 @@ impl Substituted for Term {
 
 impl Substituted for Atom {
     ghost becomes = { apply_to_atom };
+
+    fn is_left(&self, s: &Subst) -> bool {
+        leaves(s, self.as_term())
+    }
 
     fn under(&self, alloc: Global, s: &Subst) -> Result<Atom, AllocError> {
         match Atom::new(apply(alloc, s, self.as_term())?) {
@@ -60,16 +84,30 @@ impl Substituted for Atom {
 impl Substituted for UniqueAt {
     ghost becomes = { unique_under };
 
+    fn is_left(&self, s: &Subst) -> bool {
+        self.value().is_left(s)
+    }
+
     fn under(&self, alloc: Global, s: &Subst) -> Result<UniqueAt, AllocError> {
         let value = self.value().under(alloc, s)?;
         Ok(UniqueAt::new(value, self.origin()))
     }
 }
 
+/// If nothing changes, they are copied.
 impl Substituted for Assumptions {
     ghost becomes = { assumptions_under };
 
+    fn is_left(&self, s: &Subst) -> bool {
+        all_left(self.non_originating(), s)
+            && all_left(self.penetrator_non_originating(), s)
+            && all_left(self.uniquely_originating(), s)
+    }
+
     fn under(&self, alloc: Global, s: &Subst) -> Result<Assumptions, AllocError> {
+        if self.is_left(s) {
+            return self.copy(alloc);
+        }
         let non = each_under(alloc, self.non_originating(), s)?;
         let penetrator_non = each_under(alloc, self.penetrator_non_originating(), s)?;
         let unique = each_under(alloc, self.uniquely_originating(), s)?;
@@ -77,11 +115,18 @@ impl Substituted for Assumptions {
     }
 }
 
-/// The map from a problem, followed by the substitution.
+/// The map from a problem, followed by the substitution. If nothing changes, it is copied.
 impl Substituted for FromProblem {
     ghost becomes = { from_problem_under };
 
+    fn is_left(&self, s: &Subst) -> bool {
+        all_left(self.values(), s) && self.assumptions().is_left(s)
+    }
+
     fn under(&self, alloc: Global, s: &Subst) -> Result<FromProblem, AllocError> {
+        if self.is_left(s) {
+            return self.copy(alloc);
+        }
         let strands = Vec::from_slice(alloc, self.strands())?;
         let values = each_under(alloc, self.values(), s)?;
         let assumptions = self.assumptions().under(alloc, s)?;
@@ -128,17 +173,26 @@ fn with_values(
 }
 
 /// A strand under a substitution: applied to the term of each variable that the role of an instance declares, or to the message
-/// of a listener. If nothing changes in an instance, the strand is shared.
+/// of a listener. If nothing changes, the strand is shared.
 pub(crate) fn strand_under(alloc: Global, strand: &Strand, s: &Subst) -> Result<Strand, AllocError>
     ensures { IfOk result (λ t. t ≡ declared_under (as_substitution s.now) strand.now) }
 {
     match strand.shape() {
         StrandShape::Instance(instance) => {
             let declarations = instance.role().variables();
-            let values = declared_terms(alloc, declarations, instance.values(), s)?;
+            let terms = instance.values();
+            if leaves_declared(s, declarations, terms) {
+                return strand.copy();
+            }
+            let values = declared_terms(alloc, declarations, terms, s)?;
             with_values(alloc, strand, instance, values)
         }
-        StrandShape::Listener(message) => Strand::listener(alloc, apply(alloc, s, message)?),
+        StrandShape::Listener(message) => {
+            if leaves(s, message) {
+                return strand.copy();
+            }
+            Strand::listener(alloc, apply(alloc, s, message)?)
+        }
     }
 }
 

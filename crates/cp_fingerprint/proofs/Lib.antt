@@ -1,7 +1,8 @@
-pub mod Signatures
+mod SumsBeside
 pub mod Listed
 pub mod Listened
 pub mod NoMore
 pub mod SharedMore
-pub mod StrandSums
 pub mod SignatureData
+pub mod Signatures
+pub mod StrandSums

@@ -1,11 +1,9 @@
 -- Role strands of a skeleton that embeds in another share values there at least as much.
-use Rattle.std.proofs.Common.{◌≡◌, ℕ, suc, ◌+◌, ◌-◌, ◌*◌, ◌^◌, ◌<◌, ◌≤◌, Bool, true, false, if◌then◌else◌, min, List, [], ◌∷◌, ◌++◌, map, drop, length, get_or, refl, sym, ap, ap₂, ◌∙◌, subst, subst₂, arith, le_refl, ◌⊎◌, inl, inr}
-use Rattle.std.specs.Prelude.{Some, Vec}
-use Rattle.std.specs.Bool.{Decides}
+use Rattle.std.proofs.Common.{◌≡◌, ℕ, suc, ◌+◌, ◌-◌, ◌*◌, ◌^◌, ◌<◌, ◌≤◌, Bool, true, false, if◌then◌else◌, min, List, [], ◌∷◌, map, refl, sym, ap, ◌∙◌, subst, subst₂, arith, le_refl, ◌⊎◌, inl, inr}
+use Rattle.std.specs.Prelude.{Some}
 use Rattle.std.proofs.lemmas.Bool.{cases_lt}
 use Rattle.std.proofs.Math.Nat.{min-eq_left, min-eq_right, min-le_right, mul-le-mul_left, mul-le-mul}
 use Rattle.cp_lists.specs.Lists.{item_at, IsIn}
-use Rattle.cp_lists.proofs.Members.{drop_read}
 use Rattle.cp_lists.proofs.Items.{map_of_item}
 use Rattle.cp_model.specs.Term.{Term, Substitution, tag_term, atom_term, pair_term, enc_term, text_variable, datum_variable, name_variable, key_term, symmetric_term, asymmetric_term, skey_variable, ltk_term, akey_variable, pubk_term, apply_to, composed, AgreeOnTerms, variable_term}
 use Rattle.cp_model.specs.Bindings.{Binding, as_substitution}
@@ -19,8 +17,8 @@ use Rattle.cp_model.specs.Same.{same_term, has_variable}
 use Rattle.cp_model.proofs.LawTerms.{term_composed}
 use Rattle.cp_model.proofs.LawPrefixes.{variables_of_higher}
 use Rattle.cp_model.proofs.SameTests.{variable_in, in_has_variable}
-use Rattle.cp_term.proofs.SameTerms.{same_Decides, test_is}
-use Rattle.cp_fingerprint.specs.SharedValues.{place_weight, text_number, value_slots, declared_variable, declared_slots, strand_slots, strung, slots_of, lists_of, listened, heard_weight, kept, weight_from, named_from, value_weight, part_of, share_from, squared, squares_from, bucket_key_of}
+use Rattle.cp_term.proofs.SameTerms.{same_Decides}
+use Rattle.cp_fingerprint.specs.SharedValues.{place_weight, text_number, value_slots, declared_variable, declared_slots, strand_slots, strung, slots_of, listened, heard_weight, kept, weight_from, named_from, value_weight, part_of, share_from, squared, squares_from, bucket_key_of}
 use Rattle.cp_fingerprint.specs.Slots.{Slot}
 use Rattle.cp_fingerprint.proofs.Listened.{heard_more, heard_within}
 use Rattle.cp_fingerprint.proofs.StrandSums.{sum_of, sum_append, total_map, GoesToMore, GoApart, no_more_in_all}
@@ -96,6 +94,16 @@ weight_is n t (x ∷ xs) l = step (λ k h. weight_is k t xs h) (same_term x.valu
 weight_sum : (n : ℕ) (t : Term) (xs : List Slot) → n ≤ bound → weight_from n t xs ≡ kept (n + sum_of (here t) xs)
 weight_sum n t xs l = weight_is n t xs l ∙ (sym (min-eq_left (bounded_within bound (here t) n xs l)) ∙ bounded_is bound (here t) n xs)
 
+-- A weight to which the weight of the places is added afterwards.
+pub weight_with : (n : ℕ) (t : Term) (xs : List Slot) → n ≤ 2 ^ 64 - 1 → kept (n + weight_from 0 t xs) ≡ weight_from n t xs
+weight_with n t xs l =
+    let w : ℕ = sum_of (here t) xs in
+    let none : 0 ≤ bound = omega arith in
+    let alone : weight_from 0 t xs ≡ min (0 + w) bound = weight_sum 0 t xs none in
+    let turned : n + weight_from 0 t xs ≡ min (0 + w) bound + n = omega (arith, alone) in
+    let together : (0 + w) + n ≡ n + w = omega arith in
+    ap (λ (k : ℕ). min k bound) turned ∙ (min_of_kept bound (0 + w) n ∙ (ap (λ (k : ℕ). min k bound) together ∙ sym (weight_sum n t xs l)))
+
 le_trans : {a b c : ℕ} → a ≤ b → b ≤ c → a ≤ c
 le_trans {a} {b} {c} l m = omega (arith, l, m)
 
@@ -169,39 +177,6 @@ squared_no_more : (m n : ℕ) → m ≤ n → squared (kept m) ≤ squared (kept
 squared_no_more m n l =
     let h : kept m ≤ kept n = min_no_more bound m n l in
     min_no_more bound (kept m * kept m) (kept n * kept n) (mul-le-mul h h)
-
--- ---- loops over places
-
-module _ (t : Term) (xs : List Slot) (i : ℕ) (x : Slot) (l : i < length xs) (is : x ≡ get_or xs i x) (same : Bool) (told : Decides same (x.value ≡ t)) where
-  weight_next : (n : ℕ) → weight_from (if same then kept (n + x.weight) else n) t (drop (i + 1) xs) ≡ weight_from n t (drop i xs)
-  weight_next n =
-      sym (ap (weight_from n t) (drop_read xs i x l is)
-      ∙ ap (λ (c : Bool). weight_from (if c then kept (n + x.weight) else n) t (drop (i + 1) xs)) (test_is x.value t same told))
-
-  pub weight_taken : (n m : ℕ) → same ≡ true → m ≡ kept (n + x.weight) → weight_from m t (drop (i + 1) xs) ≡ weight_from n t (drop i xs)
-  weight_taken n m found e =
-      ap (λ (k : ℕ). weight_from k t (drop (i + 1) xs)) e
-      ∙ (sym (ap (λ (c : Bool). weight_from (if c then kept (n + x.weight) else n) t (drop (i + 1) xs)) found) ∙ weight_next n)
-
-  pub weight_left : (n : ℕ) → same ≡ false → weight_from n t (drop (i + 1) xs) ≡ weight_from n t (drop i xs)
-  weight_left n other =
-      sym (ap (λ (c : Bool). weight_from (if c then kept (n + x.weight) else n) t (drop (i + 1) xs)) other) ∙ weight_next n
-
-weight_joined : (n : ℕ) (t : Term) (xs ys : List Slot) → weight_from (weight_from n t xs) t ys ≡ weight_from n t (xs ++ ys)
-weight_joined n t [] ys = refl
-weight_joined n t (x ∷ xs) ys = weight_joined (if same_term x.value t then kept (n + x.weight) else n) t xs ys
-
-pub weight_begun : (first n : ℕ) (t : Term) (given values : List Slot) (lists strands : List (List Slot)) → n ≡ weight_from first t given → given ≡ values → lists ≡ strands →
-    weight_from n t (strung lists) ≡ weight_from first t (values ++ strung strands)
-weight_begun first n t given values lists strands is e u =
-    ap (λ (k : ℕ). weight_from k t (strung lists)) is
-    ∙ (weight_joined first t given (strung lists) ∙ ap₂ (λ (xs : List Slot) (yss : List (List Slot)). weight_from first t (xs ++ strung yss)) e u)
-
-pub weight_of_next : {A : Type 0} (t : Term) (lists : List (Vec Slot A)) (i : ℕ) (next : Vec Slot A) → i < length lists → next ≡ get_or lists i next →
-    (n m : ℕ) (given : List Slot) → m ≡ weight_from n t given → given ≡ next.items → weight_from m t (strung (lists_of (drop (i + 1) lists))) ≡ weight_from n t (strung (lists_of (drop i lists)))
-weight_of_next {A} t lists i next l at n m given is e =
-    ap (λ (k : ℕ). weight_from k t (strung (lists_of (drop (i + 1) lists)))) (is ∙ ap (weight_from n t) e)
-    ∙ (weight_joined n t next.items (strung (lists_of (drop (i + 1) lists))) ∙ sym (ap (λ (yss : List (Vec Slot A)). weight_from n t (strung (lists_of yss))) (drop_read lists i next l at)))
 
 -- ---- what an embedding keeps
 

@@ -6,3 +6,4 @@ pub mod PartitionNumber
 pub mod Partition
 pub mod SharedValues
 pub mod Slots
+pub mod Weights

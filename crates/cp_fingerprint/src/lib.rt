@@ -8,6 +8,7 @@ mod partition;
 mod shared_values;
 mod signature;
 mod slots;
+mod weights;
 
 pub use first_places::first_of;
 pub use signature::Signature;

@@ -1,9 +1,10 @@
 // A number for how role strands share values. Its sums and products saturate.
 ghost use Rattle.std.specs.Prelude.{◌≡◌, IfOk};
 ghost use Rattle.cp_model.specs.Strand.{variables_of_trace};
-ghost use Rattle.cp_fingerprint.specs.SharedValues.{lists_of, slots_in, listened, is_heard, heard_weight, weight_from, named_from, value_weight, share_from, squares_from, bucket_key_of};
+ghost use Rattle.cp_fingerprint.specs.SharedValues.{lists_of, listened, is_heard, heard_weight, named_from, value_weight, share_from, squares_from, bucket_key_of};
 
-use crate::slots::{Places, Slot, key_of, places_of};
+use crate::slots::{Places, Slot, places_of};
+use crate::weights::Weights;
 use cp_skel::{Event, Skeleton, Strand, StrandShape, occurs};
 use cp_term::{Shape, Sort, Term, var};
 use std::alloc::{AllocError, Global};
@@ -40,51 +41,28 @@ fn heard_weight(events: &[Event], value: &Term) -> usize
     if is_heard(events, value) { 4099 } else { 0 }
 }
 
-/// The weight `first` plus the weights of those of these places at which the value stands.
-fn weight_among(first: usize, value: &Term, slots: &[Slot]) -> usize
-    ensures { result ≡ weight_from first value.now slots.now }
-{
-    let key = key_of(value);
-    let mut weight = first;
-    for slot in slots {
-        if !slot.has(key, value) {
-            continue;
-        }
-        weight = weight.saturating_add(slot.weight());
-    }
-    weight
-}
-
-/// The weight `first` plus the weights of the places at which the value stands.
-fn weight_of(first: usize, value: &Term, places: &Places) -> usize
-    ensures { result ≡ weight_from first value.now (slots_in places.now) }
-{
-    let mut weight = weight_among(first, value, &places.values);
-    for slots in &places.strands {
-        weight = weight_among(weight, value, slots);
-    }
-    weight
-}
-
 /// The weight `first` plus the weights of the places at which the names of a key stand. The second name of a long-term key counts
 /// twice.
 fn names_weight(
     alloc: Global,
     first: usize,
     value: &Term,
-    places: &Places,
+    weights: &Weights,
 ) -> Result<usize, AllocError>
-    ensures { IfOk result (λ n. n ≡ named_from first value.now (slots_in places.now)) }
+    ensures { IfOk result (λ n. n ≡ named_from first value.now weights.now) }
 {
     match value.shape() {
         Shape::Ltk(a, b) => {
             let a = var(alloc, a, Sort::Name)?;
             let b = var(alloc, b, Sort::Name)?;
-            let weight = weight_of(first, &a, places);
-            let weight = weight_of(weight, &b, places);
-            Ok(weight_of(weight, &b, places))
+            let weight = weights.with(first, &a);
+            let weight = weights.with(weight, &b);
+            Ok(weights.with(weight, &b))
         }
-        Shape::Pubk(_, _, a) => { var(alloc, a, Sort::Name).map(|a| weight_of(first, &a, places)) }
+        Shape::Pubk(_, _, a) => {
+            let a = var(alloc, a, Sort::Name)?;
+            Ok(weights.with(first, &a))
+        }
         _ => Ok(first),
     }
 }
@@ -94,38 +72,44 @@ fn value_weight(
     alloc: Global,
     heard: &[Event],
     value: &Term,
-    places: &Places,
+    weights: &Weights,
 ) -> Result<usize, AllocError>
-    ensures { IfOk result (λ n. n ≡ value_weight heard.now (slots_in places.now) value.now) }
+    ensures { IfOk result (λ n. n ≡ value_weight heard.now weights.now value.now) }
 {
     let first = heard_weight(heard, value);
-    names_weight(alloc, first, value, places).map(|weight| weight_of(weight, value, places))
+    let weight = names_weight(alloc, first, value, weights)?;
+    Ok(weights.with(weight, value))
 }
 
 /// The share of some places: the sum, over the places, of the place's weight times its value's weight.
 fn share_of(
     alloc: Global,
     heard: &[Event],
-    places: &Places,
+    weights: &Weights,
     slots: &[Slot],
 ) -> Result<usize, AllocError>
-    ensures { IfOk result (λ n. n ≡ share_from 0 heard.now (slots_in places.now) slots.now) }
+    ensures { IfOk result (λ n. n ≡ share_from 0 heard.now weights.now slots.now) }
 {
     let mut share: usize = 0;
     for slot in slots {
-        let weight = value_weight(alloc, heard, slot.value(), places)?;
+        let weight = value_weight(alloc, heard, slot.value(), weights)?;
         share = share.saturating_add(slot.weight().saturating_mul(weight));
     }
     Ok(share)
 }
 
 /// The share of the problem's places, plus the square of the share of each strand's places.
-fn bucket_key(alloc: Global, heard: &[Event], places: &Places) -> Result<usize, AllocError>
-    ensures { IfOk result (λ n. n ≡ squares_from (share_from 0 heard.now (slots_in places.now) places.now.values.items) heard.now (slots_in places.now) (lists_of places.now.strands.items)) }
+fn bucket_key(
+    alloc: Global,
+    heard: &[Event],
+    places: &Places,
+    weights: &Weights,
+) -> Result<usize, AllocError>
+    ensures { IfOk result (λ n. n ≡ squares_from (share_from 0 heard.now weights.now places.now.values.items) heard.now weights.now (lists_of places.now.strands.items)) }
 {
-    let mut bucket_key = share_of(alloc, heard, places, &places.values)?;
+    let mut bucket_key = share_of(alloc, heard, weights, &places.values)?;
     for slots in &places.strands {
-        let share = share_of(alloc, heard, places, slots)?;
+        let share = share_of(alloc, heard, weights, slots)?;
         bucket_key = bucket_key.saturating_add(share.saturating_mul(share));
     }
     Ok(bucket_key)
@@ -137,5 +121,6 @@ pub(crate) fn bucket_key_of(alloc: Global, k: &Skeleton) -> Result<usize, AllocE
 {
     let heard = listened(alloc, k.strands())?;
     let places = places_of(alloc, k)?;
-    bucket_key(alloc, &heard, &places)
+    let weights = Weights::of(alloc, &places)?;
+    bucket_key(alloc, &heard, &places, &weights)
 }

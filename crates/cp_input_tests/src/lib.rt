@@ -3,6 +3,10 @@
 #![tactic(auto)]
 
 #[cfg(test)]
+mod cohorts;
+#[cfg(test)]
+mod copies;
+#[cfg(test)]
 mod derivations;
 #[cfg(test)]
 mod generalisations;

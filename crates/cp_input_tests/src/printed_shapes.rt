@@ -40,7 +40,7 @@ fn tree(alloc: Global, skeleton: Skeleton) -> Result<Tree, AllocError> {
 
 /// The tree of the problem that the last of the forms states, alone.
 fn trees(alloc: Global, forms: &[Form]) -> Result<Vec<Tree>, Fail> {
-    let tree = tree(alloc, last_problem(alloc, forms)?)?;
+    let tree = tree(alloc, last_problem(alloc, forms)?.skeleton)?;
     Ok(Vec::from_array(alloc, [tree])?)
 }
 

@@ -1,4 +1,4 @@
-// Origins and orders in skeletons, and copies of them.
+// Origins and orders in skeletons.
 ghost use Rattle.std.specs.Prelude.{IfOk, IsTrue};
 ghost use Rattle.cp_model.specs.Skeleton.{IsOrderPair};
 
@@ -64,20 +64,6 @@ fn has_origins(alloc: Global, k: &Skeleton) -> Result<bool, AllocError> {
 fn origins(rt: HostRuntime) -> Result<(), Fail> {
     let k = skeleton_of(rt.alloc(), SPEAKER, SPOKEN)?;
     assert!(rt; has_origins(rt.alloc(), &k)?);
-    Ok(())
-}
-
-/// Adds a listener, and answers whether a copy that was made before stays.
-fn copy_stays(alloc: Global, k: &mut Skeleton) -> Result<bool, AllocError> {
-    let copy = k.copy(alloc)?;
-    k.add_listener(alloc, text(alloc, 0)?)?;
-    Ok(k.strands().len() == 3 && copy.strands().len() == 2)
-}
-
-#[test]
-fn a_copy_stays(rt: HostRuntime) -> Result<(), Fail> {
-    let mut k = skeleton_of(rt.alloc(), SPEAKER, SPOKEN)?;
-    assert!(rt; copy_stays(rt.alloc(), &mut k)?);
     Ok(())
 }
 

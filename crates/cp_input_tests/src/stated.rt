@@ -3,7 +3,7 @@ ghost use Rattle.std.specs.Prelude.{◌≡◌, IfOk, IsTrue};
 ghost use Rattle.cp_model.specs.Skeleton.{IsNodeOf, term_event_at};
 ghost use Rattle.cp_model.specs.Term.{atom_term, text_variable};
 
-use cp_load::{Entry, load};
+use cp_load::{Entry, Problem, load};
 use cp_model::Node;
 use cp_sexpr::{Form, MAX_LENGTH, read};
 use cp_skel::{Event, Skeleton};
@@ -35,28 +35,33 @@ pub(crate) fn forms_of(alloc: Global, text: &[u8]) -> Result<Vec<Form>, Fail> {
     }
 }
 
-/// The skeleton of the problem that the last of the forms states.
-pub(crate) fn last_problem(alloc: Global, forms: &[Form]) -> Result<Skeleton, Fail> {
+/// The problem that the last of the forms states.
+pub(crate) fn last_problem(alloc: Global, forms: &[Form]) -> Result<Problem, Fail> {
     let Ok(input) = load(alloc, forms) else {
         return Err(Fail::new("the forms have a fault"));
     };
     let mut entries = input.entries;
     match entries.pop() {
-        Some(Entry::Problem(_, problem)) => Ok(problem.skeleton),
+        Some(Entry::Problem(_, problem)) => Ok(problem),
         _ => Err(Fail::new("the last form states no problem")),
     }
 }
 
-/// The skeleton of the problem that the text states last.
-fn last_in(alloc: Global, text: &[u8]) -> Result<Skeleton, Fail> {
+/// The problem that the text states last.
+fn last_in(alloc: Global, text: &[u8]) -> Result<Problem, Fail> {
     let forms = forms_of(alloc, text)?;
     last_problem(alloc, &forms)
 }
 
-/// The skeleton of the problem, which stands after its protocol.
-pub(crate) fn skeleton_of(alloc: Global, protocol: &str, problem: &str) -> Result<Skeleton, Fail> {
+/// The problem, which stands after its protocol.
+pub(crate) fn problem_of(alloc: Global, protocol: &str, problem: &str) -> Result<Problem, Fail> {
     let text = joined(alloc, &[protocol, problem])?;
     last_in(alloc, &text)
+}
+
+/// The skeleton of the problem.
+pub(crate) fn skeleton_of(alloc: Global, protocol: &str, problem: &str) -> Result<Skeleton, Fail> {
+    Ok(problem_of(alloc, protocol, problem)?.skeleton)
 }
 
 /// The event at a node, if there is one.

@@ -31,6 +31,7 @@ pub mod MessageSize
 pub mod FormFalls
 pub mod FormLeaves
 pub mod RunView
+pub mod SharedList
 pub mod Senders
 pub mod FirstCarriers
 pub mod Same

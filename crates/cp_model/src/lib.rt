@@ -15,6 +15,7 @@ mod message_parts;
 mod node;
 mod origin;
 mod runs;
+mod shared_list;
 mod single;
 mod sort;
 mod step;
@@ -33,6 +34,7 @@ pub use message::Msg;
 pub use node::{Node, OrderPair};
 pub use origin::origin_before;
 pub use runs::{bundle_of, run_of};
+pub use shared_list::SharedList;
 pub use single::{
     one_sending_strand_example, one_sending_strand_is_realised,
     one_strand_is_its_own_complete_list, skeleton_keeps_what_it_states, skeleton_maps_from_itself,

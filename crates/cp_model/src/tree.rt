@@ -72,7 +72,7 @@ pub struct Label<S: Drop, T: Drop, P: Drop> {
     pub mark: Option<Mark>,
 }
 
-// Its holder drops it by one call, so that less is to be proved about the holder.
+// A value drops by one call of its own, wherever it is held.
 impl<S: Drop, T: Drop, P: Drop> Drop for Label<S, T, P> {
     fn drop(self) {
         let Label {

@@ -107,3 +107,13 @@ module _ {S : Type 0} (k : Skeleton) (own added : List OrderPair) (keys : HashSe
 
   pub normal_of_both : (all : List OrderPair) → all ≡ own ++ others → AreNormalPairs k all
   normal_of_both all whole p = (λ h. own_or_added p (in_append own others (subst (IsIn p) whole h)), λ h. subst (IsIn p) (sym whole) (in_one p h))
+
+-- Where unique values add no pair, a skeleton's own pairs are those of its normal form.
+pub own_alone : (k : Skeleton) (pairs added : List OrderPair) → pairs ≡ k.pairs → ((p : OrderPair) → IsIn p added → ⊥) → ((p : OrderPair) → IsIn p added ↔ IsAddedPair k p) → AreNormalPairs k pairs
+own_alone k pairs added own none are p = (
+  λ i. inl (subst (λ (ps : List OrderPair). IsIn p ps) own i),
+  λ h. elim h [
+    | inl i ↦ subst (λ (ps : List OrderPair). IsIn p ps) (sym own) i
+    | inr a ↦ absurd (none p ((are p).1 a))
+  ],
+)

@@ -39,8 +39,11 @@ fn own_and_added(
 {
     let added = pairs_among(alloc, k, occurrences)?;
     let own = k.order().pairs();
-    let keys = keys_of(alloc, own)?;
     let mut pairs = Vec::from_slice(alloc, own)?;
+    if added.is_empty() {
+        return Ok(pairs);
+    }
+    let keys = keys_of(alloc, own)?;
     add_others(&added, &keys, &mut pairs)?;
     Ok(pairs)
 }

@@ -6,19 +6,19 @@ ghost use Rattle.cp_order.specs.Closed.{IsTransitive, KeepsOrder, IsClosureOf};
 
 use crate::closed::ClosedPairs;
 use crate::paths::leads_within;
-use cp_model::{Node, OrderPair};
+use cp_model::{Node, OrderPair, SharedList};
 use std::alloc::{AllocError, Global};
 use std::marker::Model;
 use std::rc::Rc;
 
 /// An order, given by pairs of nodes. Once closed, it keeps closed pairs beside its own: pairs with the same order, of
-/// which a single one leads wherever its own lead, except within one strand. Copies share them.
+/// which a single one leads wherever its own lead, except within one strand. Copies share both.
 pub struct Order {
-    pairs: Vec<OrderPair>,
+    pairs: SharedList<OrderPair>,
     closure: Option<Rc<ClosedPairs>>,
 }
 
-// Its holder drops it by one call, so that less is to be proved about the holder.
+// A value drops by one call of its own, wherever it is held.
 impl Drop for Order {
     fn drop(self) {
         let Order { pairs, closure } = self;
@@ -34,9 +34,9 @@ impl Model for Order {
     ghost use Rattle.std.specs.Prelude.{IfSome};
     ghost use Rattle.cp_order.specs.Closed.{IsClosureOf};
 
-    ghost view = { λ o. o.pairs.items };
+    ghost view = { λ o. o.pairs };
 
-    ghost invariant = { λ o. IfSome o.closure (λ c. IsClosureOf o.pairs.items c.value) };
+    ghost invariant = { λ o. IfSome o.closure (λ c. IsClosureOf o.pairs c.value) };
 }
 
 impl Order {
@@ -45,7 +45,7 @@ impl Order {
         ensures { result ≡ pairs.items }
     {
         Order {
-            pairs,
+            pairs: SharedList::of(pairs),
             closure: None,
         }
     }
@@ -56,7 +56,7 @@ impl Order {
     {
         let mut order = Order::of(pairs);
         if self.closure.is_some() {
-            let closed = ClosedPairs::of(alloc, &order.pairs)?;
+            let closed = ClosedPairs::of(alloc, order.pairs())?;
             order.closure = Some(closed);
         }
         Ok(order)
@@ -66,7 +66,7 @@ impl Order {
     pub fn pairs(&self) -> &[OrderPair]
         ensures { result.now ≡ self.now }
     {
-        &self.pairs
+        self.pairs.as_slice()
     }
 
     /// Whether x reaches y along strands and pairs. In an order that was closed this is looked up; otherwise it is
@@ -76,7 +76,10 @@ impl Order {
     {
         match &self.closure {
             Some(closed) => closed.reaches(x, y),
-            None => leads_within(&self.pairs, self.pairs.len(), x, y),
+            None => {
+                let pairs = self.pairs();
+                leads_within(pairs, pairs.len(), x, y)
+            }
         }
     }
 
@@ -87,7 +90,7 @@ impl Order {
         if let Some(closed) = &self.closure {
             return closed.clone();
         }
-        ClosedPairs::of(alloc, &self.pairs)
+        ClosedPairs::of(alloc, self.pairs())
     }
 
     /// Closes the order: its pairs become closed ones. What reaches what stays the same, and is looked up from now on.
@@ -99,7 +102,8 @@ impl Order {
         ensures unchanged { OnErr result (self.new ≡ self.old) }
     {
         let closed = self.closed_pairs(alloc)?;
-        self.pairs = Vec::from_slice(alloc, closed.pairs())?;
+        let pairs = Vec::from_slice(alloc, closed.pairs())?;
+        self.pairs = SharedList::of(pairs);
         self.closure = Some(closed);
         Ok(())
     }
@@ -128,7 +132,8 @@ impl Order {
         ensures unchanged { OnErr result (self.new ≡ self.old) }
     {
         let closure = self.closure_with(alloc, pair)?;
-        self.pairs.push(pair)?;
+        let pairs = self.pairs.joined(&[pair])?;
+        self.pairs = pairs;
         self.closure = closure;
         Ok(())
     }
@@ -141,9 +146,7 @@ impl Order {
             Some(closed) => Some(closed.clone()?),
             None => None,
         };
-        Ok(Order {
-            pairs: Vec::from_slice(alloc, &self.pairs)?,
-            closure,
-        })
+        let pairs = self.pairs.copy(alloc)?;
+        Ok(Order { pairs, closure })
     }
 }

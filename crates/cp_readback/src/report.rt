@@ -152,8 +152,8 @@ fn trees_of(
 
 /// Reads back the report that forms are: the forms of its input, each with what it states, and a tree for each problem.
 ///
-/// Forms that are no report are refused with `NotReport`, at the first place, by line and then by column, at which they
-/// fit none. The other error is `Memory`.
+/// Forms that are no report are refused: the error is `ReadBackError::Refused`, which the clause calls `NotReport`, with the first
+/// place, by line and then by column, at which they fit none. The other error is `ReadBackError::Memory`.
 pub fn read_back(alloc: Global, forms: &[Form]) -> Result<Report<'_>, ReadBackError>
     ensures read { IfOk result (λ r. IsReadBack (views forms.now) (Ok (report_view r))) }
     ensures protocols { IfOk result (λ r. filter_map stated_protocol (report_view r).entries ≡ protocols_in (map form_of (report_view r).entries)) }

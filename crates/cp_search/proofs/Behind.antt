@@ -15,7 +15,7 @@ use Rattle.cp_general.specs.Generalisation.{IsMaximallyGeneral}
 use Rattle.cp_tree.specs.Made.{LabelLink, Reaches, MayPointTo}
 use Rattle.cp_search.specs.declared.made.Made.{Made}
 use Rattle.cp_shapes.specs.Shapes.{FindsLeast}
-use Rattle.cp_search.specs.MadeLabels.{made_link, IsFound, AreFound, MayBeSeen}
+use Rattle.cp_search.specs.MadeLabels.{made_link, IsFound, AreFound, MayBeSeen, IsFoundApart, IsSeenIn, AddsFound}
 use Rattle.cp_search.proofs.Links.{finds_alike, skeleton_of, still_found}
 
 module _ (ms : List Made) (x : Made) where
@@ -135,26 +135,40 @@ on_ok (Err a) P e p = absurd (cc)
 
 -- ---- what is found of one label more
 
-module _ (old : List Made) (x : Made) (signature : x.signature ≡ signature_of x.skeleton) where
-  -- Of one that may live.
-  pub found_of_living : x.dead ≡ false → FindsLeast (MayBeSeen old x.parent x.skeleton) x.seen_in → ListsUnrealised x.skeleton x.unrealised → (x.general ≡ true → IsMaximallyGeneral x.skeleton)
-      → IsFound (map made_link (old ++ x ∷ [])) (length old) x
-  found_of_living lives least listed general = record {
-    signature = signature;
-    dead_none = λ dead. absurd (cc);
-    dead_unseen = λ dead. absurd (cc);
-    listed = λ _. listed;
-    seen = λ _. points_to_first old x x.seen_in least;
-    general = general;
-  }
+-- What is found of a label is true with the label in which it is seen.
+pub found_with : (old : List Made) (x : Made) (seen : Option ℕ) → IsFoundApart x → IsSeenIn old x seen
+    → IsFound (map made_link (old ++ (record x { seen_in = seen }) ∷ [])) (length old) (record x { seen_in = seen })
+found_with old x seen apart h = record {
+  signature = apart.signature;
+  dead_none = apart.dead_none;
+  dead_unseen = h.dead;
+  listed = apart.listed;
+  seen = λ lives. points_to_first old (record x { seen_in = seen }) seen (h.living lives);
+  general = apart.general;
+}
 
-  -- Of one that is dead from the start.
-  pub found_of_dead : x.dead ≡ true → x.seen_in ≡ None → x.unrealised ≡ [] → x.general ≡ false → IsFound (map made_link (old ++ x ∷ [])) (length old) x
-  found_of_dead dead unseen none unknown = record {
-    signature = signature;
-    dead_none = λ _. none;
-    dead_unseen = λ _. unseen;
-    listed = λ lives. absurd (cc);
-    seen = λ lives. absurd (cc);
-    general = λ known. absurd (cc);
-  }
+-- The label is put behind others with the one in which it is seen.
+pub adds_found : (old new : List Made) (x : Made) (seen : Option ℕ) → AreFound old → IsFoundApart x → IfSome x.parent (λ p. p < length old) → IsSeenIn old x seen → new ≡ old ++ (record x { seen_in = seen }) ∷ [] → AddsFound x old new
+adds_found old new x seen found apart later h behind = record {
+  seen_in = seen;
+  behind = behind;
+  found = subst AreFound (sym behind) (all_found old (record x { seen_in = seen }) found (found_with old x seen apart h) later);
+}
+
+-- What is found of one that may live.
+pub apart_of_living : (x : Made) → x.signature ≡ signature_of x.skeleton → x.dead ≡ false → ListsUnrealised x.skeleton x.unrealised → (x.general ≡ true → IsMaximallyGeneral x.skeleton) → IsFoundApart x
+apart_of_living x signature lives listed general = record {
+  signature = signature;
+  dead_none = λ dead. absurd (cc);
+  listed = λ _. listed;
+  general = general;
+}
+
+-- What is found of one that is dead from the start.
+pub apart_of_dead : (x : Made) → x.signature ≡ signature_of x.skeleton → x.dead ≡ true → x.unrealised ≡ [] → x.general ≡ false → IsFoundApart x
+apart_of_dead x signature dead none unknown = record {
+  signature = signature;
+  dead_none = λ _. none;
+  listed = λ lives. absurd (cc);
+  general = λ known. absurd (cc);
+}

@@ -23,3 +23,5 @@ pub mod Links
 pub mod LabelExpanded
 pub mod MadeTrees
 mod SoundBehind
+pub mod Spellings
+pub mod SpelledLabels

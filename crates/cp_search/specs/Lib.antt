@@ -7,3 +7,4 @@ pub mod IndexedLabels
 pub mod GeneralLabels
 pub mod Candidates
 pub mod TreeLabels
+pub mod Spellings

@@ -58,6 +58,13 @@ pub record IsFound (links : List LabelLink) (i : ℕ) (m : Made) : Type 0 where
   pub seen : m.dead ≡ false → FindsLeast (MayPointTo links i) m.seen_in
   pub general : m.general ≡ true → IsMaximallyGeneral m.skeleton
 
+-- What is found of a label is true, but for the one in which it is seen.
+pub record IsFoundApart (m : Made) : Type 0 where
+  pub signature : m.signature ≡ signature_of m.skeleton
+  pub dead_none : m.dead ≡ true → m.unrealised ≡ []
+  pub listed : m.dead ≡ false → ListsUnrealised m.skeleton m.unrealised
+  pub general : m.general ≡ true → IsMaximallyGeneral m.skeleton
+
 -- A label is made from one before it, if from any.
 abbrev pub IsMadeLater : List Made → Type 0
 IsMadeLater ms = (i p : ℕ) (m : Made) → item_at ms i ≡ Some m → m.parent ≡ Some p → p < i
@@ -85,6 +92,17 @@ pub record MayBeSeen (ms : List Made) (parent : Option ℕ) (k : Skeleton) (n : 
   pub at : item_at ms n ≡ Some other
   pub allowed : (p : ℕ) → parent ≡ Some p → Reaches (map made_link ms) n p → ⊥
   pub isomorphic : IsIsomorphic other.skeleton k
+
+-- A new label behind these is seen in this one: in none if it is dead, and else in the least in which it may be seen.
+pub record IsSeenIn (ms : List Made) (m : Made) (seen_in : Option ℕ) : Type 0 where
+  pub dead : m.dead ≡ true → seen_in ≡ None
+  pub living : m.dead ≡ false → FindsLeast (MayBeSeen ms m.parent m.skeleton) seen_in
+
+-- The label was put behind the others, with the one in which it is seen, and what is found of each is true.
+pub record AddsFound (m : Made) (old new : List Made) : Type 0 where
+  pub seen_in : Option ℕ
+  pub behind : new ≡ old ++ (record m { seen_in = seen_in }) ∷ []
+  pub found : AreFound new
 
 -- One label more was made, and what is found of it is true.
 pub record AddsMade (m : plain.Made) (old new : List Made) : Type 0 where

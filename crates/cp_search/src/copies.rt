@@ -1,9 +1,10 @@
 // Which label is a copy: the label in which a new one is seen.
-ghost use Rattle.std.specs.Prelude.{◌≡◌, ◌↔◌, ◌<◌, ◌≤◌, nat_eq, ℕ, [], ◌∷◌, ◌++◌, if◌then◌else◌, length, Some, IsTrue, IfOk, IfSome, OnOk};
+ghost use Rattle.std.specs.Prelude.{◌≡◌, ◌↔◌, ◌<◌, ◌≤◌, nat_eq, ℕ, List, [], ◌∷◌, ◌++◌, if◌then◌else◌, length, Some, IsTrue, IfOk, IfSome, OnOk};
 ghost use Rattle.cp_lists.specs.Lists.{item_at, IsIn};
 ghost use Rattle.cp_fingerprint.specs.Signatures.{signature_of};
 ghost use Rattle.cp_search.specs.Graph.{AddsEdge};
 ghost use Rattle.cp_search.specs.IndexedLabels.{Indexes};
+ghost use Rattle.cp_search.specs.Spellings.{Spells};
 ghost use Rattle.cp_search.specs.LabelsByNumber.{with_key, numbers_by};
 ghost use Rattle.cp_shapes.specs.Shapes.{FindsLeast};
 ghost use Rattle.cp_search.specs.Flags.{IsFlagged};
@@ -12,20 +13,23 @@ ghost use Rattle.cp_search.specs.declared.made.Made as program;
 
 use crate::graph::{Edge, leading_to};
 use crate::made::Made;
+use crate::spelling::{Spelling, are_isomorphic};
 use cp_fingerprint::Signature;
-use cp_hom::isomorphic;
 use cp_skel::Skeleton;
+use cp_term::TermTable;
 use std::alloc::{AllocError, Global};
 use std::collections::HashMap;
 
 /// An index of labels that finds the one in which a new label is seen: the numbers of the labels by bucket key; the edges, which
-/// lead to each label from its parent and from each label to the one in which it is seen; and an upper bound on the numbers of
-/// all parents.
+/// lead to each label from its parent and from each label to the one in which it is seen; an upper bound on the numbers of
+/// all parents; and the spelling of each label, by the numbers of its terms in a table.
 #[derive(Drop)]
 pub(crate) struct CopyIndex {
     buckets: HashMap<usize, Vec<usize>>,
     edges: Vec<Edge>,
     latest_parent: usize,
+    terms: TermTable,
+    spellings: Vec<Spelling>,
 }
 
 /// Adds the edge from one label to the other, if both are given.
@@ -99,17 +103,33 @@ impl CopyIndex {
             buckets: HashMap::new(alloc),
             edges: Vec::new(alloc),
             latest_parent: 0,
+            terms: TermTable::new(alloc),
+            spellings: Vec::new(alloc),
         }
     }
 
-    /// Adds the label that comes after these labels. After an error the index is of no use.
+    /// The spelling of a skeleton. Its terms are put into the table.
+    pub(crate) fn spelling_of(
+        &mut self,
+        alloc: Global,
+        skeleton: &Skeleton,
+    ) -> Result<Spelling, AllocError>
+        ensures kept { OnOk result ((ms : List program.Made) → Indexes self.old ms → Indexes self.new ms) }
+        ensures spelled { IfOk result (λ s. Spells self.new.terms skeleton.now s) }
+    {
+        Spelling::of(alloc, &mut self.terms, skeleton)
+    }
+
+    /// Adds the label that comes after these labels, with its spelling. After an error the index is of no use.
     pub(crate) fn add(
         &mut self,
         alloc: Global,
         labels: &[Made],
         made: &Made,
+        spelling: Spelling,
     ) -> Result<(), AllocError>
-        requires { Indexes self.old labels.now }
+        requires index { Indexes self.old labels.now }
+        requires spelled { Spells self.old.terms made.now.skeleton spelling }
         ensures { OnOk result (Indexes self.new (labels.now ++ made.now ∷ [])) }
     {
         let number = labels.len();
@@ -122,7 +142,16 @@ impl CopyIndex {
             number,
         )?;
         self.latest_parent = latest(self.latest_parent, made.parent);
+        self.spellings.push(spelling)?;
         Ok(())
+    }
+
+    /// The spelling of the label with this number.
+    fn spelling(&self, number: usize) -> &Spelling
+        requires { number < length self.now.spellings.items }
+        ensures { item_at self.now.spellings.items number ≡ Some result.now }
+    {
+        &self.spellings[number]
     }
 
     /// The labels whose signatures have this bucket key, in ascending order.
@@ -135,18 +164,20 @@ impl CopyIndex {
         }
     }
 
-    /// The first label that is not flagged and is isomorphic to the skeleton with this signature. Only labels whose signatures
-    /// have the same bucket key are compared.
+    /// The first label that is not flagged and is isomorphic to the skeleton with this signature and spelling. Only labels whose
+    /// signatures have the same bucket key are compared.
     fn first_copy(
         &self,
         alloc: Global,
         labels: &[Made],
         forbidden: &[bool],
         signature: &Signature,
+        spelling: &Spelling,
         skeleton: &Skeleton,
     ) -> Result<Option<usize>, AllocError>
         requires index { Indexes self.now labels.now }
         requires signature { signature.now ≡ signature_of skeleton.now }
+        requires spelled { Spells self.now.terms skeleton.now spelling.now }
         requires signatures { (m : program.Made) → IsIn m labels.now → m.signature ≡ signature_of m.skeleton }
         ensures { IfOk result (FindsLeast (MayBeSeenIn labels.now forbidden.now skeleton.now)) }
     {
@@ -159,7 +190,8 @@ impl CopyIndex {
             if !other.signature.may_be_isomorphic(signature) {
                 continue;
             }
-            if isomorphic(alloc, &other.skeleton, skeleton)? {
+            let other_spelling = self.spelling(*number);
+            if are_isomorphic(alloc, &other.skeleton, other_spelling, skeleton, spelling)? {
                 return Ok(Some(*number));
             }
         }
@@ -175,15 +207,17 @@ impl CopyIndex {
         labels: &[Made],
         parent: Option<usize>,
         signature: &Signature,
+        spelling: &Spelling,
         skeleton: &Skeleton,
     ) -> Result<Option<usize>, AllocError>
         requires index { Indexes self.now labels.now }
         requires found { AreFound labels.now }
         requires parent { IfSome parent (λ p. p < length labels.now) }
         requires signature { signature.now ≡ signature_of skeleton.now }
+        requires spelled { Spells self.now.terms skeleton.now spelling.now }
         ensures { IfOk result (FindsLeast (MayBeSeen labels.now parent skeleton.now)) }
     {
-        let Some(copy) = self.first_copy(alloc, labels, &[], signature, skeleton)? else {
+        let Some(copy) = self.first_copy(alloc, labels, &[], signature, spelling, skeleton)? else {
             return Ok(None);
         };
         let Some(parent) = parent else {
@@ -196,6 +230,6 @@ impl CopyIndex {
         if !is_flagged(&leading, copy) {
             return Ok(Some(copy));
         }
-        self.first_copy(alloc, labels, &leading, signature, skeleton)
+        self.first_copy(alloc, labels, &leading, signature, spelling, skeleton)
     }
 }

@@ -1,15 +1,13 @@
 // The labels made so far.
-ghost use Rattle.std.specs.Prelude.{◌≡◌, ◌<◌, [], ◌∷◌, ◌++◌, length, map, Some, IfSome, IfOk, OnOk};
-ghost use Rattle.cp_fingerprint.specs.Signatures.{signature_of};
+ghost use Rattle.std.specs.Prelude.{◌≡◌, ◌<◌, [], length, Some, IfSome, IfOk, OnOk};
 ghost use Rattle.cp_lists.specs.Lists.{item_at};
 ghost use Rattle.cp_search.specs.IndexedLabels.{Indexes};
-ghost use Rattle.cp_shapes.specs.Shapes.{FindsLeast};
-ghost use Rattle.cp_search.specs.MadeLabels.{made_link, MayBeSeen, IsFound, AreFound};
+ghost use Rattle.cp_search.specs.MadeLabels.{AreFound, IsFoundApart, IsSeenIn, AddsFound};
+ghost use Rattle.cp_search.specs.Spellings.{Spells};
 
 use crate::copies::{CopyIndex, label};
 use crate::made::Made;
-use cp_fingerprint::Signature;
-use cp_skel::Skeleton;
+use crate::spelling::Spelling;
 use std::alloc::{AllocError, Global};
 use std::marker::Model;
 
@@ -20,18 +18,51 @@ pub(crate) struct MadeLabels {
     copies: CopyIndex,
 }
 
+/// The label in which a new label is seen: none if it is dead.
+fn copied_by(
+    alloc: Global,
+    all: &[Made],
+    copies: &CopyIndex,
+    made: &Made,
+    spelling: &Spelling,
+) -> Result<Option<usize>, AllocError>
+    requires index { Indexes copies.now all.now }
+    requires found { AreFound all.now }
+    requires apart { IsFoundApart made.now }
+    requires parent { IfSome made.now.parent (λ p. p < length all.now) }
+    requires spelled { Spells copies.now.terms made.now.skeleton spelling.now }
+    ensures { IfOk result (IsSeenIn all.now made.now) }
+{
+    if made.dead {
+        return Ok(None);
+    }
+    copies.find(
+        alloc,
+        all,
+        made.parent,
+        &made.signature,
+        spelling,
+        &made.skeleton,
+    )
+}
+
 /// Appends a label, also to the index.
 fn append(
     alloc: Global,
     all: &mut Vec<Made>,
     copies: &mut CopyIndex,
-    made: Made,
+    mut made: Made,
 ) -> Result<(), AllocError>
-    requires { Indexes copies.old all.old.items }
-    ensures all { OnOk result (all.new.items ≡ all.old.items ++ made ∷ []) }
+    requires index { Indexes copies.old all.old.items }
+    requires found { AreFound all.old.items }
+    requires apart { IsFoundApart made }
+    requires parent { IfSome made.parent (λ p. p < length all.old.items) }
+    ensures all { OnOk result (AddsFound made all.old.items all.new.items) }
     ensures index { OnOk result (Indexes copies.new all.new.items) }
 {
-    copies.add(alloc, all, &made)?;
+    let spelling = copies.spelling_of(alloc, &made.skeleton)?;
+    made.seen_in = copied_by(alloc, all, copies, &made, &spelling)?;
+    copies.add(alloc, all, &made, spelling)?;
     all.push(made)?;
     Ok(())
 }
@@ -94,28 +125,11 @@ impl MadeLabels {
         label(&self.all, number)
     }
 
-    /// The label in which a new label with this skeleton is seen, given its parent if it has one.
-    pub(crate) fn copied_by(
-        &self,
-        alloc: Global,
-        parent: Option<usize>,
-        signature: &Signature,
-        skeleton: &Skeleton,
-    ) -> Result<Option<usize>, AllocError>
-        requires parent { IfSome parent (λ p. p < length self.now) }
-        requires signature { signature.now ≡ signature_of skeleton.now }
-        ensures { IfOk result (FindsLeast (MayBeSeen self.now parent skeleton.now)) }
-    {
-        self.copies
-            .find(alloc, &self.all, parent, signature, skeleton)
-    }
-
-    /// Appends a label. On an error all labels are lost.
+    /// Appends a label, of which all is found but in which label it is seen: that is found now. On an error all labels are lost.
     pub(crate) fn push(&mut self, alloc: Global, made: Made) -> Result<(), AllocError>
-        requires found { IsFound (map made_link (self.old ++ made ∷ [])) (length self.old) made }
+        requires apart { IsFoundApart made }
         requires parent { IfSome made.parent (λ p. p < length self.old) }
-        ensures pushed { OnOk result (self.new ≡ self.old ++ made ∷ []) }
-        ensures found { AreFound self.new }
+        ensures pushed { OnOk result (AddsFound made self.old self.new) }
     {
         let MadeLabels { all, copies } = self;
         if append(alloc, all, copies, made).is_err() {

@@ -14,6 +14,7 @@ mod new_labels;
 mod resolved;
 mod resolved_tree;
 mod roots;
+mod spelling;
 mod trees;
 
 pub use trees::search;

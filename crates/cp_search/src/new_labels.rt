@@ -25,7 +25,6 @@ pub(crate) fn make(
     ensures made { OnOk result (AddsMade (record { parent = parent; operation = operation; skeleton = skeleton; dead = false }) made.old made.new) }
 {
     let signature = Signature::of(alloc, &skeleton)?;
-    let seen_in = made.copied_by(alloc, parent, &signature, &skeleton)?;
     let receptions = unrealised(alloc, &skeleton)?;
     made.push(
         alloc,
@@ -36,7 +35,7 @@ pub(crate) fn make(
             general,
             dead: false,
             signature,
-            seen_in,
+            seen_in: None,
             unrealised: Nodes::of(receptions),
         },
     )

@@ -23,7 +23,7 @@ module _ {A : Type 0} {has : List A → A → Bool} {onto : List A → List A �
   onto-known before (x ∷ xs) h =
       g.goes before x xs ∙ ap (λ b. onto (if b then before else before ++ x ∷ []) xs) (g.finds before x (h x here)) ∙ onto-known before xs (λ v i. h v (there i))
 
-  is-new : (before : List A) (x : A) → (IsIn x before → ⊥) → has before x ≡ false
+  pub is-new : (before : List A) (x : A) → (IsIn x before → ⊥) → has before x ≡ false
   is-new before x apart = false_from_ne_true (has before x) (λ e. apart (g.found before x e))
 
   apart-next : (before xs : List A) (x : A) → (IsIn x xs → ⊥) → ((v : A) → IsIn v (x ∷ xs) → IsIn v before → ⊥) → (v : A) → IsIn v xs → IsIn v (before ++ x ∷ []) → ⊥

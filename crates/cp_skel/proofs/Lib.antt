@@ -15,6 +15,7 @@ pub mod Changed
 pub mod Grown
 pub mod StaySkeletons
 pub mod EachOnce
+mod AlreadyListed
 pub mod StrandsGive
 pub mod DeclaredChanges
 pub mod CarriedHomomorphisms

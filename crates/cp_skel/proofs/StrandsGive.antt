@@ -1,93 +1,41 @@
 -- What the roles of strands give, strand by strand.
-use Rattle.std.proofs.Common.{◌≡◌, ℕ, suc, ◌+◌, ◌<◌, ◌≤◌, nat_lt, List, [], ◌∷◌, ◌++◌, length, get_or, drop, refl, sym, ap, ◌∙◌, add-one, arith, Bool, true, false, Option, Some, None, if◌then◌else◌, lt-ltb}
-use Rattle.std.proofs.lemmas.Bool.Decides.{nat_tests}
+use Rattle.std.proofs.Common.{◌≡◌, ℕ, suc, ◌+◌, ◌<◌, List, [], ◌∷◌, ◌++◌, length, get_or, map, drop, refl, sym, ap, ◌∙◌, add-one, Bool}
 use Rattle.std.proofs.lemmas.List.{append-nil}
 use Rattle.cp_lists.proofs.Members.{drop_read}
-use Rattle.cp_model.specs.Term.{AtomTerm, atom_term, variables_of_atom, apply_to_atom}
-use Rattle.cp_model.specs.Bindings.{Binding, as_substitution, bindings_of}
-use Rattle.cp_model.specs.Strand.{Role, OriginatesInTerms, variables_of_prefix}
-use Rattle.cp_model.specs.Bundle.{node_at}
+use Rattle.cp_model.specs.Term.{AtomTerm}
 use Rattle.cp_model.specs.Skeleton.{SkeletonStrand, instance, listener, UniqueAt, Assumptions}
-use Rattle.cp_model.specs.Same.{has_variables, origin_in}
-use Rattle.cp_model.specs.Given.{atoms_onto, uniques_onto, applying, unique_if_below, applying_uniques, given_non, given_penetrator_non, given_uniques}
-use Rattle.cp_model.proofs.SameTests.{origin_found, finds_origin}
+use Rattle.cp_model.specs.Given.{atoms_onto, uniques_onto, applying, applying_uniques, given_non, given_penetrator_non, given_uniques}
 use Rattle.cp_model.specs.GivenAssumptions.{with_given_from}
-use Rattle.cp_strand.specs.View.{InstanceData}
-use Rattle.cp_model.proofs.Gathered.{onto-append, atoms, uniques}
+use Rattle.cp_model.proofs.Gathered.{IsGathering, onto-append, atoms, uniques}
+use Rattle.cp_strand.specs.declared.given.IndexedUnique.{IndexedUnique}
+use Rattle.cp_strand.specs.declared.given.Given.{Given}
+use Rattle.cp_strand.specs.Givens.{unique_on, IsGivenBy}
+use Rattle.cp_skel.specs.JoinedAssumptions.{with_these}
 
--- ---- where the atoms of roles originate
+-- ---- what is given to a strand, item by item
 
-no-place : (role : Role) (v : AtomTerm) → ((i : ℕ) → OriginatesInTerms role.trace (atom_term v) i → ⊥) → origin_in role.trace (atom_term v) ≡ None
-no-place role v none = by_place (origin_in role.trace (atom_term v)) refl
-  where
-    by_place : (o : Option ℕ) → origin_in role.trace (atom_term v) ≡ o → o ≡ None
-    by_place None e = refl
-    by_place (Some i) e = absurd (none i (origin_found role.trace (atom_term v) i e))
+-- A loop over items that puts each behind what is there.
+module _ {A : Type 0} {has : List A → A → Bool} {onto : List A → List A → List A} (g : IsGathering has onto) where
+  put-next : (now new left rest all : List A) (v : A) → left ≡ v ∷ rest → new ≡ onto now (v ∷ []) → onto now left ≡ all → onto new rest ≡ all
+  put-next now new left rest all v next put h =
+      ap (λ xs. onto xs rest) put ∙ sym (onto-append g now (v ∷ []) rest) ∙ ap (onto now) (sym next) ∙ h
 
-at-height : (i height : ℕ) → height ≤ i → nat_lt i height ≡ false
-at-height i height le = grind (arith, nat_tests)
+pub put-atom : (now new vs all : List AtomTerm) (n : ℕ) (v w : AtomTerm) → n < length vs → v ≡ get_or vs n v → w ≡ v → new ≡ atoms_onto now (w ∷ []) → atoms_onto now (drop n vs) ≡ all → atoms_onto new (drop (n + 1) vs) ≡ all
+put-atom now new vs all n v w lt is e put h =
+    put-next atoms now new (drop n vs) (drop (n + 1) vs) all v (drop_read vs n v lt is) (put ∙ ap (λ x. atoms_onto now (x ∷ [])) e) h
 
--- ---- what the role of an instance gives it
+pub put-unique : (s : ℕ) (now new all : List UniqueAt) (us : List IndexedUnique) (n : ℕ) (u : IndexedUnique) (w : UniqueAt) → n < length us → u ≡ get_or us n u → w ≡ unique_on s u
+    → new ≡ uniques_onto now (w ∷ []) → uniques_onto now (map (unique_on s) (drop n us)) ≡ all → uniques_onto new (map (unique_on s) (drop (n + 1) us)) ≡ all
+put-unique s now new all us n u w lt is e put h =
+    put-next uniques now new (map (unique_on s) (drop n us)) (map (unique_on s) (drop (n + 1) us)) all (unique_on s u) (ap (map (unique_on s)) (drop_read us n u lt is)) (put ∙ ap (λ x. uniques_onto now (x ∷ [])) e) h
 
-module _ (k : InstanceData) where
-  abbrev role : Role
-  role = k.role
-
-  abbrev height : ℕ
-  height = k.height
-
-  abbrev terms : List Binding
-  terms = bindings_of k.values
-
-  -- Its atoms that apply.
-  module _ (vs : List AtomTerm) (n : ℕ) (us ws all : List AtomTerm)
-      (v : AtomTerm) (lt : n < length vs) (is : v ≡ get_or vs n v) (h : atoms_onto us (applying role height terms (drop n vs)) ≡ all) where
-    whole : (b : Bool) → b ≡ has_variables (variables_of_prefix role height) (variables_of_atom v) → atoms_onto us (applying role height terms (drop n vs))
-        ≡ atoms_onto us (if b then apply_to_atom (as_substitution terms) v ∷ applying role height terms (drop (n + 1) vs) else applying role height terms (drop (n + 1) vs))
-    whole b e =
-        ap (λ ls. atoms_onto us (applying role height terms ls)) (drop_read vs n v lt is)
-        ∙ ap (λ c. atoms_onto us (if c then apply_to_atom (as_substitution terms) v ∷ applying role height terms (drop (n + 1) vs) else applying role height terms (drop (n + 1) vs))) (sym e)
-
-    pub atom-applies : true ≡ has_variables (variables_of_prefix role height) (variables_of_atom v) → ws ≡ atoms_onto us (apply_to_atom (as_substitution terms) v ∷ [])
-        → atoms_onto ws (applying role height terms (drop (n + 1) vs)) ≡ all
-    atom-applies e g =
-        ap (λ xs. atoms_onto xs (applying role height terms (drop (n + 1) vs))) g
-        ∙ sym (onto-append atoms us (apply_to_atom (as_substitution terms) v ∷ []) (applying role height terms (drop (n + 1) vs))) ∙ sym (whole true e) ∙ h
-
-    pub atom-left : false ≡ has_variables (variables_of_prefix role height) (variables_of_atom v) → ws ≡ us
-        → atoms_onto ws (applying role height terms (drop (n + 1) vs)) ≡ all
-    atom-left e g = ap (λ xs. atoms_onto xs (applying role height terms (drop (n + 1) vs))) g ∙ sym (whole false e) ∙ h
-
-  -- Those that originate.
-  module _ (s : ℕ) (vs : List AtomTerm) (n : ℕ) (us all : List UniqueAt)
-      (v : AtomTerm) (lt : n < length vs) (is : v ≡ get_or vs n v) (h : uniques_onto us (applying_uniques role height terms s (drop n vs)) ≡ all) where
-    abbrev rest : List UniqueAt
-    rest = applying_uniques role height terms s (drop (n + 1) vs)
-
-    given-here : (o : Option ℕ) → origin_in role.trace (atom_term v) ≡ o → uniques_onto us (unique_if_below height s (apply_to_atom (as_substitution terms) v) o ++ rest) ≡ all
-    given-here o e =
-        ap (λ p. uniques_onto us (unique_if_below height s (apply_to_atom (as_substitution terms) v) p ++ rest)) (sym e)
-        ∙ sym (ap (λ ls. uniques_onto us (applying_uniques role height terms s ls)) (drop_read vs n v lt is)) ∙ h
-
-    pub none-originates : ((i : ℕ) → OriginatesInTerms role.trace (atom_term v) i → ⊥) → uniques_onto us (applying_uniques role height terms s (drop (n + 1) vs)) ≡ all
-    none-originates none = given-here None (no-place role v none)
-
-    below-or-not : (i : ℕ) (b : Bool) → nat_lt i height ≡ b → OriginatesInTerms role.trace (atom_term v) i
-        → uniques_onto us ((if b then record { value = apply_to_atom (as_substitution terms) v; origin = node_at s i } ∷ [] else []) ++ rest) ≡ all
-    below-or-not i b e o =
-        ap (λ c. uniques_onto us ((if c then record { value = apply_to_atom (as_substitution terms) v; origin = node_at s i } ∷ [] else []) ++ rest)) (sym e)
-        ∙ given-here (Some i) (finds_origin role.trace (atom_term v) i o)
-
-    pub late-originates : (i : ℕ) → OriginatesInTerms role.trace (atom_term v) i → height ≤ i → uniques_onto us (applying_uniques role height terms s (drop (n + 1) vs)) ≡ all
-    late-originates i o le = below-or-not i false (at-height i height le) o
-
-    pub one-originates : (i : ℕ) → OriginatesInTerms role.trace (atom_term v) i → i < height → (value : AtomTerm) → value ≡ apply_to_atom (as_substitution terms) v
-        → (ws : List UniqueAt) → ws ≡ uniques_onto us (record { value = value; origin = node_at s i } ∷ [])
-        → uniques_onto ws (applying_uniques role height terms s (drop (n + 1) vs)) ≡ all
-    one-originates i o below value e ws g =
-        ap (λ xs. uniques_onto xs rest) (g ∙ ap (λ w. uniques_onto us (record { value = w; origin = node_at s i } ∷ [])) e)
-        ∙ sym (onto-append uniques us (record { value = apply_to_atom (as_substitution terms) v; origin = node_at s i } ∷ []) rest)
-        ∙ below-or-not i true (lt-ltb i height below) o
+-- What is given to a strand is put behind the assumptions.
+pub these-given : (s : ℕ) (k : SkeletonStrand) (g : Given) (own all : Assumptions) → IsGivenBy k g → all ≡ with_these s g own → all ≡ with_given_from s (k ∷ []) own
+these-given s k g own all given e = e ∙ (λ i. record {
+  non_originating = atoms_onto own.non_originating (given.non i);
+  penetrator_non_originating = atoms_onto own.penetrator_non_originating (given.penetrator_non i);
+  uniquely_originating = uniques_onto own.uniquely_originating (given.unique s i);
+})
 
 -- ---- strand by strand
 

@@ -7,5 +7,6 @@ pub mod KeptByChanges
 pub mod Deletion
 pub mod Bridges
 pub mod Kinds
+pub mod InOrder
 pub mod Events
 pub mod Tables

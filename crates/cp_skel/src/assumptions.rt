@@ -3,8 +3,8 @@ ghost use Rattle.std.specs.Prelude.{◌≡◌, IfOk, OnOk, OnErr};
 ghost use Rattle.std.specs.Result.{IsOkAnd};
 ghost use Rattle.cp_skel.specs.JoinedAssumptions.{joined_assumptions};
 
-use cp_model::Node;
-use cp_strand::{Atom, Same, copy_atoms};
+use cp_model::{Node, SharedList};
+use cp_strand::{Atom, Same};
 use std::alloc::{AllocError, Global};
 use std::marker::Model;
 
@@ -69,14 +69,14 @@ impl Same for UniqueAt {
     }
 }
 
-/// The three lists of assumptions.
+/// The three lists of assumptions. Copies share them.
 pub struct Assumptions {
-    non_originating: Vec<Atom>,
-    penetrator_non_originating: Vec<Atom>,
-    uniquely_originating: Vec<UniqueAt>,
+    non_originating: SharedList<Atom>,
+    penetrator_non_originating: SharedList<Atom>,
+    uniquely_originating: SharedList<UniqueAt>,
 }
 
-// Its holder drops it by one call, so that less is to be proved about the holder.
+// A value drops by one call of its own, wherever it is held.
 impl Drop for Assumptions {
     fn drop(self) {
         let Assumptions {
@@ -96,9 +96,9 @@ impl Model for Assumptions {
     ghost coded = { coded_assumptions };
 
     ghost view = { λ a. record {
-      non_originating = a.non_originating.items;
-      penetrator_non_originating = a.penetrator_non_originating.items;
-      uniquely_originating = a.uniquely_originating.items;
+      non_originating = a.non_originating;
+      penetrator_non_originating = a.penetrator_non_originating;
+      uniquely_originating = a.uniquely_originating;
     } };
 }
 
@@ -117,9 +117,9 @@ impl Assumptions {
         } }
     {
         Assumptions {
-            non_originating,
-            penetrator_non_originating,
-            uniquely_originating,
+            non_originating: SharedList::of(non_originating),
+            penetrator_non_originating: SharedList::of(penetrator_non_originating),
+            uniquely_originating: SharedList::of(uniquely_originating),
         }
     }
 
@@ -144,51 +144,71 @@ impl Assumptions {
     pub fn non_originating(&self) -> &[Atom]
         ensures { result.now ≡ self.now.non_originating }
     {
-        &self.non_originating
+        self.non_originating.as_slice()
     }
 
     /// The values that the penetrator does not originate (`pen-non-orig`).
     pub fn penetrator_non_originating(&self) -> &[Atom]
         ensures { result.now ≡ self.now.penetrator_non_originating }
     {
-        &self.penetrator_non_originating
+        self.penetrator_non_originating.as_slice()
     }
 
     /// The unique values, each with its recorded origin (`uniq-orig`).
     pub fn uniquely_originating(&self) -> &[UniqueAt]
         ensures { result.now ≡ self.now.uniquely_originating }
     {
-        &self.uniquely_originating
+        self.uniquely_originating.as_slice()
     }
 
     /// The same assumptions.
     pub fn copy(&self, alloc: Global) -> Result<Assumptions, AllocError>
         ensures { IfOk result (λ a. a ≡ self.now) }
     {
-        Assumptions::of(
-            copy_atoms(alloc, self.non_originating()),
-            copy_atoms(alloc, self.penetrator_non_originating()),
-            Vec::from_clones(alloc, self.uniquely_originating()),
-        )
+        Ok(Assumptions {
+            non_originating: self.non_originating.copy(alloc)?,
+            penetrator_non_originating: self.penetrator_non_originating.copy(alloc)?,
+            uniquely_originating: self.uniquely_originating.copy(alloc)?,
+        })
+    }
+
+    /// The assumptions with these unique values in place of their own. They share the other lists.
+    pub(crate) fn with_uniques(
+        &self,
+        alloc: Global,
+        uniques: Vec<UniqueAt>,
+    ) -> Result<Assumptions, AllocError>
+        ensures { IfOk result (λ a. a ≡ record self.now { uniquely_originating = uniques.items }) }
+    {
+        Ok(Assumptions {
+            non_originating: self.non_originating.copy(alloc)?,
+            penetrator_non_originating: self.penetrator_non_originating.copy(alloc)?,
+            uniquely_originating: SharedList::of(uniques),
+        })
+    }
+
+    /// These assumptions and others behind them. Where there are no others, they share the list.
+    fn joined(&self, more: &Assumptions) -> Result<Assumptions, AllocError>
+        ensures { IfOk result (λ a. a ≡ joined_assumptions self.now more.now) }
+    {
+        Ok(Assumptions {
+            non_originating: self.non_originating.joined(more.non_originating())?,
+            penetrator_non_originating: self
+                .penetrator_non_originating
+                .joined(more.penetrator_non_originating())?,
+            uniquely_originating: self
+                .uniquely_originating
+                .joined(more.uniquely_originating())?,
+        })
     }
 
     /// Appends other assumptions to these. On an error nothing has changed.
-    pub fn append(&mut self, mut more: Assumptions) -> Result<(), AllocError>
+    pub fn append(&mut self, more: Assumptions) -> Result<(), AllocError>
         ensures joined { OnOk result (self.new ≡ joined_assumptions self.old more) }
         ensures unchanged { OnErr result (self.new ≡ self.old) }
     {
-        self.non_originating.reserve(more.non_originating.len())?;
-        self.penetrator_non_originating
-            .reserve(more.penetrator_non_originating.len())?;
-        self.uniquely_originating
-            .reserve(more.uniquely_originating.len())?;
-        let _ = self.non_originating.append(&mut more.non_originating);
-        let _ = self
-            .penetrator_non_originating
-            .append(&mut more.penetrator_non_originating);
-        let _ = self
-            .uniquely_originating
-            .append(&mut more.uniquely_originating);
+        let joined = self.joined(&more)?;
+        *self = joined;
         Ok(())
     }
 }

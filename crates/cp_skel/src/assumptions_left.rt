@@ -1,6 +1,8 @@
 // The assumptions of a skeleton without one of its strands.
 ghost use Rattle.std.specs.Prelude.{◌≡◌, ◌↔◌, ◌⊎◌, ◌++◌, ◌<◌, length, IsTrue, IfOk};
 ghost use Rattle.cp_model.specs.Term.{AtomTerm};
+ghost use Rattle.cp_model.specs.Bindings.{bindings_of};
+ghost use Rattle.cp_model.specs.Given.{applying, atoms_onto};
 ghost use Rattle.cp_lists.specs.Lists.{IsIn};
 ghost use Rattle.cp_skel.specs.Deletion.{LeavesOut, as_it_is, GivesFrom, IsGivenElsewhere, IsForgotten, ForgetsAssumptions};
 ghost use Rattle.cp_skel.specs.Kinds.{stated_as, IsInFirstAlone};
@@ -9,7 +11,7 @@ use crate::assumptions::Assumptions;
 use crate::new_numbers::left_without;
 use crate::role_assumptions::missing_atoms;
 use crate::skeleton::Skeleton;
-use cp_strand::{Atom, Role, Strand, StrandShape, has_atom};
+use cp_strand::{Atom, Instance, Role, Strand, StrandShape, applying, has_atom};
 use std::alloc::{AllocError, Global};
 
 /// The kinds of assumptions that are plain atoms.
@@ -29,6 +31,21 @@ fn stated(kind: Kind, role: &Role) -> &[Atom]
     }
 }
 
+/// Of these atoms of its role, those that apply to an instance, under its terms, and are not among the old ones, each
+/// once.
+fn missing_applied(
+    alloc: Global,
+    instance: &Instance,
+    stated: &[Atom],
+    old: &[Atom],
+) -> Result<Vec<Atom>, AllocError>
+    ensures { IfOk result (λ more. old.now ++ more.items ≡ atoms_onto old.now
+        (applying instance.now.role instance.now.height (bindings_of instance.now.values) stated.now)) }
+{
+    let applied = applying(alloc, instance, stated)?;
+    missing_atoms(alloc, &applied, old)
+}
+
 /// What a strand gives of a kind, each once, except what is already given.
 fn given_by(
     alloc: Global,
@@ -41,7 +58,7 @@ fn given_by(
 {
     match strand.shape() {
         StrandShape::Instance(instance) => {
-            missing_atoms(alloc, instance, stated(kind, instance.role()), given)
+            missing_applied(alloc, instance, stated(kind, instance.role()), given)
         }
         StrandShape::Listener(_) => Ok(Vec::new(alloc)),
     }

@@ -5,7 +5,7 @@ use crate::skeleton::Skeleton;
 use std::alloc::{AllocError, Global};
 
 impl Skeleton {
-    /// The same skeleton. It shares its strands with this one.
+    /// The same skeleton. It has a list of strands of its own; all else, and each strand, is shared with this one.
     pub fn copy(&self, alloc: Global) -> Result<Skeleton, AllocError>
         ensures same { IfOk result (λ k. k ≡ self.now) }
     {

@@ -5,14 +5,12 @@ ghost use Rattle.cp_lists.specs.Lists.{IsIn};
 ghost use Rattle.cp_order.specs.Closed.{IsTransitive};
 ghost use Rattle.cp_skel.specs.Deletion.{ForgetsAssumptions, KeepsFromProblem, KeepsOrderOfOthers};
 
-use crate::assumptions::Assumptions;
 use crate::assumptions_left::assumptions_without;
 use crate::bridges::pairs_without;
 use crate::from_problem::FromProblem;
 use crate::new_numbers::{left_without, strands_renumbered};
 use crate::skeleton::Skeleton;
 use cp_order::Order;
-use cp_strand::{copy_atoms, copy_terms};
 use std::alloc::{AllocError, Global};
 
 /// The map from the problem once a strand is gone.
@@ -24,17 +22,11 @@ fn from_problem_without(
     ensures { IfOk result (λ p. KeepsFromProblem gone from.now p) }
 {
     let own = from.assumptions();
-    let assumptions = Assumptions::of(
-        copy_atoms(alloc, own.non_originating()),
-        copy_atoms(alloc, own.penetrator_non_originating()),
-        left_without(alloc, gone, own.uniquely_originating()),
-    )?;
-    Ok(FromProblem::new(
-        strands_renumbered(alloc, gone, from.strands())?,
-        copy_terms(alloc, from.values())?,
-        assumptions,
-        left_without(alloc, gone, from.pairs())?,
-    ))
+    let uniques = left_without(alloc, gone, own.uniquely_originating())?;
+    let assumptions = own.with_uniques(alloc, uniques)?;
+    let strands = strands_renumbered(alloc, gone, from.strands())?;
+    let pairs = left_without(alloc, gone, from.pairs())?;
+    from.with_strands(alloc, strands, assumptions, pairs)
 }
 
 impl Skeleton {

@@ -4,7 +4,7 @@ ghost use Rattle.cp_model.specs.Strand.{IsHeight};
 ghost use Rattle.cp_model.specs.PrefixVariables.{prefix_variables, AreTermsFor};
 ghost use Rattle.cp_model.specs.Extensions.{AddsListener, AddsStrand, CanExtend, Extends};
 
-use crate::role_assumptions::missing;
+use crate::role_assumptions::missing_on;
 use crate::skeleton::Skeleton;
 use cp_strand::{Role, Strand, StrandShape, instance_of};
 use cp_term::Term;
@@ -47,8 +47,8 @@ impl Skeleton {
         role.is_sound();
         let number = self.strands.len();
         let instance = instance_of(alloc, role, 0, height, &[], values)?;
-        let more = missing(alloc, number, &instance, &self.assumptions)?;
         let strand = Strand::with_events(alloc, instance)?;
+        let more = missing_on(alloc, number, &strand, &self.assumptions)?;
         let mut assumptions = self.assumptions.copy(alloc)?;
         assumptions.append(more)?;
         self.strands.push(strand)?;
@@ -84,8 +84,8 @@ impl Skeleton {
             old.values(),
             values,
         )?;
-        let more = missing(alloc, strand, &instance, &self.assumptions)?;
         let grown = Strand::with_events(alloc, instance)?;
+        let more = missing_on(alloc, strand, &grown, &self.assumptions)?;
         self.assumptions.append(more)?;
         self.strands[strand] = grown;
         Ok(())

@@ -3,6 +3,7 @@
 //! Every call that returns `AllocError` fails only if memory runs out.
 #![tactic(auto)]
 
+mod already_listed;
 mod assumption_lists;
 mod assumptions;
 mod assumptions_left;
@@ -48,7 +49,7 @@ pub use laws::{
 };
 pub use node_order::comes_before;
 pub use report_order::listed;
-pub use role_assumptions::{has_unique, missing};
+pub use role_assumptions::has_unique;
 pub use skeleton::{Node, OrderPair, Skeleton};
 pub use tree::{Label, Labels, Test, Tree};
 pub use used::used_terms;

@@ -2,6 +2,7 @@
 ghost use Rattle.std.specs.Prelude.{◌≡◌, IfOk, OnOk, OnErr};
 ghost use Rattle.cp_model.specs.Given.{listed};
 
+use crate::already_listed::is_listed;
 use crate::assumptions::Assumptions;
 use crate::gathered::stated_first;
 use crate::given_assumptions::add_given;
@@ -40,6 +41,9 @@ impl Skeleton {
         ensures unchanged { OnErr result (self.new ≡ self.old) }
         ensures variables { self.new.variables ≡ self.old.variables }
     {
+        if is_listed(alloc, self) {
+            return Ok(());
+        }
         self.assumptions = listed(alloc, self)?;
         Ok(())
     }

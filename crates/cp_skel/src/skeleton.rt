@@ -29,7 +29,7 @@ pub struct Skeleton {
     pub(crate) from_problem: FromProblem,
 }
 
-// Its holder drops it by one call, so that less is to be proved about the holder.
+// A value drops by one call of its own, wherever it is held.
 impl Drop for Skeleton {
     fn drop(self) {
         let Skeleton {

@@ -5,3 +5,4 @@ pub mod FirstOrigins
 pub mod ValuedItems
 pub mod SameLists
 pub mod InstanceTraces
+mod GivenValues

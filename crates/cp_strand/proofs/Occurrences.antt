@@ -2,6 +2,9 @@
 use Rattle.std.proofs.Common.{◌≡◌, ℕ, ◌+◌, ◌<◌, List, [], ◌∷◌, ◌++◌, ◌||◌, ◌&&◌, ◌==◌, length, get_or, drop, Bool, true, false, refl, sym, ap, ◌∙◌}
 use Rattle.std.proofs.Math.Bool.{or_assoc}
 use Rattle.cp_lists.proofs.Members.{drop_read}
+use Rattle.cp_lists.specs.Lists.{IsIn}
+use Rattle.cp_model.proofs.CarriedParts.{not_both}
+use Rattle.cp_model.proofs.SameTests.{variable_in}
 use Rattle.cp_model.specs.Term.{KeyTerm, Term, pair_term, enc_term, variables_of, variables_of_key}
 use Rattle.cp_model.specs.declared.strand.Event.{Event}
 use Rattle.cp_model.specs.declared.variable.Variable.{Variable}
@@ -41,6 +44,12 @@ module _ (x : Variable) (whole term : Term) (h : has_variable (variables_of term
 
   pub not_in_key : (body key : Term) → ((k : KeyTerm) × (key ≡ key_as_term k) × (term ≡ enc_term body k)) → false ≡ has_variable (variables_of key) x → has_variable (variables_of body) x ≡ has_variable (variables_of whole) x
   not_in_key body key w f = or_false (has_variable (variables_of body) x) (has_variable (variables_of key) x) f ∙ encrypted body key w
+
+  pub absent : (b : Bool) → ((y : Variable) → y.number ≡ x.number → IsIn y (variables_of term) → b ≡ true) → b ≡ false → false ≡ has_variable (variables_of whole) x
+  absent b may out = sym (not_listed (has_variable (variables_of term) x) refl) ∙ h where
+    not_listed : (c : Bool) → has_variable (variables_of term) x ≡ c → has_variable (variables_of term) x ≡ false
+    not_listed false e = e
+    not_listed true e = absurd (not_both out (may x refl (variable_in (variables_of term) x e)))
 
 module _ (x : Variable) (es : List (Event Term)) (k : ℕ) (e : Event Term) (lt : k < length es) (is : e ≡ get_or es k e) (all : Bool)
     (h : has_variable (variables_of_trace (drop k es)) x ≡ all) where

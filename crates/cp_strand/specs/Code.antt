@@ -27,7 +27,7 @@ pub event_back : (e : Event Term) → event_from (event_parts e) ≡ e
 event_back (send t) = refl
 event_back (recv t) = refl
 
-abbrev coded_event : Coded (Event Term)
+abbrev pub coded_event : Coded (Event Term)
 coded_event = code_by (Term ⊎ Term) (coded⊎ coded_term coded_term) event_parts event_from event_back
 
 abbrev pub coded_atoms : Coded (List AtomTerm)

@@ -2,6 +2,7 @@ pub mod Code
 pub mod View
 pub mod Atoms
 pub mod Bodies
+pub mod Givens
 pub mod RoleParts
 pub mod Shapes
 pub mod Origins

@@ -62,7 +62,7 @@ fn instance_event(
 }
 
 /// The events of an instance.
-fn instance_events(alloc: Global, instance: &Instance) -> Result<Vec<Event>, AllocError>
+pub(crate) fn instance_events(alloc: Global, instance: &Instance) -> Result<Vec<Event>, AllocError>
     ensures { IfOk result (λ es. es.items ≡ skeleton_trace (instance_view instance.now)) }
 {
     let values = instance.values();
@@ -70,20 +70,6 @@ fn instance_events(alloc: Global, instance: &Instance) -> Result<Vec<Event>, All
         .iter()
         .map(|event| applied_event(alloc, values, event))
         .try_collect(alloc)
-}
-
-/// The events that a strand keeps for an instance: all of them if its role is small, otherwise none, since the events
-/// of many strands could take much memory.
-pub(crate) fn held_events(
-    alloc: Global,
-    instance: &Instance,
-) -> Result<Option<Vec<Event>>, AllocError>
-    ensures { IfOk result (λ held. IfSome held (λ es. es.items ≡ skeleton_trace (instance_view instance.now))) }
-{
-    if !instance.role().is_small() {
-        return Ok(None);
-    }
-    instance_events(alloc, instance).map(Some)
 }
 
 /// A copy of the event.
@@ -123,7 +109,7 @@ impl Strand {
         ensures { IfSome result (λ es. es.now ≡ skeleton_trace self.now) }
     {
         match self.body() {
-            Body::Instance(_, Some(events)) => Some(events),
+            Body::Instance(_, Some(held)) => Some(&held.events),
             _ => None,
         }
     }
@@ -133,7 +119,7 @@ impl Strand {
         ensures { IfOk result (λ e. e ≡ item_at (skeleton_trace self.now) index) }
     {
         match self.body() {
-            Body::Instance(_, Some(events)) => copy_at(events, index),
+            Body::Instance(_, Some(held)) => copy_at(&held.events, index),
             Body::Instance(instance, None) => instance_event(alloc, instance, index),
             Body::Listener(message) => listener_event(message, index),
         }

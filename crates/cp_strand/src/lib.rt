@@ -5,8 +5,8 @@
 #![tactic(auto)]
 
 mod atom;
-mod copies;
 mod events;
+mod given;
 mod instance_terms;
 mod prefix_variables;
 mod protocol;
@@ -18,13 +18,13 @@ mod terms_under;
 mod values;
 
 pub use atom::{Atom, has_atom};
-pub use copies::{copy_atoms, copy_terms};
 pub use cp_model::Declaration;
 pub use events::{applied, applied_atom};
+pub use given::{Given, IndexedUnique, applying};
 pub use instance_terms::instance_of;
 pub use prefix_variables::{all_occur, occurs, prefix_of};
 pub use protocol::{Event, Protocol, Role};
-pub use same::{Same, has};
+pub use same::{Same, are_same, has};
 pub use same_role::is_same_role;
 pub use strand::{Instance, Strand, StrandShape};
 pub use term_origins::origin;

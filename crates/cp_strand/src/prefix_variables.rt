@@ -34,6 +34,9 @@ fn occurs_in(term: &Term, id: VarId, sort: Sort) -> bool
 {
     let mut rest = term;
     'rest: loop {
+        if !rest.may_have(id) {
+            return false;
+        }
         match rest.shape() {
             Shape::Tag(_) => return false,
             Shape::Variable(other, other_sort) => return is_variable(other, other_sort, id, sort),

@@ -24,7 +24,7 @@ pub struct Role {
     is_small: bool,
 }
 
-// Its holder drops it by one call, so that less is to be proved about the holder.
+// A value drops by one call of its own, wherever it is held.
 impl Drop for Role {
     fn drop(self) {
         let Role {
@@ -39,7 +39,7 @@ impl Drop for Role {
     }
 }
 
-/// The messages of a small role have fewer parts than this.
+/// The messages of a small role have fewer parts than this, and it has fewer assumptions of each kind.
 const PARTS: usize = 64;
 
 /// What remains of so many parts without those of a message, at least 0. The key of an encryption is not counted.
@@ -119,7 +119,10 @@ impl Role {
           uniquely_originating = uniquely_originating.items;
         } }
     {
-        let is_small = are_small(&trace);
+        let is_small = are_small(&trace)
+            && non_originating.len() < PARTS
+            && penetrator_non_originating.len() < PARTS
+            && uniquely_originating.len() < PARTS;
         Role {
             name,
             variables,
@@ -138,7 +141,8 @@ impl Role {
         let _ = &self.variables;
     }
 
-    /// Whether the messages of its events together have few parts, so that strands may keep its events.
+    /// Whether its messages together have few parts and its assumptions are few, so that strands may keep what these
+    /// become.
     pub(crate) fn is_small(&self) -> bool {
         self.is_small
     }

@@ -22,7 +22,7 @@ pub fn has<T: Same>(items: &[T], item: &T) -> bool
 }
 
 /// Whether the lists have the same items.
-pub(crate) fn are_same<T: Same>(a: &[T], b: &[T]) -> bool
+pub fn are_same<T: Same>(a: &[T], b: &[T]) -> bool
     ensures { IsTrue result ↔ (a.now ≡ b.now) }
 {
     if a.len() != b.len() {

@@ -1,11 +1,13 @@
 // Strands of skeletons, as handles that copies share.
-ghost use Rattle.std.specs.Prelude.{◌≡◌, IfOk};
-ghost use Rattle.cp_strand.specs.Bodies.{strand_of_body, HasItsEvents};
-ghost use Rattle.cp_model.specs.Skeleton.{listener};
+ghost use Rattle.std.specs.Prelude.{◌≡◌, IfOk, IfSome};
+ghost use Rattle.cp_strand.specs.Bodies.{strand_of_body, HoldsItsOwn};
+ghost use Rattle.cp_strand.specs.Givens.{IsGivenBy};
+ghost use Rattle.cp_model.specs.Skeleton.{listener, skeleton_trace};
 ghost use Rattle.cp_strand.specs.Shapes.{strand_of_shape};
 ghost use Rattle.cp_strand.specs.View.{instance_view};
 
-use crate::events::held_events;
+use crate::events::instance_events;
+use crate::given::{Given, given_to};
 use crate::protocol::{Event, Role};
 use cp_term::Term;
 use std::alloc::{AllocError, Global};
@@ -66,11 +68,24 @@ impl Instance {
     }
 }
 
-/// What a strand is: an instance of a role, with its events if they are kept; or a listener, which receives a message
-/// and sends it on.
+/// What a strand keeps of an instance, so that it need not be made each time: its events, and what its role gives it.
+pub(crate) struct Held {
+    pub(crate) events: Vec<Event>,
+    pub(crate) given: Given,
+}
+
+// A value drops by one call of its own, wherever it is held.
+impl Drop for Held {
+    fn drop(self) {
+        let Held { events, given } = self;
+    }
+}
+
+/// What a strand is: an instance of a role, with what is kept of it, if anything is; or a listener, which receives a
+/// message and sends it on.
 #[derive(Drop)]
 pub(crate) enum Body {
-    Instance(Instance, Option<Vec<Event>>),
+    Instance(Instance, Option<Held>),
     Listener(Term),
 }
 
@@ -92,9 +107,9 @@ impl Model for Strand {
 
     ghost view = { λ s. strand_of_body s.body.value };
 
-    ghost use Rattle.cp_strand.specs.Bodies.{HasItsEvents};
+    ghost use Rattle.cp_strand.specs.Bodies.{HoldsItsOwn};
 
-    ghost invariant = { λ s. HasItsEvents s.body.value };
+    ghost invariant = { λ s. HoldsItsOwn s.body.value };
 }
 
 /// What a strand is: an instance of a role, or a listener, given by the term of its message.
@@ -102,6 +117,20 @@ impl Model for Strand {
 pub enum StrandShape<'a> {
     Instance(&'a Instance),
     Listener(&'a Term),
+}
+
+/// What a strand keeps of an instance: nothing unless its role is small, since what is kept of many strands could take
+/// much memory.
+fn held_of(alloc: Global, instance: &Instance) -> Result<Option<Held>, AllocError>
+    ensures { IfOk result (λ held. IfSome held (λ h. (h.events.items ≡ skeleton_trace (instance_view instance.now))
+        × IsGivenBy (instance_view instance.now) h.given)) }
+{
+    if !instance.role().is_small() {
+        return Ok(None);
+    }
+    let events = instance_events(alloc, instance)?;
+    let given = given_to(alloc, instance)?;
+    Ok(Some(Held { events, given }))
 }
 
 impl Strand {
@@ -113,13 +142,13 @@ impl Strand {
         Ok(Strand { body })
     }
 
-    /// The strand that is this instance. If its role is small, the strand keeps its events, so that they need not be
-    /// made each time. Meant for strands that a search adds, and for what they become.
+    /// The strand that is this instance. If its role is small, the strand keeps its events and what its role gives it,
+    /// so that they need not be made each time. Meant for strands that a search adds, and for what they become.
     pub fn with_events(alloc: Global, instance: Instance) -> Result<Strand, AllocError>
         ensures { IfOk result (λ s. s ≡ instance_view instance) }
     {
-        let events = held_events(alloc, &instance)?;
-        let body = Rc::new(alloc, Body::Instance(instance, events))?;
+        let held = held_of(alloc, &instance)?;
+        let body = Rc::new(alloc, Body::Instance(instance, held))?;
         Ok(Strand { body })
     }
 
@@ -141,10 +170,10 @@ impl Strand {
         }
     }
 
-    /// What the strand is, with the events that it keeps.
+    /// What the strand is, with what it keeps.
     pub(crate) fn body(&self) -> &Body
         ensures view { strand_of_body result.now ≡ self.now }
-        ensures events { HasItsEvents result.now }
+        ensures held { HoldsItsOwn result.now }
     {
         &self.body
     }

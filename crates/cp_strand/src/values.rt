@@ -50,4 +50,8 @@ impl Valuation for ByNumber<'_> {
     fn term_for(&self, sort: Sort, variable: VarId) -> Option<&Term> {
         value_of(self.terms, sort, variable)
     }
+
+    fn least(&self) -> usize {
+        0
+    }
 }

@@ -6,4 +6,5 @@ pub mod LocalVariables
 pub mod PositionLaws
 pub mod SameTerms
 pub mod Spinewise
-pub mod TableEntries
+pub mod TablePlaces
+pub mod Tops

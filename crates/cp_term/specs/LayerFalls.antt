@@ -7,7 +7,7 @@ use Rattle.cp_term.specs.declared.term.Node.{Node}
 use Rattle.cp_term.specs.declared.term.Node.TheVariants.{Tag, TextVariable, DatumVariable, NameVariable, SkeyVariable, AkeyVariable, Ltk, Pubk, Pair, Encryption}
 use Rattle.cp_term.specs.declared.term.Term.TheDeep.{deep-Node}
 
-pub node_falls : (n : Node) → IsWellSorted n → max (deep-Node n) 0 ≤ term_size (term_of_node n)
+pub node_falls : (n : Node) → IsWellSorted n → max (max (deep-Node n) 0) 0 ≤ term_size (term_of_node n)
 node_falls (Tag text) h = omega arith
 node_falls (TextVariable n) h = omega arith
 node_falls (DatumVariable n) h = omega arith

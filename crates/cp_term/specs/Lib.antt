@@ -1,9 +1,11 @@
 pub mod Code
 pub mod Entries
+pub mod Hashed
 pub mod Keys
 pub mod Layer
 pub mod LayerFalls
 pub mod Leaves
+pub mod Numbers
 pub mod Preorder
 pub mod Shapes
 pub mod Size

@@ -1,7 +1,7 @@
--- The variable of a sort and number as a term, and its value.
-use Rattle.std.specs.Prelude.{ℕ}
+-- The variable of a sort and number as a term, its value, and which variables a substitution changes.
+use Rattle.std.specs.Prelude.{◌≡◌, ◌<◌, ℕ}
 use Rattle.cp_model.specs.Message.{Message, atom, text, datum, name, key, symmetric, asymmetric}
-use Rattle.cp_model.specs.Term.{Term, variable_term, Assignment}
+use Rattle.cp_model.specs.Term.{Term, variable_term, Assignment, Substitution, apply_to}
 use Rattle.cp_model.specs.declared.sort.Sort.{Sort}
 use Rattle.cp_model.specs.declared.sort.Sort.TheVariants.{Text, Datum, Name, Skey, Akey}
 
@@ -16,3 +16,7 @@ value_of_variable g Datum n = atom (datum (g.datums n))
 value_of_variable g Name n = atom (name (g.names n))
 value_of_variable g Skey n = atom (key (symmetric (g.skeys n)))
 value_of_variable g Akey n = atom (key (asymmetric (g.akeys n).0 (g.akeys n).1))
+
+-- The substitution changes no variable whose number is below this one.
+abbrev pub KeepsBelow : ℕ → Substitution → Type 0
+KeepsBelow least s = (sort : Sort) (n : ℕ) → n < least → apply_to s (variable_of_sort sort n) ≡ variable_of_sort sort n

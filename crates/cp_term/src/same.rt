@@ -31,6 +31,9 @@ impl Term {
     pub fn same(&self, other: &Term) -> bool
         ensures { IsTrue result ↔ (self.now ≡ other.now) }
     {
+        if self.number() != other.number() {
+            return false;
+        }
         let mut a = self;
         let mut b = other;
         loop {

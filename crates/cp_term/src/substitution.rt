@@ -1,10 +1,10 @@
 // Terms under substitutions. Unchanged parts are shared.
-ghost use Rattle.std.specs.Prelude.{◌≡◌, unwrap_or, MatchOption, IfOk};
+ghost use Rattle.std.specs.Prelude.{◌≡◌, unwrap_or, MatchOption, IfOk, IsTrue};
 ghost use Rattle.std.specs.Option.{option_map};
 ghost use Rattle.cp_model.specs.Term.{Term as Plain, Substitution, KeyTerm, ltk_term, pubk_term, symmetric_term, asymmetric_term, pair_term, enc_term, apply_to};
 ghost use Rattle.cp_term.specs.Keys.{key_as_term, IsKey};
 ghost use Rattle.cp_term.specs.Spines.{tail_of, HasTail};
-ghost use Rattle.cp_term.specs.Variables.{variable_of_sort};
+ghost use Rattle.cp_term.specs.Variables.{variable_of_sort, KeepsBelow};
 
 use crate::makers::{enc, invert, key_of_name, pair};
 use crate::shape::Shape;
@@ -23,6 +23,18 @@ pub trait Valuation {
         ensures { MatchOption result
             (apply_to (substitution self.now) (variable_of_sort sort variable) ≡ variable_of_sort sort variable)
             (λ t. apply_to (substitution self.now) (variable_of_sort sort variable) ≡ t.now) };
+
+    /// A number such that no variable with a lower one changes; 0 is always one.
+    fn least(&self) -> usize
+        ensures { KeepsBelow result (substitution self.now) };
+}
+
+/// Fast test: true only if the substitution leaves the term as it is. The numbers of its variables alone tell.
+#[tactic(auto, using(crate::proofs::Tops::kept))]
+pub fn keeps<V: Valuation>(values: &V, term: &Term) -> bool
+    ensures { IsTrue result → apply_to (V.substitution values.now) term.now ≡ term.now }
+{
+    term.top() < values.least()
 }
 
 /// The name that replaces a name.
@@ -75,15 +87,18 @@ fn pubk_under<V: Valuation>(
     key_of_name(alloc, flag, purpose, b).map(Some)
 }
 
-/// A new tag or term of an atom sort, or `None` if it does not change.
+/// A new term of an atom sort, or `None` if it does not change, as other terms must.
 fn leaf_under<V: Valuation>(
     alloc: Global,
     values: &V,
     leaf: &Term,
 ) -> Result<Option<Term>, AllocError>
-    requires { ¬ HasTail leaf.now }
+    requires { HasTail leaf.now → apply_to (V.substitution values.now) leaf.now ≡ leaf.now }
     ensures { IfOk result (λ changed. unwrap_or changed leaf.now ≡ apply_to (V.substitution values.now) leaf.now) }
 {
+    if keeps(values, leaf) {
+        return Ok(None);
+    }
     match leaf.shape() {
         Shape::Variable(variable, sort) => match values.term_for(sort, variable) {
             Some(term) => term.copy().map(Some),
@@ -198,7 +213,7 @@ fn under<V: Valuation>(alloc: Global, values: &V, term: &Term) -> Result<Option<
 {
     let mut spine: Vec<&Term> = Vec::new(alloc);
     let mut rest = term;
-    loop {
+    while !keeps(values, rest) {
         match rest.shape() {
             Shape::Pair(_, right) => {
                 spine.push(rest)?;

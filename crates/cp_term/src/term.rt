@@ -1,7 +1,12 @@
 // Terms, as handles to shared nodes.
-ghost use Rattle.std.specs.Prelude.{◌≡◌, IfOk};
+ghost use Rattle.std.specs.Prelude.{◌≡◌, IfOk, IsTrue};
+ghost use Rattle.cp_lists.specs.Lists.{IsIn};
+ghost use Rattle.cp_model.specs.Term.{variables_of};
+ghost use Rattle.cp_model.specs.declared.variable.Variable.{Variable};
 ghost use Rattle.cp_term.specs.Layer.{term_of_node, IsWellSorted};
+ghost use Rattle.cp_term.specs.Numbers.{number_of_term, top_of_term};
 
+use crate::number::{mixed, mixed_bytes};
 use crate::variable::VarId;
 use cp_base::Text;
 use std::alloc::{AllocError, Global};
@@ -11,7 +16,17 @@ use std::rc::Rc;
 /// A term: a handle to a node that other terms may share. Contracts see it as plain data.
 #[cycle(term)]
 pub struct Term {
-    node: Rc<Node>,
+    node: Rc<Shared>,
+}
+
+/// A node and two numbers that are made of its term: one by which most different terms are told apart at once, and the greatest
+/// number of its variables.
+#[cycle(term)]
+#[derive(Drop)]
+struct Shared {
+    node: Node,
+    number: usize,
+    top: usize,
 }
 
 /// One node of a term. The flag of an asymmetric key says whether it is an inverse; the inverse of a name's key is its
@@ -42,9 +57,14 @@ impl Model for Term {
 
     ghost use Rattle.cp_term.specs.Layer.{term_of_node, IsWellSorted};
 
-    ghost view = { λ t. term_of_node t.node.value };
+    ghost view = { λ t. term_of_node t.node.value.node };
 
-    ghost invariant = { λ t. IsWellSorted t.node.value };
+    ghost use Rattle.std.specs.Prelude.{◌≡◌};
+    ghost use Rattle.cp_term.specs.Numbers.{number_of_term, top_of_term};
+
+    ghost invariant = { λ t. IsWellSorted t.node.value.node
+        × (t.node.value.number ≡ number_of_term (term_of_node t.node.value.node))
+        × (t.node.value.top ≡ top_of_term (term_of_node t.node.value.node)) };
 
     ghost use Rattle.cp_term.specs.Size.{term_size};
 
@@ -52,7 +72,7 @@ impl Model for Term {
 
     ghost use Rattle.cp_term.specs.LayerFalls.{node_falls};
 
-    ghost size_decreases = { λ t h. node_falls t.node.value h };
+    ghost size_decreases = { λ t h. node_falls t.node.value.node h.0 };
 }
 
 // A loop along right parts and plaintexts, so that a long chain needs no deep stack.
@@ -62,11 +82,23 @@ impl Drop for Term {
         loop {
             let Term { node } = self;
             match Rc::into_inner(node) {
-                Some(Node::Pair(left, right)) => {
+                Some(
+                    Shared {
+                        node: Node::Pair(left, right),
+                        number: _,
+                        top: _,
+                    },
+                ) => {
                     drop(left);
                     self = right;
                 }
-                Some(Node::Encryption(body, key)) => {
+                Some(
+                    Shared {
+                        node: Node::Encryption(body, key),
+                        number: _,
+                        top: _,
+                    },
+                ) => {
                     drop(key);
                     self = body;
                 }
@@ -76,13 +108,55 @@ impl Drop for Term {
     }
 }
 
+/// The number of a node's term, mixed from its kind, the numbers of its variables and those of its parts.
+fn number_of(node: &Node) -> usize
+    requires { IsWellSorted node.now }
+    ensures { result ≡ number_of_term (term_of_node node.now) }
+{
+    match node {
+        Node::Tag(text) => mixed_bytes(1, text.as_bytes()),
+        Node::TextVariable(id) => mixed(2, id.number()),
+        Node::DatumVariable(id) => mixed(3, id.number()),
+        Node::NameVariable(id) => mixed(4, id.number()),
+        Node::SkeyVariable(id) => mixed(5, id.number()),
+        Node::Ltk(a, b) => mixed(mixed(6, a.number()), b.number()),
+        Node::AkeyVariable(false, id) => mixed(7, id.number()),
+        Node::AkeyVariable(true, id) => mixed(8, id.number()),
+        Node::Pubk(false, _, id) => mixed(9, id.number()),
+        Node::Pubk(true, _, id) => mixed(10, id.number()),
+        Node::Pair(left, right) => mixed(mixed(11, left.number()), right.number()),
+        Node::Encryption(body, key) => mixed(mixed(12, body.number()), key.number()),
+    }
+}
+
+/// The greatest number of a variable of a node's term.
+fn top_of(node: &Node) -> usize
+    requires { IsWellSorted node.now }
+    ensures { result ≡ top_of_term (term_of_node node.now) }
+{
+    match node {
+        Node::Tag(_) => 0,
+        Node::TextVariable(id)
+        | Node::DatumVariable(id)
+        | Node::NameVariable(id)
+        | Node::SkeyVariable(id)
+        | Node::AkeyVariable(_, id)
+        | Node::Pubk(_, _, id) => id.number(),
+        Node::Ltk(a, b) => a.number().max(b.number()),
+        Node::Pair(left, right) => left.top().max(right.top()),
+        Node::Encryption(body, key) => body.top().max(key.top()),
+    }
+}
+
 impl Term {
     /// A term of one new node.
     pub(crate) fn made(alloc: Global, node: Node) -> Result<Term, AllocError>
         requires { IsWellSorted node }
         ensures { IfOk result (λ t. t ≡ term_of_node node) }
     {
-        let node = Rc::new(alloc, node)?;
+        let number = number_of(&node);
+        let top = top_of(&node);
+        let node = Rc::new(alloc, Shared { node, number, top })?;
         Ok(Term { node })
     }
 
@@ -91,7 +165,29 @@ impl Term {
         ensures view { term_of_node result.now ≡ self.now }
         ensures sorted { IsWellSorted result.now }
     {
-        &self.node
+        &self.node.node
+    }
+
+    /// A number by which most different terms are told apart.
+    pub(crate) fn number(&self) -> usize
+        ensures { result ≡ number_of_term self.now }
+    {
+        self.node.number
+    }
+
+    /// The greatest number of a variable of the term; 0 if it has none.
+    pub(crate) fn top(&self) -> usize
+        ensures { result ≡ top_of_term self.now }
+    {
+        self.node.top
+    }
+
+    /// Fast test: false only if no variable with this number occurs in the term.
+    #[tactic(auto, using(crate::proofs::Tops::in_term))]
+    pub fn may_have(&self, variable: VarId) -> bool
+        ensures { (x : Variable) → x.number ≡ variable → IsIn x (variables_of self.now) → IsTrue result }
+    {
+        variable.number() <= self.top()
     }
 
     /// Another handle to the same term.
@@ -100,5 +196,13 @@ impl Term {
     {
         let node = self.node.clone()?;
         Ok(Term { node })
+    }
+}
+
+impl Clone for Term {
+    ghost is_clone = { λ s t. t ≡ s };
+
+    fn clone(&self) -> Result<Term, AllocError> {
+        self.copy()
     }
 }

@@ -1,6 +1,6 @@
 // Variables: their numbers, and the table in which they are declared, with their sorts.
-ghost use Rattle.std.specs.Prelude.{◌≡◌, ◌<◌, ◌++◌, [], ◌∷◌, length, map, slice_get, Some, IfOk, OnOk, OnErr};
-ghost use Rattle.cp_term.specs.Entries.{declared_by};
+ghost use Rattle.std.specs.Prelude.{◌≡◌, ◌<◌, ◌^◌, ◌++◌, [], ◌∷◌, length, map, slice_get, Some, IfOk, OnOk, OnErr};
+ghost use Rattle.cp_term.specs.Entries.{declared_by, shared_entries};
 ghost use Rattle.cp_model.specs.Data.{roots, sorts};
 
 use cp_base::Text;
@@ -48,33 +48,57 @@ struct Entry {
     sort: Sort,
 }
 
-fn copy_entries(alloc: Global, entries: &[Entry]) -> Result<Vec<Entry>, AllocError>
-    ensures { IfOk result (λ v. map declared_by v.items ≡ map declared_by entries.now) }
+/// Appends copies of these entries. They share the identifiers. On an error some may have been added.
+fn push_copies(copies: &mut Vec<Entry>, entries: &[Entry]) -> Result<(), AllocError>
+    ensures { OnOk result (map declared_by copies.new.items ≡ map declared_by copies.old.items ++ map declared_by entries.now) }
 {
-    let mut copies = Vec::new(alloc);
     for entry in entries {
         let root = entry.root.clone()?;
         let sort = entry.sort;
         copies.push(Entry { root, sort })?;
     }
-    Ok(copies)
+    Ok(())
 }
 
-/// The variables that were made so far, in the order in which they were made.
+/// The entries that a table shares with its copies.
+fn entries_of(shared: &Option<Rc<Vec<Entry>>>) -> &[Entry]
+    ensures entries { result.now ≡ shared_entries shared.now }
+    ensures few { length result.now < 2 ^ 63 }
+{
+    match shared {
+        Some(entries) => entries.as_slice(),
+        None => &[],
+    }
+}
+
+/// Another handle to the entries that a table shares with its copies.
+fn another_handle(shared: &Option<Rc<Vec<Entry>>>) -> Result<Option<Rc<Vec<Entry>>>, AllocError>
+    ensures { IfOk result (λ copy. shared_entries copy ≡ shared_entries shared.now) }
+{
+    match shared {
+        Some(entries) => entries.clone().map(Some),
+        None => Ok(None),
+    }
+}
+
+/// The variables that were made so far, in the order in which they were made: those that copies share, then those that
+/// were made since.
 #[derive(Drop)]
 pub struct VarTable {
-    entries: Vec<Entry>,
+    shared: Option<Rc<Vec<Entry>>>,
+    own: Vec<Entry>,
 }
 
 impl Model for VarTable {
-    ghost use Rattle.std.specs.Prelude.{List, map};
+    ghost use Rattle.std.specs.Prelude.{List};
     ghost use Rattle.cp_model.specs.declared.variable.Declaration.{Declaration};
 
     ghost Value = { List Declaration };
 
-    ghost use Rattle.cp_term.specs.Entries.{declared_by};
+    ghost use Rattle.std.specs.Prelude.{◌++◌, map};
+    ghost use Rattle.cp_term.specs.Entries.{declared_by, shared_entries};
 
-    ghost view = { λ t. map declared_by t.entries.items };
+    ghost view = { λ t. map declared_by (shared_entries t.shared) ++ map declared_by t.own.items };
 }
 
 impl VarTable {
@@ -83,7 +107,8 @@ impl VarTable {
         ensures { result ≡ [] }
     {
         VarTable {
-            entries: Vec::new(alloc),
+            shared: None,
+            own: Vec::new(alloc),
         }
     }
 
@@ -91,7 +116,7 @@ impl VarTable {
     pub fn len(&self) -> usize
         ensures { result ≡ length self.now }
     {
-        self.entries.len()
+        entries_of(&self.shared).len() + self.own.len()
     }
 
     /// Makes a variable of this sort, later than all others, that is named after this identifier. On an error the table
@@ -101,20 +126,50 @@ impl VarTable {
         ensures added { OnOk result (self.new ≡ self.old ++ record { identifier = root.now; sort = sort } ∷ []) }
         ensures unchanged { OnErr result (self.new ≡ self.old) }
     {
-        let number = self.entries.len();
-        let alloc = *self.entries.allocator();
+        let number = self.len();
+        let alloc = *self.own.allocator();
         let text = Text::new(alloc, root)?;
         let root = Rc::new(alloc, text)?;
-        self.entries.push(Entry { root, sort })?;
+        self.own.push(Entry { root, sort })?;
         Ok(VarId { number })
     }
 
-    /// The same variables. The two tables share the identifiers.
+    /// Its variables, all shared.
+    fn all_shared(&self, alloc: Global) -> Result<Option<Rc<Vec<Entry>>>, AllocError>
+        ensures { IfOk result (λ shared. map declared_by (shared_entries shared) ≡ self.now) }
+    {
+        if self.own.is_empty() {
+            return another_handle(&self.shared);
+        }
+        let mut entries = Vec::new(alloc);
+        push_copies(&mut entries, entries_of(&self.shared))?;
+        push_copies(&mut entries, &self.own)?;
+        let shared = Rc::new(alloc, entries)?;
+        Ok(Some(shared))
+    }
+
+    /// The same variables. If none was made since this table is a copy itself, the two share all entries; otherwise they
+    /// share the identifiers.
     pub fn copy(&self) -> Result<VarTable, AllocError>
         ensures { IfOk result (λ t. t ≡ self.now) }
     {
-        let entries = copy_entries(*self.entries.allocator(), &self.entries)?;
-        Ok(VarTable { entries })
+        let alloc = *self.own.allocator();
+        let shared = self.all_shared(alloc)?;
+        let own = Vec::new(alloc);
+        Ok(VarTable { shared, own })
+    }
+
+    /// The entry of a variable.
+    fn entry(&self, id: VarId) -> &Entry
+        requires { id < length self.now }
+        ensures { slice_get self.now id ≡ Some (declared_by result.now) }
+    {
+        let shared = entries_of(&self.shared);
+        if id.number < shared.len() {
+            &shared[id.number]
+        } else {
+            &self.own[id.number - shared.len()]
+        }
     }
 
     /// The identifier that the variable is named after.
@@ -122,8 +177,7 @@ impl VarTable {
         requires { id < length self.now }
         ensures { slice_get (roots self.now) id ≡ Some result.now }
     {
-        let entry = &self.entries[id.number];
-        entry.root.as_str()
+        self.entry(id).root.as_str()
     }
 
     /// The sort of the variable.
@@ -131,7 +185,6 @@ impl VarTable {
         requires { id < length self.now }
         ensures { slice_get (sorts self.now) id ≡ Some result }
     {
-        let entry = &self.entries[id.number];
-        entry.sort
+        self.entry(id).sort
     }
 }

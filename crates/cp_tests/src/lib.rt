@@ -14,6 +14,8 @@ mod orders;
 #[cfg(test)]
 mod sources_and_sinks;
 #[cfg(test)]
+mod tables;
+#[cfg(test)]
 mod terms;
 #[cfg(test)]
 mod unifiers;

@@ -14,7 +14,11 @@ use Rattle.cp_shapes.specs.Shapes.{IsLeast}
 use Rattle.cp_expansion.specs.Expansion.{Expansion, IsExpansionOf}
 use Rattle.cp_general.specs.Generalisation.{IsMaximallyGeneral, GeneralisesTo}
 use Rattle.cp_tree.specs.Resolves.{leaf, expanded, generalised}
-use Rattle.cp_tree.specs.Made.{Made, made_of_child, made_of_generalisation, LabelLink, MayPointTo, IsNew}
+use Rattle.cp_tree.specs.Made.{Made, made_of_child, made_of_generalisation, LabelLink, MayPointTo}
+
+-- There is no label to which label m may point.
+abbrev pub IsNew : List LabelLink → ℕ → Type 0
+IsNew links m = (n : ℕ) → MayPointTo links m n → ⊥
 
 -- What becomes of label i, which was made so when `before` of the labels in front of it had been expanded, and which labels are
 -- then made from it. One that is dead from the start stays so, and no unrealised receptions are listed of it. Any other is seen in

@@ -30,10 +30,11 @@ use Rattle.cp_escape.specs.Escape.{IsFirstWith, in_front, further, IsEscape}
 use Rattle.cp_expansion.specs.ChosenTest.{IsTestOf, last_listener}
 use Rattle.cp_expansion.specs.Expansion.{IsWidening, Expansion, IsExpansionOf, none_widens}
 use Rattle.cp_tree.specs.Candidates.{IsCandidate, Candidate}
-use Rattle.cp_tree.specs.Made.{Made, made_of_root, made_of_child, LabelLink, link_of, IsNew}
+use Rattle.cp_tree.specs.Made.{Made, made_of_root, made_of_child, LabelLink, link_of}
 use Rattle.cp_tree.specs.Searched.{all_settled, then_settled, IsMarkedAmong, as_shape, IsMarked, none_at_limit, IsTreeFrom}
 use Rattle.cp_tree.specs.Resolves.{Resolves}
 use Rattle.cp_tree.specs.Example.{heard_root, heard_test, heard_label, sent_label, heard_tree, one_step_limits}
+use Rattle.cp_tree.proofs.Cases.{IsNew}
 use Rattle.cp_tree.proofs.MarksSay.{not_both}
 use Rattle.cp_tree.proofs.ExampleGeneral.{sent_is_most_general}
 

@@ -61,7 +61,3 @@ pub record MayPointTo (links : List LabelLink) (m n : ℕ) : Type 0 where
   pub embeds : EmbedsAt (map (λ w. w.skeleton) links) n m
   pub embeds_back : EmbedsAt (map (λ w. w.skeleton) links) m n
   pub no_return : (w : LabelLink) (p : ℕ) → item_at links m ≡ Some w → w.parent ≡ Some p → Reaches (take m links) n p → ⊥
-
--- There is no label to which label m may point.
-abbrev pub IsNew : List LabelLink → ℕ → Type 0
-IsNew links m = (n : ℕ) → MayPointTo links m n → ⊥

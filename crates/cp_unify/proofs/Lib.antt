@@ -7,6 +7,7 @@ pub mod Found
 pub mod VariablesUnder
 pub mod VariableTests
 pub mod Steps
+pub mod LeastBound
 pub mod Looked
 pub mod Composed
 pub mod DifferenceSteps

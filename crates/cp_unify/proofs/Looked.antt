@@ -48,7 +48,7 @@ pub found_exactly : (bs : List Binding) (i : ℕ) (b : Binding) (v : Term) → I
 found_exactly bs i b v so_far below read here =
     so_far.exact ∙ ap (λ (cs : List Binding). bound_term cs v) (drop_read bs i b below read) ∙ term_here b (drop (i + 1) bs) v here
 
-not_here : {n : ℕ} (b : Binding) (bs : List Binding) (v : Term) → IsVariableTerm n v → (v ≡ variable_term b.variable → ⊥) →
+pub not_here : {n : ℕ} (b : Binding) (bs : List Binding) (v : Term) → IsVariableTerm n v → (v ≡ variable_term b.variable → ⊥) →
     apply_to (as_substitution (b ∷ bs)) v ≡ apply_to (as_substitution bs) v
 not_here b bs v is apart =
     ap (apply_to (as_substitution (b ∷ bs))) is.is_variable
@@ -95,7 +95,7 @@ term_number (enc_term a k) = 0
 number_of_term : (s : Sort) (n : ℕ) → term_number (variable_of_sort s n) ≡ n
 number_of_term s n = elim s as (λ k. term_number (variable_of_sort k n) ≡ n) [ text_sort ↦ refl | datum_sort ↦ refl | name_sort ↦ refl | skey_sort ↦ refl | akey_sort ↦ refl ]
 
-other_number : (s : Sort) (n : ℕ) (b : Binding) → (b.variable.number ≡ n → ⊥) → variable_of_sort s n ≡ variable_term b.variable → ⊥
+pub other_number : (s : Sort) (n : ℕ) (b : Binding) → (b.variable.number ≡ n → ⊥) → variable_of_sort s n ≡ variable_term b.variable → ⊥
 other_number s n b apart e =
     apart (sym (number_of_term b.variable.sort b.variable.number) ∙ sym (ap term_number e) ∙ number_of_term s n)
 

@@ -1,5 +1,5 @@
 -- Bindings of variables to terms: that they are of a sort, what assignments meet them, and their variables.
-use Rattle.std.specs.Prelude.{◌≡◌, true, List, [], ◌∷◌, ◌++◌}
+use Rattle.std.specs.Prelude.{◌≡◌, ◌≤◌, ℕ, true, List, [], ◌∷◌, ◌++◌}
 use Rattle.cp_model.specs.Term.{variable_term, variables_of, Assignment, value_of}
 use Rattle.cp_model.specs.declared.variable.Variable.{Variable}
 use Rattle.cp_term.specs.Sorts.{is_of_sort}
@@ -23,3 +23,8 @@ Meets g (b ∷ bs) = MeetsBinding g b × Meets g bs
 abbrev pub variables_of_bindings : List Binding → List Variable
 variables_of_bindings [] = []
 variables_of_bindings (b ∷ bs) = b.variable ∷ (variables_of b.term ++ variables_of_bindings bs)
+
+-- All bound variables have at least this number.
+abbrev pub BindNoneBelow : ℕ → List Binding → Type 0
+BindNoneBelow n [] = Unit {0}
+BindNoneBelow n (b ∷ bs) = (n ≤ b.variable.number) × BindNoneBelow n bs

@@ -19,5 +19,5 @@ pub use composition::compose;
 pub use known::known_match;
 pub use matcher::{matching, matching_beside};
 pub use subst::Subst;
-pub use terms_under::apply;
+pub use terms_under::{apply, leaves};
 pub use unification::unify;

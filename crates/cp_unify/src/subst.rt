@@ -1,5 +1,6 @@
 // Substitutions.
 ghost use Rattle.std.specs.Prelude.{◌≡◌, [], ◌∷◌, IfOk, IsTrue};
+ghost use Rattle.cp_unify.specs.Bindings.{BindNoneBelow};
 ghost use Rattle.cp_unify.specs.Places.{IsRestAfter};
 ghost use Rattle.cp_unify.specs.Solved.{IsSolved};
 
@@ -15,15 +16,18 @@ pub struct Subst {
     is_solved: bool,
     /// Where the bindings of each number begin; empty if they are few or if numbers are great.
     places: Vec<usize>,
+    /// No variable with a lower number is bound.
+    least: usize,
 }
 
-// Its holder drops it by one call, so that less is to be proved about the holder.
+// A value drops by one call of its own, wherever it is held.
 impl Drop for Subst {
     fn drop(self) {
         let Subst {
             bindings,
             is_solved,
             places,
+            least: _,
         } = self;
     }
 }
@@ -42,11 +46,23 @@ impl Model for Subst {
     ghost view = { λ s. s.bindings.items };
 
     ghost use Rattle.std.specs.Prelude.{◌≡◌, true};
+    ghost use Rattle.cp_unify.specs.Bindings.{BindNoneBelow};
     ghost use Rattle.cp_unify.specs.Places.{ArePlacesIfAny};
     ghost use Rattle.cp_unify.specs.Solved.{IsSolved};
 
     ghost invariant = { λ s. (s.is_solved ≡ true → IsSolved s.bindings.items)
-        × ArePlacesIfAny s.places.items s.bindings.items };
+        × ArePlacesIfAny s.places.items s.bindings.items × BindNoneBelow s.least s.bindings.items };
+}
+
+/// A number such that no variable with a lower one is bound.
+fn least_bound(bindings: &[Binding]) -> usize
+    ensures { BindNoneBelow result bindings.now }
+{
+    let mut least = usize::MAX;
+    for binding in bindings {
+        least = least.min(binding.variable().number);
+    }
+    least
 }
 
 impl Subst {
@@ -58,6 +74,7 @@ impl Subst {
             bindings: Vec::new(alloc),
             is_solved: true,
             places: Vec::new(alloc),
+            least: usize::MAX,
         }
     }
 
@@ -65,12 +82,14 @@ impl Subst {
     pub(crate) fn of(alloc: Global, binding: Binding) -> Result<Subst, AllocError>
         ensures { IfOk result (λ s. s ≡ binding ∷ []) }
     {
+        let least = binding.variable().number;
         let mut bindings = Vec::new(alloc);
         bindings.push(binding)?;
         Ok(Subst {
             bindings,
             is_solved: false,
             places: Vec::new(alloc),
+            least,
         })
     }
 
@@ -81,11 +100,21 @@ impl Subst {
         self.bindings.as_slice()
     }
 
+    /// A number such that no variable with a lower one is bound.
+    pub(crate) fn least_bound(&self) -> usize
+        ensures { BindNoneBelow result self.now }
+    {
+        self.least
+    }
+
     /// The bindings from the first with this number on, or from an earlier one on.
     pub(crate) fn from_number(&self, number: usize) -> &[Binding]
         ensures { IsRestAfter number result.now self.now }
     {
         let bindings = self.bindings.as_slice();
+        if number < self.least {
+            return &bindings[bindings.len()..];
+        }
         if self.places.is_empty() {
             return bindings;
         }
@@ -105,6 +134,7 @@ impl Subst {
             mut bindings,
             is_solved: _,
             places,
+            least,
         } = self;
         let alloc = *bindings.allocator();
         bindings.insert(0, binding)?;
@@ -113,6 +143,7 @@ impl Subst {
             bindings,
             is_solved: false,
             places,
+            least: least.min(number),
         })
     }
 
@@ -126,6 +157,7 @@ impl Subst {
             bindings,
             is_solved: self.is_solved,
             places,
+            least: self.least,
         })
     }
 
@@ -134,10 +166,12 @@ impl Subst {
         ensures { IfOk result (λ s. s ≡ bindings.items) }
     {
         let places = worthy_places(alloc, &bindings)?;
+        let least = least_bound(&bindings);
         Ok(Subst {
             bindings,
             is_solved: false,
             places,
+            least,
         })
     }
 
@@ -157,11 +191,13 @@ impl Subst {
             bindings,
             is_solved: _,
             places,
+            least,
         } = self;
         Subst {
             bindings,
             is_solved: true,
             places,
+            least,
         }
     }
 }

@@ -1,5 +1,5 @@
 // Terms under substitutions. Unchanged parts are shared.
-ghost use Rattle.std.specs.Prelude.{◌≡◌, MatchOption, IfOk};
+ghost use Rattle.std.specs.Prelude.{◌≡◌, MatchOption, IfOk, IsTrue};
 ghost use Rattle.std.specs.Option.{option_map};
 ghost use Rattle.cp_model.specs.Term.{Assignment, after, apply_to, value_of};
 ghost use Rattle.cp_term.specs.Variables.{variable_of_sort};
@@ -8,7 +8,7 @@ ghost use Rattle.cp_unify.specs.Matched.{bound_term};
 
 use crate::binding::Binding;
 use crate::subst::Subst;
-use cp_term::{Sort, Term, Valuation, VarId, substituted};
+use cp_term::{Sort, Term, Valuation, VarId, keeps, substituted};
 use std::alloc::{AllocError, Global};
 
 /// The term to which these bindings bind a variable of this sort, by the first binding of it.
@@ -46,6 +46,17 @@ impl Valuation for Subst {
     fn term_for(&self, sort: Sort, variable: VarId) -> Option<&Term> {
         self.bound(sort, variable)
     }
+
+    fn least(&self) -> usize {
+        self.least_bound()
+    }
+}
+
+/// Fast test: true only if the substitution leaves the term as it is.
+pub fn leaves(s: &Subst, term: &Term) -> bool
+    ensures { IsTrue result → apply_to (as_substitution s.now) term.now ≡ term.now }
+{
+    keeps(s, term)
 }
 
 /// The term under a substitution. Unchanged parts are shared.

@@ -3,11 +3,17 @@ use Rattle.std.proofs.lemmas.Result.{IfOk-weaker}
 use Rattle.cp_model.specs.Strand.{Role}
 use Rattle.cp_unify.specs.Bindings.{as_substitution}
 use Rattle.cp_strand.specs.Shapes.{strand_of_shape}
-use Rattle.cp_collapse.proofs.Values.{declared_is}
+use Rattle.cp_collapse.proofs.Values.{declared_is, left_is}
 use Rattle.cp_collapse.proofs.substituted.strand_under.Goals as goal
+
+pub returns-then-leaves_declared : goal.returns-then-leaves_declared
+returns-then-leaves_declared c =
+    IfOk-weaker c.copy.result _ _
+    (λ t h. h ∙ left_is (as_substitution c.args.s.now) c.in-Instance.instance.now c.args.strand.now c.values-terms.result.now c.variables-declarations.result.now (ap strand_of_shape (sym c.in-Instance.is) ∙ c.shape.ensures) c.values-terms.ensures (c.variables-declarations.ensures ∙ ap (λ (r : Role). r.variables) (c.deref.ensures ∙ c.role.ensures)) (c.leaves_declared.ensures c.if-leaves_declared.true))
+    c.copy.ensures
 
 pub returns-in_ok-values-in-Instance : goal.returns-in_ok-values-in-Instance
 returns-in_ok-values-in-Instance c =
     IfOk-weaker c.with_values.result _ _
-    (λ t h. h ∙ declared_is (as_substitution c.args.s.now) c.in-Instance.instance.now c.args.strand.now _ c.in_ok-values-in-Instance.values.items _ (ap strand_of_shape (sym c.in-Instance.is) ∙ c.shape.ensures) c.values.ensures (c.variables-declarations.ensures ∙ ap (λ (r : Role). r.variables) (c.deref.ensures ∙ c.role.ensures)) c.in_ok-values-in-Instance.ensures)
+    (λ t h. h ∙ declared_is (as_substitution c.args.s.now) c.in-Instance.instance.now c.args.strand.now _ c.in_ok-values-in-Instance.values.items _ (ap strand_of_shape (sym c.in-Instance.is) ∙ c.shape.ensures) c.values-terms.ensures (c.variables-declarations.ensures ∙ ap (λ (r : Role). r.variables) (c.deref.ensures ∙ c.role.ensures)) c.in_ok-values-in-Instance.ensures)
     c.with_values.ensures

@@ -1,10 +1,8 @@
-use Rattle.std.proofs.Common.{◌≡◌, ◌++◌, drop}
-use Rattle.cp_model.specs.Bindings.{bindings_of}
-use Rattle.cp_model.specs.Given.{applying_uniques, uniques_onto}
+use Rattle.std.proofs.Common.{◌≡◌, ◌++◌, map, drop}
+use Rattle.cp_model.specs.Given.{uniques_onto}
+use Rattle.cp_strand.specs.Givens.{unique_on}
 use Rattle.cp_skel.proofs.role_assumptions.missing_uniques.Given as goal
 
-abbrev pub invariant-loop-atom : goal.invariant-loop-atom
-invariant-loop-atom l =
-    uniques_onto (l.old ++ l.more.items)
-    (applying_uniques l.instance.role l.instance.height (bindings_of l.instance.values) l.strand (drop l.atom-index l.stated))
-    ≡ uniques_onto l.old (applying_uniques l.instance.role l.instance.height (bindings_of l.instance.values) l.strand l.stated)
+abbrev pub invariant-loop-unique : goal.invariant-loop-unique
+invariant-loop-unique l =
+    uniques_onto (l.old ++ l.more.items) (map (unique_on l.strand) (drop l.unique-index l.given)) ≡ uniques_onto l.old (map (unique_on l.strand) l.given)

@@ -1,7 +1,11 @@
 use Rattle.std.proofs.Common.{sym, ap, ◌∙◌, arith}
 use Rattle.cp_term.specs.Size.{term_size}
-use Rattle.cp_strand.proofs.Occurrences.{in_left, not_in_left, in_key, not_in_key}
+use Rattle.cp_strand.proofs.Occurrences.{in_left, not_in_left, in_key, not_in_key, absent}
 use Rattle.cp_strand.proofs.prefix_variables.+occurs_in.Goals as goal
+
+pub returns-then-not-may_have : goal.returns-then-not-may_have
+returns-then-not-may_have t c =
+    absent (record { sort = c.args.sort; number = c.args.id }) c.args.term.now c.rest.rest.now c.rest.invariant.0 c.may_have.result c.may_have.ensures c.if-not-may_have.true
 
 pub returns-then-occurs_in : goal.returns-then-occurs_in
 returns-then-occurs_in t c =

@@ -1,7 +1,9 @@
-use Rattle.std.proofs.Common.{ℕ, length, ◌++◌, ◌∷◌, [], ◌∙◌, refl, ap, if◌then◌else◌, subst, arith}
+use Rattle.std.proofs.Common.{ℕ, length, ◌++◌, ◌∷◌, [], ◌∙◌, refl, sym, ap, if◌then◌else◌, subst, arith}
 use Rattle.std.specs.Prelude.{nat_eq, ◌≤◌, Option, IfSome}
 use Rattle.cp_search.specs.LabelsByNumber.{with_key}
+use Rattle.cp_search.specs.IndexedLabels.{AreSpelled}
 use Rattle.cp_search.proofs.LabelsByNumber.{with_one_more}
+use Rattle.cp_search.proofs.SpelledLabels.{spelled_more}
 use Rattle.cp_search.proofs.LinkEdges.{edges_more, parents_within}
 use Rattle.cp_search.proofs.copies.CopyIndex.add.Goals as goal
 
@@ -12,10 +14,12 @@ returns c =
     let all = old ++ c.args.made.now ∷ [] in
     record {
       buckets = λ q.
-          c.in_ok-add_to_bucket.ensures q ∙ ap (λ ns. if nat_eq c.bucket_key.result q then ns ++ n ∷ [] else ns) (c.requires.buckets q)
+          c.in_ok-add_to_bucket.ensures q ∙ ap (λ ns. if nat_eq c.bucket_key.result q then ns ++ n ∷ [] else ns) (c.requires.index.buckets q)
           ∙ ap (λ s. if nat_eq s q then with_key q 0 old ++ n ∷ [] else with_key q 0 old) c.bucket_key.ensures
           ∙ with_one_more q 0 old c.args.made.now n (omega arith);
-      edges = edges_more old c.args.made.now c.args.self.now.edges.items c.add_edge.new.edges.items c.add_edge-2.new.edges.items c.requires.edges c.in_ok-add_edge.ensures c.in_ok-add_edge-2.ensures all refl;
-      parents = parents_within old c.args.self.now.latest_parent c.latest-self.result c.args.made.now c.requires.parents c.latest-self.ensures.kept
+      edges = edges_more old c.args.made.now c.args.self.now.edges.items c.add_edge.new.edges.items c.add_edge-2.new.edges.items c.requires.index.edges c.in_ok-add_edge.ensures c.in_ok-add_edge-2.ensures all refl;
+      parents = parents_within old c.args.self.now.latest_parent c.latest-self.result c.args.made.now c.requires.index.parents c.latest-self.ensures.kept
           (λ p e. subst (λ (o : Option ℕ). IfSome o (λ q. q ≤ c.latest-self.result)) e c.latest-self.ensures.parent) all refl;
+      spelled = subst (AreSpelled c.args.self.now.terms all) (sym c.in_ok-push.ensures.items)
+          (spelled_more c.args.self.now.terms old c.args.self.now.spellings.items c.requires.index.spelled c.args.made.now c.args.spelling c.requires.spelled);
     }

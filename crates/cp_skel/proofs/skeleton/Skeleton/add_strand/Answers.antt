@@ -23,7 +23,7 @@ adds c =
     c.push.new.self.items [] c.len-number.result c.in_ok-instance.ensures.terms c.requires.values
     (c.in_ok-push.ensures.items
     ∙ ap (λ s. strands.items ++ s ∷ []) c.in_ok-strand.ensures)
-    (c.len-number.ensures ∙ strands.ok.0) c.in_ok-more.ensures
+    (c.len-number.ensures ∙ strands.ok.0) (c.in_ok-more.ensures i c.in_ok-strand.ensures)
 
 pub invariant_of-self-2 : goal.invariant_of-self-2
 invariant_of-self-2 c = strand_sound c.args.role.now.value c.args.height c.args.values.now (before c) (behind c) c.requires.height (subst DeclaresItsVariables c.deref.ensures c.is_sound.ensures) c.self.invariant (adds c)

@@ -46,7 +46,7 @@ extends c =
     (c.in_ok-instance.ensures.terms ∙ ap (λ r. made r c.height.result c.args.height c.values.result.now c.args.values.now) c.role.ensures
     ∙ ap (λ h. made old.role h c.args.height c.values.result.now c.args.values.now) c.height.ensures ∙ ap (λ ts. made old.role old.height c.args.height ts c.args.values.now) c.values.ensures)
     (set-there items s c.in_ok-grown.grown below ∙ ap (λ k. Some k) c.in_ok-grown.ensures)
-    (λ t other. set-elsewhere items s c.in_ok-grown.grown t other) c.in_ok-more.ensures
+    (λ t other. set-elsewhere items s c.in_ok-grown.grown t other) (c.in_ok-more.ensures i c.in_ok-grown.ensures)
 
 pub invariant_of-self-2 : goal.invariant_of-self-2
 invariant_of-self-2 c = extended_sound c.args.strand c.args.height c.args.values.now (before c) (grown c) (can_extend c) c.self.invariant (extends c)

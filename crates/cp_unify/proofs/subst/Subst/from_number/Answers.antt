@@ -2,7 +2,13 @@ use Rattle.std.proofs.Common.{sym, subst, ◌∙◌, arith}
 use Rattle.std.proofs.lemmas.Bool.{eqb-false}
 use Rattle.cp_unify.specs.Places.{ArePlaces, IsRestAfter}
 use Rattle.cp_unify.proofs.FirstPlaces.{behind_all, behind_slice, some_places}
+use Rattle.cp_unify.proofs.LeastBound.{none_at_end}
 use Rattle.cp_unify.proofs.subst.Subst.from_number.Goals as goal
+
+pub returns-then-number-self : goal.returns-then-number-self
+returns-then-number-self c =
+    none_at_end c.args.number c.self.inside.least c.as_slice-bindings.result.now c.self.inside.bindings.items c.args.self.now c.self.view_is c.self.invariant.2
+    c.if-number-self.true
 
 pub returns-then-is_empty : goal.returns-then-is_empty
 returns-then-is_empty c =

@@ -1,5 +1,0 @@
-use Rattle.cp_term.proofs.TableEntries.{entry_at}
-use Rattle.cp_term.proofs.variable.VarTable.sort.Goals as goal
-
-pub returns : goal.returns
-returns c = entry_at (λ d. d.sort) _ _ _ _ _ c.self.view_is c.id.view_is c.requires c.index-entry.ensures
