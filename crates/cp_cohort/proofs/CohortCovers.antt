@@ -33,8 +33,7 @@ use Rattle.cp_collapse.proofs.NoNewVariables.{KeepsDeclared}
 use Rattle.cp_model.specs.PrefixVariables.{prefix_variables, added_variables}
 use Rattle.cp_model.specs.Declares.{DeclaresItsVariables}
 use Rattle.cp_model.specs.Extensions.{IsClosedPrefix, AddsStrand, CanExtend, Extends}
-use Rattle.cp_skel.specs.Events.{is_role_strand, events_of}
-use Rattle.cp_skel.specs.declared.events.LocatedEvent.{LocatedEvent}
+use Rattle.cp_skel.specs.Events.{LocatedEvent, is_role_strand, events_of}
 use Rattle.cp_skel.proofs.DeclaredChanges.{more_declared, strand_declared, extended_declared, ordered_declared}
 use Rattle.cp_model.proofs.PrefixVariables.{in-prefix, in-added}
 use Rattle.cp_skel.proofs.StaySkeletons.{strand-stays-skeleton, appended-grows, appended-last, extended-grows, extended-stays-skeleton}

@@ -15,9 +15,8 @@ use Rattle.cp_pattern.specs.Candidates.{may_equal}
 use Rattle.cp_pattern.specs.Unifiers.{UnifiesMostGenerally}
 use Rattle.cp_pattern.proofs.DifferentTerms as differing
 use Rattle.cp_skel.proofs.EventLists.{listed_event}
-use Rattle.cp_skel.specs.Events.{events_of}
+use Rattle.cp_skel.specs.Events.{LocatedEvent, events_of}
 use Rattle.cp_skel.specs.Tables.{HaveTable}
-use Rattle.cp_skel.specs.declared.events.LocatedEvent.{LocatedEvent}
 use Rattle.cp_model.specs.declared.step.Step.{Step}
 use Rattle.cp_model.specs.Positions.{term_at, positions_where}
 use Rattle.cp_cohort.specs.GatheredLists.{EachGives, nothing_given, then_given, AreThoseWith, none_left, taken, left_out}

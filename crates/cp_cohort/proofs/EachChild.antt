@@ -18,9 +18,8 @@ use Rattle.cp_theory.specs.Normal.{skeleton_under}
 use Rattle.cp_collapse.specs.SameSkeletons.{SaysTheSame}
 use Rattle.cp_normal.specs.Exact.{HasForms}
 use Rattle.cp_model.specs.Extensions.{AddsListener}
-use Rattle.cp_skel.specs.Events.{events_of}
+use Rattle.cp_skel.specs.Events.{LocatedEvent, events_of}
 use Rattle.cp_skel.specs.Tables.{HaveTable}
-use Rattle.cp_skel.specs.declared.events.LocatedEvent.{LocatedEvent}
 use Rattle.cp_theory.specs.Covering.{put_before}
 use Rattle.cp_pattern.specs.Unifiers.{UnifiesMostGenerally}
 use Rattle.cp_cohort.specs.Releases.{Release, PartialSolution}

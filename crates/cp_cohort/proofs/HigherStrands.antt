@@ -6,8 +6,7 @@ use Rattle.cp_lists.specs.Lists.{item_at}
 use Rattle.cp_lists.proofs.Members.{drop_read}
 use Rattle.cp_model.specs.Term.{Term, variable_term}
 use Rattle.cp_model.specs.declared.variable.Variable.{Variable}
-use Rattle.cp_model.specs.Strand.{Role, prefix_of, variables_of_trace, variables_of_prefix}
-use Rattle.cp_model.specs.declared.strand.Event.{Event}
+use Rattle.cp_model.specs.Strand.{Role, variables_of_prefix}
 use Rattle.cp_model.specs.declared.variable.Declaration.{Declaration}
 use Rattle.cp_model.specs.PrefixVariables.{declared_variables, is_added, added_variables}
 use Rattle.cp_model.specs.Skeleton.{Skeleton}
@@ -106,24 +105,17 @@ pub declared_at_first : (wanted : Variable → Bool) (ds : List Declaration) (k 
     IsDeclaredSoFar wanted 0 ds (fresh_terms (length k.variables) (filter wanted (declared_variables 0 ds))) (k.variables ++ declared_from wanted 0 ds) k k values
 declared_at_first wanted ds k values none = record { values_all = ap (λ (us : List Term). us ++ fresh_terms (length k.variables) (filter wanted (declared_variables 0 ds))) none; declared_all = refl; rest = refl }
 
-abbrev pub tests_for : List (Event Term) → List (Event Term) → Variable → Bool
-tests_for earlier prefix = is_added (variables_of_trace earlier) (variables_of_trace prefix)
-
-pub all_declared : (role : Role) (before height : ℕ) (earlier prefix : List (Event Term)) → earlier ≡ prefix_of role before → prefix ≡ prefix_of role height → (ds : List Declaration) → ds ≡ role.variables → (n : ℕ) → length ds ≤ n →
-    (old new : Skeleton) (values : List Term) →
-    IsDeclaredSoFar (tests_for earlier prefix) n (drop n ds) (fresh_terms (length old.variables) (filter (tests_for earlier prefix) (declared_variables 0 ds)))
-    (old.variables ++ declared_from (tests_for earlier prefix) 0 ds) old new values →
+pub all_declared : (role : Role) (before height : ℕ) (ds : List Declaration) → ds ≡ role.variables → (n : ℕ) → length ds ≤ n → (old new : Skeleton) (values : List Term) →
+    let wanted = is_added (variables_of_prefix role before) (variables_of_prefix role height) in
+    IsDeclaredSoFar wanted n (drop n ds) (fresh_terms (length old.variables) (filter wanted (declared_variables 0 ds))) (old.variables ++ declared_from wanted 0 ds) old new values →
     (values ≡ fresh_terms (length old.variables) (added_variables role before height))
     × (new.variables ≡ old.variables ++ declarations_among role (added_variables role before height))
     × DiffersInTable old new
-all_declared role before height earlier prefix first second ds all n past old new values h =
-    let wanted = tests_for earlier prefix in
+all_declared role before height ds all n past old new values h =
+    let wanted = is_added (variables_of_prefix role before) (variables_of_prefix role height) in
     let e = declared_last wanted _ _ old ds n past new values h in
-    let same_test : wanted ≡ is_added (variables_of_prefix role before) (variables_of_prefix role height) = ap (λ (es : List (Event Term)). tests_for es prefix) first ∙ ap (λ (es : List (Event Term)). tests_for (prefix_of role before) es) second in
-    let filtered : filter wanted (declared_variables 0 ds) ≡ added_variables role before height =
-    ap (λ (es : List Declaration). filter wanted (declared_variables 0 es)) all ∙ ap (λ (w : Variable → Bool). filter w (declared_variables 0 role.variables)) same_test in
-    let listed : declared_from wanted 0 ds ≡ declarations_among role (added_variables role before height) =
-    ap (declared_from wanted 0) all ∙ sym (declarations_filtered role wanted) ∙ ap (λ (w : Variable → Bool). declarations_among role (filter w (declared_variables 0 role.variables))) same_test in (
+    let filtered : filter wanted (declared_variables 0 ds) ≡ added_variables role before height = ap (λ (es : List Declaration). filter wanted (declared_variables 0 es)) all in
+    let listed : declared_from wanted 0 ds ≡ declarations_among role (added_variables role before height) = ap (declared_from wanted 0) all ∙ sym (declarations_filtered role wanted) in (
       sym (append-nil values) ∙ e.values_all ∙ ap (fresh_terms (length old.variables)) filtered,
       sym (append-nil new.variables) ∙ e.declared_all ∙ ap (λ (zs : List Declaration). old.variables ++ zs) listed,
       e.rest,

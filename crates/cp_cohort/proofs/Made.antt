@@ -1,6 +1,9 @@
 -- The branch by one choice, from what the program makes.
-use Rattle.std.proofs.Common.{◌≡◌, List, ◌++◌, length, sym, ap, ◌∙◌, subst}
+use Rattle.std.proofs.Common.{◌≡◌, List, [], ◌++◌, length, sym, ap, ◌∙◌, subst}
+use Rattle.std.proofs.lemmas.List.{append-nil}
 use Rattle.cp_model.specs.Term.{Term, apply_to, composed}
+use Rattle.cp_model.specs.declared.variable.Variable.{Variable}
+use Rattle.cp_model.specs.declared.variable.Declaration.{Declaration}
 use Rattle.cp_model.specs.Skeleton.{Skeleton}
 use Rattle.cp_model.specs.Tree.{Pattern}
 use Rattle.cp_model.proofs.LawTerms.{term_composed}
@@ -9,11 +12,21 @@ use Rattle.cp_unify.specs.Bindings.{Binding, as_substitution}
 use Rattle.cp_collapse.specs.SameSkeletons.{SaysTheSame}
 use Rattle.cp_normal.proofs.FormedBeside.{same_substitution}
 use Rattle.cp_skel.specs.Tables.{DiffersInTable}
-use Rattle.cp_pattern.specs.Opened.{opened_pattern, declared_as}
+use Rattle.cp_pattern.specs.Opened.{with_new, opened_pattern, declared_as}
 use Rattle.cp_pattern.specs.Unifiers.{UnifiesMostGenerally, NeverEqual}
 use Rattle.cp_cohort.specs.Stages.{pattern_in, IsNextUnder}
 use Rattle.cp_cohort.specs.Releases.{PartialSolution, came_by}
 use Rattle.cp_cohort.specs.Candidates.{choice_of, IsBranchByChoice}
+
+-- A pattern without locals is opened by the substitution alone, and declares nothing.
+pub opened_alone : (x : PartialSolution) (p : Pattern) (r : List Binding) (t o : Term) → p.locals ≡ [] → r ≡ x.substitution → t ≡ p.term → o ≡ apply_to (as_substitution r) t →
+    o ≡ opened_pattern p (came_by x) (length x.skeleton.variables)
+opened_alone x p r t o none by term is =
+    is ∙ ap (λ (q : List Binding). apply_to (as_substitution q) t) by ∙ ap (apply_to (came_by x)) term
+    ∙ ap (λ (xs : List Variable). apply_to (with_new (length x.skeleton.variables) xs (came_by x)) p.term) (sym none)
+
+pub declares_none : (ds : List Declaration) (p : Pattern) → p.locals ≡ [] → ds ≡ ds ++ declared_as ds p.locals
+declares_none ds p none = sym (ap (λ (xs : List Variable). ds ++ declared_as ds xs) none ∙ append-nil ds)
 
 -- The pattern's locals are new variables of a wider skeleton, and o is the pattern's term there.
 module _ (x : PartialSolution) (p : Pattern) (e : Term) (k : Skeleton) (o : Term) (copied : k ≡ x.skeleton) (is_opened : o ≡ opened_pattern p (came_by x) (length k.variables)) where

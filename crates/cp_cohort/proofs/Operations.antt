@@ -21,8 +21,7 @@ use Rattle.cp_theory.specs.Normal.{skeleton_under}
 use Rattle.cp_collapse.specs.SameSkeletons.{SaysTheSame}
 use Rattle.cp_model.specs.PrefixVariables.{prefix_variables, added_variables}
 use Rattle.cp_model.specs.Extensions.{AddsListener}
-use Rattle.cp_skel.specs.Events.{events_of}
-use Rattle.cp_skel.specs.declared.events.LocatedEvent.{LocatedEvent}
+use Rattle.cp_skel.specs.Events.{LocatedEvent, events_of}
 use Rattle.cp_skel.proofs.CarriedHomomorphisms.{SaysMore, listener_says_more, strand_says_more, extended_says_more, reordered_says_more, before_wider}
 use Rattle.cp_skel.proofs.EventLists.{listed_event, listed_role}
 use Rattle.cp_skel.proofs.StaySkeletons.{appended-last}

@@ -1,5 +1,5 @@
 -- One step of solving a release, from what the program makes.
-use Rattle.std.proofs.Common.{◌≡◌, true, false, List, [], ◌∷◌, ◌++◌, sym, ap, ◌∙◌, subst}
+use Rattle.std.proofs.Common.{◌≡◌, true, false, List, [], ◌∷◌, sym, subst}
 use Rattle.cp_normal.specs.declared.rewriting.Candidate.TheVariants.{Done}
 use Rattle.cp_model.specs.Term.{Term}
 use Rattle.cp_model.specs.Tree.{Pattern}
@@ -24,5 +24,5 @@ module _ (r : Release) (a : Attempt) where
   pub forms_left : (made : List Tried) → a.is_normal ≡ false → MeetsBoth r a.tried → BecomesNormalForms a.tried made → SolvesInto r a made
   forms_left made not_normal meets are = into_forms not_normal meets are
 
-  pub solved_left : (none_yet made : List Tried) → a.is_normal ≡ true → MeetsBoth r a.tried → none_yet ≡ [] → made ≡ none_yet ++ Done a.tried ∷ [] → SolvesInto r a made
-  solved_left none_yet made is_normal meets e is = subst (SolvesInto r a) (sym (is ∙ ap (λ (cs : List Tried). cs ++ Done a.tried ∷ []) e)) (is_solved is_normal meets)
+  pub solved_left : (made : List Tried) → a.is_normal ≡ true → MeetsBoth r a.tried → made ≡ Done a.tried ∷ [] → SolvesInto r a made
+  solved_left made is_normal meets is = subst (SolvesInto r a) (sym is) (is_solved is_normal meets)

@@ -24,8 +24,7 @@ use Rattle.cp_collapse.proofs.NoNewVariables.{KeepsDeclared}
 use Rattle.cp_model.specs.PrefixVariables.{prefix_variables, added_variables}
 use Rattle.cp_model.specs.Declares.{DeclaresItsVariables}
 use Rattle.cp_model.specs.Extensions.{Extends}
-use Rattle.cp_skel.specs.Events.{events_of}
-use Rattle.cp_skel.specs.declared.events.LocatedEvent.{LocatedEvent}
+use Rattle.cp_skel.specs.Events.{LocatedEvent, events_of}
 use Rattle.cp_skel.proofs.CarriedHomomorphisms.{listener_says_more, strand_says_more, extended_says_more}
 use Rattle.cp_skel.proofs.DeclaredChanges.{listener_declared, ordered_declared}
 use Rattle.cp_skel.proofs.EventLists.{listed_event}

@@ -15,7 +15,7 @@ use Rattle.cp_normal.specs.Exact.{HasForms}
 use Rattle.cp_model.specs.Extensions.{AddsStrand}
 use Rattle.cp_strand.specs.View.{InstanceData, instance_view}
 use Rattle.cp_skel.specs.Tables.{HaveTable, DiffersInTable}
-use Rattle.cp_skel.specs.declared.events.LocatedEvent.{LocatedEvent}
+use Rattle.cp_skel.specs.Events.{LocatedEvent}
 use Rattle.cp_theory.specs.Covering.{put_before}
 use Rattle.cp_theory.specs.Fresh.{fresh_terms}
 use Rattle.cp_cohort.specs.GatheredLists.{EachGives}

@@ -21,8 +21,7 @@ use Rattle.cp_collapse.specs.SameSkeletons.{SaysTheSame}
 use Rattle.cp_normal.specs.Exact.{HasForms}
 use Rattle.cp_model.specs.PrefixVariables.{prefix_variables}
 use Rattle.cp_model.specs.Extensions.{AddsListener, AddsStrand}
-use Rattle.cp_skel.specs.Events.{events_of}
-use Rattle.cp_skel.specs.declared.events.LocatedEvent.{LocatedEvent}
+use Rattle.cp_skel.specs.Events.{LocatedEvent, events_of}
 use Rattle.cp_theory.specs.Inside.{IsInside}
 use Rattle.cp_theory.specs.Fresh.{fresh_terms}
 use Rattle.cp_theory.specs.Covering.{put_before}

@@ -12,7 +12,7 @@ use Rattle.cp_model.specs.declared.tree.Operation.{Operation}
 use Rattle.cp_model.specs.declared.step.Step.{Step}
 use Rattle.cp_model.specs.PrefixVariables.{added_variables}
 use Rattle.cp_model.specs.Extensions.{Extends}
-use Rattle.cp_skel.specs.declared.events.LocatedEvent.{LocatedEvent}
+use Rattle.cp_skel.specs.Events.{LocatedEvent}
 use Rattle.cp_theory.specs.Fresh.{fresh_terms}
 -- A child of a test: its skeleton, whose table has the variables made for it, the operation that made it, and the position at
 -- which the event that the operation names carries the critical term; none for a listener.

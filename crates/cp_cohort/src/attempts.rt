@@ -73,9 +73,7 @@ impl<'a> Rewriting for Release<'a> {
                 if !is_normal {
                     return normal_forms(alloc, tried);
                 }
-                let mut made = Vec::new(alloc);
-                made.push(Candidate::Done(tried))?;
-                Ok(made)
+                Ok(vec![in alloc; Candidate::Done(tried)]?)
             }
         }
     }

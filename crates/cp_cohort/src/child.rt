@@ -45,8 +45,7 @@ impl Made {
 fn as_child(skeleton: Skeleton, made: Made, path: &Path) -> Result<Child, AllocError>
     ensures { IfOk result (λ c. c ≡ child (operation_of_made made) path.now skeleton) }
 {
-    let path = path.copy()?;
-    Ok(Child {
+    path.copy().map(|path| Child {
         skeleton,
         operation: made.operation(),
         path,

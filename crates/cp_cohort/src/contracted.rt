@@ -44,14 +44,14 @@ impl<'a> GuardedTest<'a> {
     fn contract_at(
         &self,
         alloc: Global,
-        occurrence: &LocatedEvent,
+        occurrence: &LocatedEvent<'_>,
         path: &Path,
         children: &mut Vec<Child>,
     ) -> Result<(), AllocError>
         requires { IsPosition (payload occurrence.now.event) path.now }
         ensures { OnOk result (PutsChildren (Contracts self.now occurrence.now path.now) children.old.items children.new.items) }
     {
-        let message = occurrence.event.payload();
+        let message = occurrence.event().payload();
         if self.is_guarded(alloc, message, path)? {
             return Ok(());
         }
@@ -68,7 +68,7 @@ impl<'a> GuardedTest<'a> {
         put_forms(
             alloc,
             skeleton,
-            Made::Contracted(occurrence.node),
+            Made::Contracted(occurrence.node()),
             path,
             children,
         )
@@ -78,7 +78,7 @@ impl<'a> GuardedTest<'a> {
     fn contract_event(
         &self,
         alloc: Global,
-        occurrence: &LocatedEvent,
+        occurrence: &LocatedEvent<'_>,
         children: &mut Vec<Child>,
     ) -> Result<(), AllocError>
         ensures { OnOk result (PutsChildren (ContractsEvent self.now occurrence.now) children.old.items children.new.items) }
@@ -86,7 +86,7 @@ impl<'a> GuardedTest<'a> {
         if !is_sent_before(self.at, occurrence) {
             return Ok(());
         }
-        let paths = positions_for(alloc, occurrence.event.payload(), self.critical)?;
+        let paths = positions_for(alloc, occurrence.event().payload(), self.critical)?;
         for path in &paths {
             self.contract_at(alloc, occurrence, path, children)?;
         }

@@ -1,16 +1,16 @@
 // Skeletons with one strand made longer, or with one strand more. New variables take the places of the role's.
 ghost use Rattle.std.specs.Prelude.{◌≡◌, ◌++◌, ◌≤◌, ℕ, suc, length, IfOk, OnOk};
-ghost use Rattle.cp_model.specs.Strand.{IsHeight, variables_of_trace};
+ghost use Rattle.cp_model.specs.Strand.{IsHeight};
 ghost use Rattle.cp_model.specs.Extensions.{AddsStrand};
 ghost use Rattle.cp_skel.specs.Tables.{DiffersInTable};
-ghost use Rattle.cp_model.specs.PrefixVariables.{is_added, added_variables, prefix_variables};
+ghost use Rattle.cp_model.specs.PrefixVariables.{added_variables, prefix_variables};
 ghost use Rattle.cp_theory.specs.Fresh.{fresh_terms};
 ghost use Rattle.cp_cohort.specs.CoveringChildren.{declarations_among, HasGrown};
 ghost use Rattle.cp_cohort.specs.Children.{Declares, IsThere, IsGrown, AddsRoleStrand};
 
 use crate::guarded_test::GuardedTest;
-use cp_skel::{Declaration, Event, Instance, Role, Skeleton, occurs, prefix_of};
-use cp_term::{Sort, Term, VarId, var};
+use cp_skel::{Declaration, Instance, Role, Skeleton, is_added};
+use cp_term::{Term, VarId, var};
 use std::alloc::{AllocError, Global};
 use std::rc::Rc;
 
@@ -25,16 +25,7 @@ fn declare_one(
 {
     let variable = k.declare(declaration.identifier.as_str(), declaration.sort)?;
     let term = var(alloc, variable, declaration.sort)?;
-    values.push(term)?;
-    Ok(())
-}
-
-/// Whether the variable of this sort occurs in `events` but not in `earlier`.
-fn is_added(earlier: &[Event], events: &[Event], id: VarId, sort: Sort) -> bool
-    ensures { result ≡ is_added (variables_of_trace earlier.now) (variables_of_trace events.now)
-        (record { sort = sort; number = id }) }
-{
-    occurs(events, id, sort) && !occurs(earlier, id, sort)
+    values.push(term).map_err(AllocError::from)
 }
 
 /// Declares a new variable for each variable of the role that occurs in its prefix of length `height` but not in that of length
@@ -50,12 +41,10 @@ fn declare_added(
     ensures declared { OnOk result (k.new.variables ≡ k.old.variables ++ declarations_among role.now (added_variables role.now before height)) }
     ensures rest { OnOk result (DiffersInTable k.old k.new) }
 {
-    let earlier = prefix_of(role, before);
-    let prefix = prefix_of(role, height);
     let mut values = Vec::new(alloc);
     for (number, declaration) in role.variables().iter().enumerate() {
         let id = VarId::numbered(number);
-        if !is_added(earlier, prefix, id, declaration.sort) {
+        if !is_added(role, before, height, id, declaration.sort) {
             continue;
         }
         declare_one(alloc, declaration, k, &mut values)?;

@@ -24,6 +24,5 @@ pub fn add_term(term: Term, terms: &mut Vec<Term>) -> Result<(), AllocError>
     if has_term(terms, &term) {
         return Ok(());
     }
-    terms.push(term)?;
-    Ok(())
+    terms.push(term).map_err(AllocError::from)
 }

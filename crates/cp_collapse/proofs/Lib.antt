@@ -1,6 +1,7 @@
 pub mod ItemsWithProperty
 pub mod AnyItem
 pub mod Values
+pub mod Held
 pub mod DeclaredTerms
 pub mod KeptTerms
 pub mod SameStrands

@@ -2,6 +2,7 @@ pub mod Cycles
 pub mod SameSkeletons
 pub mod Directed
 pub mod Values
+pub mod Held
 pub mod Partitions
 pub mod Collapses
 pub mod FirstPartitions

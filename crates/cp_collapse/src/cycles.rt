@@ -29,8 +29,7 @@ fn some_leads_on(leading: &Predecessors<'_>, node: Node, pairs: &[OrderPair]) ->
 fn is_closed_at(alloc: Global, pairs: &[OrderPair], node: Node) -> Result<bool, AllocError>
     ensures { IfOk result (λ found. IsTrue found ↔ ClosesCycleAt pairs.now node) }
 {
-    let leading = Predecessors::new(alloc, pairs, node)?;
-    Ok(some_leads_on(&leading, node, pairs))
+    Predecessors::new(alloc, pairs, node).map(|leading| some_leads_on(&leading, node, pairs))
 }
 
 /// Whether some pair from the recorded origin of one of these unique values closes a cycle with these pairs.

@@ -37,8 +37,11 @@ fn atom_images(alloc: Global, atoms: &[Atom], s: &Subst) -> Result<Vec<Atom>, Al
 fn unique_image(alloc: Global, unique: &UniqueAt, way: Way<'_>) -> Result<UniqueAt, AllocError>
     ensures { IfOk result (λ u. u ≡ unique_in way.entry.lowest.now (as_substitution way.entry.terms.now) unique.now) }
 {
-    let value = unique.value().under(alloc, way.terms)?;
-    Ok(UniqueAt::new(value, node_in(way.lowest, unique.origin())))
+    let origin = node_in(way.lowest, unique.origin());
+    unique
+        .value()
+        .under(alloc, way.terms)
+        .map(|value| UniqueAt::new(value, origin))
 }
 
 /// The images of unique values, in order, each once.
@@ -64,8 +67,7 @@ fn put_pair(pair: OrderPair, pairs: &mut Vec<OrderPair>) -> Result<(), AllocErro
     if pairs.iter().any(|other| *other == pair) {
         return Ok(());
     }
-    pairs.push(pair)?;
-    Ok(())
+    pairs.push(pair).map_err(AllocError::from)
 }
 
 /// Whether both nodes of a pair come to lie on one strand.
@@ -115,10 +117,11 @@ pub(crate) fn assumption_images(
 ) -> Result<Assumptions, AllocError>
     ensures { IfOk result (λ a. a ≡ assumptions_in way.entry.lowest.now (as_substitution way.entry.terms.now) assumptions.now) }
 {
-    let non = atom_images(alloc, assumptions.non_originating(), way.terms)?;
-    let penetrator_non = atom_images(alloc, assumptions.penetrator_non_originating(), way.terms)?;
-    let unique = unique_images(alloc, assumptions.uniquely_originating(), way)?;
-    Ok(Assumptions::new(non, penetrator_non, unique))
+    Assumptions::of(
+        atom_images(alloc, assumptions.non_originating(), way.terms),
+        atom_images(alloc, assumptions.penetrator_non_originating(), way.terms),
+        unique_images(alloc, assumptions.uniquely_originating(), way),
+    )
 }
 
 fn places_of(alloc: Global, strands: &[usize], lowest: &[usize]) -> Result<Vec<usize>, AllocError>

@@ -1,14 +1,21 @@
 // Skeletons under substitutions.
 ghost use Rattle.std.specs.Prelude.{◌≡◌, ◌↔◌, map, IsTrue, IfOk};
-ghost use Rattle.cp_model.specs.Term.{Substitution, apply_to, apply_to_atom};
+ghost use Rattle.cp_model.specs.Term.{Substitution, apply_to, apply_to_atom, composed};
+ghost use Rattle.cp_model.specs.Strand.{event_map};
+ghost use Rattle.cp_model.specs.Homomorphism.{substitution_by};
+ghost use Rattle.cp_model.specs.PrefixVariables.{declared_variables, terms_of};
 ghost use Rattle.cp_theory.specs.Normal.{unique_under, assumptions_under, from_problem_under, skeleton_under};
 ghost use Rattle.cp_unify.specs.Bindings.{as_substitution};
 ghost use Rattle.cp_strand.specs.View.{instance_view};
 ghost use Rattle.cp_collapse.specs.SameSkeletons.{SaysTheSame};
 ghost use Rattle.cp_collapse.specs.Values.{declared_under};
+ghost use Rattle.cp_collapse.specs.Held.{indexed_under, IsGivenUnder};
 
 use crate::variable_terms::{declared_terms, leaves_declared};
-use cp_skel::{Assumptions, Atom, FromProblem, Instance, Skeleton, Strand, StrandShape, UniqueAt};
+use cp_skel::{
+    Assumptions, Atom, Event, FromProblem, Instance, Skeleton, Strand, StrandShape, UniqueAt,
+};
+use cp_strand::{Given, IndexedUnique};
 use cp_term::Term;
 use cp_unify::{Subst, apply, leaves};
 use std::alloc::{AllocError, Global};
@@ -80,6 +87,38 @@ impl Substituted for Atom {
     }
 }
 
+impl Substituted for Event {
+    ghost becomes = { λ s. event_map (apply_to s) };
+
+    fn is_left(&self, s: &Subst) -> bool {
+        leaves(s, self.payload())
+    }
+
+    fn under(&self, alloc: Global, s: &Subst) -> Result<Event, AllocError> {
+        match self {
+            Event::Send(message) => apply(alloc, s, message).map(Event::Send),
+            Event::Receive(message) => apply(alloc, s, message).map(Event::Receive),
+        }
+    }
+}
+
+/// The index stays.
+impl Substituted for IndexedUnique {
+    ghost becomes = { indexed_under };
+
+    fn is_left(&self, s: &Subst) -> bool {
+        self.value.is_left(s)
+    }
+
+    fn under(&self, alloc: Global, s: &Subst) -> Result<IndexedUnique, AllocError> {
+        let value = self.value.under(alloc, s)?;
+        Ok(IndexedUnique {
+            value,
+            index: self.index,
+        })
+    }
+}
+
 /// The recorded origin stays.
 impl Substituted for UniqueAt {
     ghost becomes = { unique_under };
@@ -108,10 +147,11 @@ impl Substituted for Assumptions {
         if self.is_left(s) {
             return self.copy(alloc);
         }
-        let non = each_under(alloc, self.non_originating(), s)?;
-        let penetrator_non = each_under(alloc, self.penetrator_non_originating(), s)?;
-        let unique = each_under(alloc, self.uniquely_originating(), s)?;
-        Ok(Assumptions::new(non, penetrator_non, unique))
+        Assumptions::of(
+            each_under(alloc, self.non_originating(), s),
+            each_under(alloc, self.penetrator_non_originating(), s),
+            each_under(alloc, self.uniquely_originating(), s),
+        )
     }
 }
 
@@ -127,11 +167,9 @@ impl Substituted for FromProblem {
         if self.is_left(s) {
             return self.copy(alloc);
         }
-        let strands = Vec::from_slice(alloc, self.strands())?;
         let values = each_under(alloc, self.values(), s)?;
         let assumptions = self.assumptions().under(alloc, s)?;
-        let pairs = Vec::from_slice(alloc, self.pairs())?;
-        Ok(FromProblem::new(strands, values, assumptions, pairs))
+        self.with_values(alloc, values, assumptions)
     }
 }
 
@@ -150,25 +188,47 @@ pub fn are_same_terms(a: &[Term], b: &[Term]) -> bool
     true
 }
 
-/// The strand of an instance with these terms in place of its own. If they are the same terms, the strand itself is shared. The
-/// new strand holds its events if the old one does.
+/// What its role gives an instance, under a substitution.
+fn given_under(alloc: Global, given: &Given, s: &Subst) -> Result<Given, AllocError>
+    ensures { IfOk result (λ g. IsGivenUnder (as_substitution s.now) given.now g) }
+{
+    let non_originating = each_under(alloc, &given.non_originating, s)?;
+    let penetrator_non_originating = each_under(alloc, &given.penetrator_non_originating, s)?;
+    let uniquely_originating = each_under(alloc, &given.uniquely_originating, s)?;
+    Ok(Given {
+        non_originating,
+        penetrator_non_originating,
+        uniquely_originating,
+    })
+}
+
+/// The strand of an instance whose terms became these under the substitution. If they are the same terms, the strand itself is
+/// shared. What the strand holds becomes what the new one holds.
 fn with_values(
     alloc: Global,
     strand: &Strand,
     instance: &Instance,
     values: Vec<Term>,
+    s: &Subst,
 ) -> Result<Strand, AllocError>
-    requires { strand.now ≡ instance_view instance.now }
+    requires strand { strand.now ≡ instance_view instance.now }
+    requires values { values.items ≡ terms_of (composed (substitution_by instance.now.values) (as_substitution s.now))
+        (declared_variables 0 instance.now.role.variables) }
     ensures { IfOk result (λ t. t ≡ instance_view (record instance.now { values = values.items })) }
 {
     if are_same_terms(&values, instance.values()) {
         return strand.copy();
     }
-    let role = instance.role().clone()?;
-    let changed = Instance::new(role, instance.height(), values);
-    match strand.held() {
-        Some(_) => Strand::with_events(alloc, changed),
-        None => Strand::instance(alloc, changed),
+    let role = instance.role();
+    role.is_sound();
+    let changed = Instance::new(role.clone()?, instance.height(), values);
+    match (strand.held(), strand.given()) {
+        (Some(events), Some(given)) => {
+            let events = each_under(alloc, events, s)?;
+            let given = given_under(alloc, given, s)?;
+            Strand::holding(alloc, changed, events, given)
+        }
+        _ => Strand::instance(alloc, changed),
     }
 }
 
@@ -185,7 +245,7 @@ pub(crate) fn strand_under(alloc: Global, strand: &Strand, s: &Subst) -> Result<
                 return strand.copy();
             }
             let values = declared_terms(alloc, declarations, terms, s)?;
-            with_values(alloc, strand, instance, values)
+            with_values(alloc, strand, instance, values, s)
         }
         StrandShape::Listener(message) => {
             if leaves(s, message) {

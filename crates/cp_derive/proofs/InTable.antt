@@ -5,12 +5,12 @@ use Rattle.cp_model.specs.declared.variable.Declaration.{Declaration}
 use Rattle.cp_model.specs.declared.node.Node.{Node}
 use Rattle.cp_model.specs.Skeleton.{Skeleton}
 use Rattle.cp_model.specs.Derivable.{IsSecret, IsOnInstance, DerivableAt, a_tag, an_atom, sent_before, paired, left_of, right_of, encrypted, decrypted}
-use Rattle.cp_order.specs.PredecessorNodes.{Target}
 use Rattle.cp_theory.specs.Critical.{IsTest}
 use Rattle.cp_skel.specs.Tables.{DiffersInTable}
-use Rattle.cp_skel.specs.declared.events.LocatedEvent.{LocatedEvent}
+use Rattle.cp_skel.specs.Events.{LocatedEvent}
 use Rattle.cp_skel.proofs.TableAlone.{tabled, was_before}
 use Rattle.cp_derive.specs.AtNode.{IsAtNode}
+use Rattle.cp_skel.specs.Preceding.{SkeletonNode}
 use Rattle.cp_derive.specs.Given.{Given}
 
 module _ (k : Skeleton) (table : List Declaration) where
@@ -35,19 +35,18 @@ module _ (k : Skeleton) (table : List Declaration) where
   test_tabled : (n : Node) (c : Term) → IsTest k n c → IsTest (tabled k table) n c
   test_tabled n c t = record { message = t.message; reception = t.reception; component = t.component; underivable = λ d. t.underivable (was_derivable d) }
 
--- A table can be put back.
-module _ (k : Skeleton) (table : List Declaration) where
-  node_tabled : (n : Node) (events : List LocatedEvent) (reaching : Target) (known : Given) → IsAtNode k n events reaching known → IsAtNode (tabled k table) n events reaching known
-  node_tabled n events reaching known is = record {
-    there = is.there;
-    all = is.all;
-    along = is.along;
-    derivable = λ t. ((λ d. was_derivable (tabled k table) k.variables ((is.derivable t).0 d)), (λ d. (is.derivable t).1 (was_derivable k table d)));
-  }
-
 module _ (k l : Skeleton) (differs : DiffersInTable k l) where
   pub test_in_table : (n : Node) (c : Term) → IsTest k n c → IsTest l n c
   test_in_table n c t = subst (λ (x : Skeleton). IsTest x n c) (sym differs) (test_tabled k l.variables n c t)
 
-  pub node_in_table : (n : Node) (events : List LocatedEvent) (reaching : Target) (known : Given) → IsAtNode k n events reaching known → IsAtNode l n events reaching known
-  node_in_table n events reaching known is = subst (λ (x : Skeleton). IsAtNode x n events reaching known) (sym differs) (node_tabled k l.variables n events reaching known is)
+-- A table can be put back.
+module _ (at : SkeletonNode) (events : List LocatedEvent) (known : Given) (is : IsAtNode at events known) where
+  node_tabled : (table : List Declaration) → IsAtNode (record { skeleton = tabled at.skeleton table; node = at.node }) events known
+  node_tabled table = record {
+    all = is.all;
+    derivable =
+        λ t. ((λ d. was_derivable (tabled at.skeleton table) at.skeleton.variables ((is.derivable t).0 d)), (λ d. (is.derivable t).1 (was_derivable at.skeleton table d)));
+  }
+
+  pub node_in_table : (l : Skeleton) → DiffersInTable at.skeleton l → IsAtNode (record { skeleton = l; node = at.node }) events known
+  node_in_table l differs = subst (λ (x : Skeleton). IsAtNode (record { skeleton = x; node = at.node }) events known) (sym differs) (node_tabled l.variables)

@@ -12,6 +12,7 @@ pub mod OpenedPieces
 pub mod TransmissionPlaces
 pub mod GivenAtNode
 pub mod GrownKnowledge
+pub mod VisitedEvents
 pub mod ByStrand
 pub mod SentBefore
 pub mod InTable

@@ -10,8 +10,7 @@ use Rattle.cp_model.specs.declared.strand.Event.TheVariants.{Send as send, Recei
 use Rattle.cp_model.specs.declared.node.Node.{Node}
 use Rattle.cp_model.specs.Skeleton.{SkeletonStrand, instance, term_event_at, Skeleton}
 use Rattle.cp_model.specs.Derivable.{IsOnInstance}
-use Rattle.cp_skel.specs.Events.{is_role_strand, events_of}
-use Rattle.cp_skel.specs.declared.events.LocatedEvent.{LocatedEvent}
+use Rattle.cp_skel.specs.Events.{LocatedEvent, is_role_strand, events_of}
 use Rattle.cp_skel.proofs.EventLists.{listed_event, listed_role, event_listed}
 use Rattle.cp_derive.specs.Transmissions.{Transmission, if_sent, transmissions_among}
 

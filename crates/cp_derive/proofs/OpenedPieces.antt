@@ -1,5 +1,6 @@
 -- What was sent, opened piece by piece.
-use Rattle.std.proofs.Common.{ℕ, ◌+◌, ◌<◌, ◌≤◌, List, [], ◌++◌, ◌≡◌, ◌⊎◌, inl, inr, length, get_or, drop, sym, subst}
+use Rattle.std.proofs.Common.{ℕ, ◌+◌, ◌<◌, ◌≤◌, List, [], ◌++◌, ◌≡◌, ◌⊎◌, inl, inr, length, get_or, drop, sym, subst, ap, ◌∙◌}
+use Rattle.std.proofs.lemmas.List.{append-nil}
 use Rattle.cp_lists.proofs.Members.{item_is_in, none_left, in_append, in_append_left, in_append_right, not_in_none}
 use Rattle.cp_lists.specs.Lists.{IsIn}
 use Rattle.cp_model.specs.Term.{Term, enc_term}
@@ -73,3 +74,7 @@ opened_more sent more all secrets lent_secrets lent_more o n same_secrets same_m
     let before : IsOpened sent lent_secrets o = subst (λ s. IsOpened sent s o) (sym same_secrets) h in
     subst (λ s. IsOpened s secrets n) (sym whole)
     (subst (λ m. IsOpened (sent ++ m) secrets n) same_more (subst (λ s. IsOpened (sent ++ lent_more) s n) same_secrets (step sent before)))
+
+-- Nothing more was sent.
+pub no_more_sent : (g : Given) (more : List Term) → more ≡ [] → g ≡ record { sent = g.sent ++ more; secrets = g.secrets }
+no_more_sent g more none = ap (λ xs. let h : Given = record { sent = xs; secrets = g.secrets } in h) (sym (ap (λ xs. g.sent ++ xs) none ∙ append-nil g.sent))

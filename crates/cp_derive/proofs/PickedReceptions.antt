@@ -8,8 +8,7 @@ use Rattle.cp_model.specs.declared.strand.Event.{Event}
 use Rattle.cp_model.specs.declared.strand.Event.TheVariants.{Receive as recv}
 use Rattle.cp_model.specs.declared.node.Node.{Node}
 use Rattle.cp_model.specs.Skeleton.{SkeletonStrand, skeleton_trace, Skeleton}
-use Rattle.cp_skel.specs.Events.{is_role_strand, located_events_on, located_events_from, events_of}
-use Rattle.cp_skel.specs.declared.events.LocatedEvent.{LocatedEvent}
+use Rattle.cp_skel.specs.Events.{LocatedEvent, is_role_strand, located_events_on, located_events_from, events_of}
 use Rattle.cp_derive.specs.Picked.{Picks, no_more, picks, passes}
 use Rattle.cp_derive.specs.Unrealised.{IsUnrealisedAt, IsRealisedAt, IsListedBefore, AreRising, ListsUnrealised}
 use Rattle.cp_skel.proofs.EventLists.{stands_on, stands_among, event_listed}

@@ -1,7 +1,6 @@
 -- What role strands send before a node, gathered event by event, and what is derivable from it.
-use Rattle.std.proofs.Common.{ℕ, ◌+◌, ◌≤◌, List, [], ◌∷◌, ◌++◌, Some, ◌≡◌, inl, inr, length, take, true, false, arith, add-one, refl, sym, subst, ap, ◌∙◌}
-use Rattle.std.specs.Prelude.{◌↔◌, ◌==◌, ◌&&◌}
-use Rattle.std.proofs.lemmas.Bool.Decides.{nat_tests}
+use Rattle.std.proofs.Common.{ℕ, ◌+◌, ◌≤◌, List, [], ◌∷◌, ◌++◌, Some, ◌≡◌, inl, inr, length, take, add-one, refl, sym, subst, ap, ◌∙◌}
+use Rattle.std.specs.Prelude.{◌↔◌}
 use Rattle.std.proofs.lemmas.List.{take_all}
 use Rattle.cp_lists.specs.Lists.{item_at, IsIn, here}
 use Rattle.cp_lists.proofs.Items.{take_to_item}
@@ -9,17 +8,13 @@ use Rattle.cp_lists.proofs.Members.{not_in_none, only_item, in_append, in_append
 use Rattle.cp_model.specs.Term.{Term}
 use Rattle.cp_model.specs.declared.strand.Event.TheVariants.{Send as send}
 use Rattle.cp_model.specs.declared.node.Node.{Node}
-use Rattle.cp_model.specs.Skeleton.{Skeleton, IsNodeOf, Before}
+use Rattle.cp_model.specs.Skeleton.{Skeleton}
 use Rattle.cp_model.specs.Derivable.{DerivableAt}
-use Rattle.cp_model.proofs.LawOrder.{before_by_pairs}
-use Rattle.cp_order.specs.PredecessorNodes.{Target}
-use Rattle.cp_skel.specs.Ordered.{IsOrdered}
-use Rattle.cp_skel.specs.Events.{events_of}
-use Rattle.cp_skel.specs.declared.events.LocatedEvent.{LocatedEvent}
+use Rattle.cp_skel.specs.Events.{LocatedEvent, events_of}
+use Rattle.cp_skel.specs.Preceding.{SkeletonNode}
 use Rattle.cp_skel.proofs.EventLists.{listed_event, listed_role}
 use Rattle.cp_derive.specs.Assumed.{assumed_values}
 use Rattle.cp_derive.specs.AtNode.{SendsBefore, IsSentAmong, AreSentBefore}
-use Rattle.cp_derive.specs.Before.{LeadsToOther}
 use Rattle.cp_derive.specs.From.{IsSentBefore}
 use Rattle.cp_derive.specs.Given.{Given, IsDerivable, IsGivenAt}
 use Rattle.cp_derive.proofs.FromLaw.{given_at}
@@ -27,27 +22,14 @@ use Rattle.cp_derive.proofs.Listed.{IsPushed, pushed}
 use Rattle.cp_derive.proofs.ListedTransmissions.{transmission_listed, sent_listed}
 use Rattle.cp_derive.proofs.Secrets.{secret_values}
 
--- What the test of two nodes for being the same answers.
-pub told_same : (x y : Node) → true ≡ (x.strand == y.strand) && (x.index == y.index) → x ≡ y
-told_same x y h =
-    let strands : x.strand ≡ y.strand = grind (arith, nat_tests) in
-    let indices : x.index ≡ y.index = grind (arith, nat_tests) in
-    λ i. record { strand = strands i; index = indices i }
-
-pub told_apart : (x y : Node) → false ≡ (x.strand == y.strand) && (x.index == y.index) → x ≡ y → ⊥
-told_apart x y h e =
-    let strands : x.strand ≡ y.strand = ap (λ (n : Node). n.strand) e in
-    let indices : x.index ≡ y.index = ap (λ (n : Node). n.index) e in
-    grind (arith, nat_tests)
-
-module _ (target : Target) (n : Node) where
-  among_more : (os more : List LocatedEvent) (t : Term) → IsSentAmong target n os t → IsSentAmong target n (os ++ more) t
+module _ (at : SkeletonNode) where
+  among_more : (os more : List LocatedEvent) (t : Term) → IsSentAmong at os t → IsSentAmong at (os ++ more) t
   among_more os more t s = record { event = s.event; listed = in_append_left more s.listed; by = s.by }
 
-  same_event : (o p : LocatedEvent) (t : Term) → p ≡ o → SendsBefore target n p t → SendsBefore target n o t
-  same_event o p t e s = subst (λ (x : LocatedEvent). SendsBefore target n x t) e s
+  same_event : (o p : LocatedEvent) (t : Term) → p ≡ o → SendsBefore at p t → SendsBefore at o t
+  same_event o p t e s = subst (λ (x : LocatedEvent). SendsBefore at x t) e s
 
-  none_after : (os : List LocatedEvent) (o : LocatedEvent) (ts : List Term) → ((t : Term) → SendsBefore target n o t → ⊥) → AreSentBefore target n os ts → AreSentBefore target n (os ++ o ∷ []) ts
+  none_after : (os : List LocatedEvent) (o : LocatedEvent) (ts : List Term) → ((t : Term) → SendsBefore at o t → ⊥) → AreSentBefore at os ts → AreSentBefore at (os ++ o ∷ []) ts
   none_after os o ts none are = record {
     each = λ t s.
         elim (in_append os (o ∷ []) s.listed) [
@@ -57,11 +39,11 @@ module _ (target : Target) (n : Node) where
     only = λ t i. among_more os (o ∷ []) t (are.only t i);
   }
 
-  same_message : (o : LocatedEvent) (t u : Term) → SendsBefore target n o t → SendsBefore target n o u → t ≡ u
+  same_message : (o : LocatedEvent) (t u : Term) → SendsBefore at o t → SendsBefore at o u → t ≡ u
   same_message o t u a b = let both : send t ≡ send u = sym a.sends ∙ b.sends in cc
 
-  one_after : (os : List LocatedEvent) (o : LocatedEvent) (old new : List Term) (t : Term) → SendsBefore target n o t → new ≡ old ++ t ∷ [] → AreSentBefore target n os old →
-      AreSentBefore target n (os ++ o ∷ []) new
+  one_after : (os : List LocatedEvent) (o : LocatedEvent) (old new : List Term) (t : Term) → SendsBefore at o t → new ≡ old ++ t ∷ [] → AreSentBefore at os old →
+      AreSentBefore at (os ++ o ∷ []) new
   one_after os o old new t sends e are =
       let p : IsPushed old t new = pushed old t new e in
       record {
@@ -73,33 +55,29 @@ module _ (target : Target) (n : Node) where
         only = λ u i.
             elim (p.only u i) [
               | inl j ↦ among_more os (o ∷ []) u (are.only u j)
-              | inr same ↦ record { event = o; listed = in_append_right os here; by = subst (λ x. SendsBefore target n o x) same sends }
+              | inr same ↦ record { event = o; listed = in_append_right os here; by = subst (λ x. SendsBefore at o x) same sends }
             ];
       }
 
-  pub nothing_sent : AreSentBefore target n [] []
+  pub nothing_sent : AreSentBefore at [] []
   nothing_sent = record { each = λ t s. absurd (not_in_none s.listed); only = λ t i. absurd (not_in_none i) }
 
-  module _ (os : List LocatedEvent) (i : ℕ) (o : LocatedEvent) (at : item_at os i ≡ Some o) where
+  module _ (os : List LocatedEvent) (i : ℕ) (o : LocatedEvent) (listed : item_at os i ≡ Some o) where
     next : take (i + 1) os ≡ take i os ++ o ∷ []
-    next = ap (λ m. take m os) (add-one i) ∙ take_to_item os i o at
+    next = ap (λ m. take m os) (add-one i) ∙ take_to_item os i o listed
 
-    pub event_passed : (ts : List Term) → ((t : Term) → SendsBefore target n o t → ⊥) → AreSentBefore target n (take i os) ts → AreSentBefore target n (take (i + 1) os) ts
-    event_passed ts none are = subst (λ xs. AreSentBefore target n xs ts) (sym next) (none_after (take i os) o ts none are)
+    pub event_passed : (ts : List Term) → ((t : Term) → SendsBefore at o t → ⊥) → AreSentBefore at (take i os) ts → AreSentBefore at (take (i + 1) os) ts
+    event_passed ts none are = subst (λ xs. AreSentBefore at xs ts) (sym next) (none_after (take i os) o ts none are)
 
-    pub event_sent : (old new : List Term) (t : Term) → SendsBefore target n o t → new ≡ old ++ t ∷ [] → AreSentBefore target n (take i os) old → AreSentBefore target n (take (i + 1) os) new
-    event_sent old new t sends e are = subst (λ xs. AreSentBefore target n xs new) (sym next) (one_after (take i os) o old new t sends e are)
+    pub event_sent : (old new : List Term) (t : Term) → SendsBefore at o t → new ≡ old ++ t ∷ [] → AreSentBefore at (take i os) old → AreSentBefore at (take (i + 1) os) new
+    event_sent old new t sends e are = subst (λ xs. AreSentBefore at xs new) (sym next) (one_after (take i os) o old new t sends e are)
 
-  pub all_sent : (os : List LocatedEvent) (i : ℕ) (ts : List Term) → length os ≤ i → AreSentBefore target n (take i os) ts → AreSentBefore target n os ts
-  all_sent os i ts past are = subst (λ xs. AreSentBefore target n xs ts) (take_all i os past) are
+  pub all_sent : (os : List LocatedEvent) (i : ℕ) (ts : List Term) → length os ≤ i → AreSentBefore at (take i os) ts → AreSentBefore at os ts
+  all_sent os i ts past are = subst (λ xs. AreSentBefore at xs ts) (take_all i os past) are
 
 -- ---- at a node of a skeleton
 
-module _ (k : Skeleton) (n : Node) (ordered : IsOrdered k) (there_is : IsNodeOf k.strands n) (ts : List Term)
-    (are : AreSentBefore (record { pairs = k.pairs; node = n }) n (events_of k) ts) where
-  order : (m : Node) → Before k m n ↔ LeadsToOther k.pairs m n
-  order m = before_by_pairs k ordered.order_pairs ordered.no_cycle m n there_is
-
+module _ (k : Skeleton) (n : Node) (ts : List Term) (are : AreSentBefore (record { skeleton = k; node = n }) (events_of k) ts) where
   listed_before : (t : Term) → IsIn t ts → IsSentBefore k n t
   listed_before t i =
       let s = are.only t i in
@@ -107,16 +85,15 @@ module _ (k : Skeleton) (n : Node) (ordered : IsOrdered k) (there_is : IsNodeOf 
         from = s.event.node;
         on_instance = listed_role k s.event s.listed s.by.by_role;
         transmission = listed_event k s.event s.listed ∙ ap Some s.by.sends;
-        before = (order s.event.node).1 (s.by.reaches, s.by.other);
+        before = s.by.before;
       }
 
   before_listed : (t : Term) → IsSentBefore k n t → IsIn t ts
   before_listed t s =
-      let leads : LeadsToOther k.pairs s.from n = (order s.from).0 s.before in
       are.each t (record {
         event = record { node = s.from; event = send t; by_role = _ };
         listed = sent_listed (events_of k) (record { node = s.from; message = t }) (transmission_listed k s.from t s.on_instance s.transmission);
-        by = record { by_role = refl; sends = refl; reaches = leads.0; other = leads.1 };
+        by = record { by_role = refl; sends = refl; before = s.before };
       })
 
   pub derivable_from_sent : (g : Given) → g ≡ record { sent = ts; secrets = assumed_values k.assumptions } → (t : Term) → IsDerivable g t ↔ DerivableAt k n t

@@ -1,5 +1,6 @@
 -- What was sent before a node of a skeleton, by the order's pairs alone.
-use Rattle.std.specs.Prelude.{◌≡◌, ℕ, List, [], ◌∷◌, Option, Some, None}
+use Rattle.std.specs.Prelude.{◌≡◌, ℕ, List, [], ◌∷◌, Option, Some, None, refl}
+use Rattle.std.specs.Coded.{Coded, code_by, coded_list, coded_ℕ, coded×}
 use Rattle.cp_lists.specs.Lists.{item_at, IsIn}
 use Rattle.cp_model.specs.Term.{Term}
 use Rattle.cp_model.specs.declared.node.Node.{Node}
@@ -7,7 +8,8 @@ use Rattle.cp_model.specs.Skeleton.{Skeleton}
 use Rattle.cp_model.specs.declared.node.OrderPair.{OrderPair}
 use Rattle.cp_model.specs.Order.{ReachesAlong}
 use Rattle.cp_derive.specs.Given.{Given}
-use Rattle.cp_skel.specs.Events.{events_of}
+use Rattle.cp_skel.specs.Code.{coded_skeleton}
+use Rattle.cp_skel.specs.Events.{LocatedEvent, events_of}
 use Rattle.cp_derive.specs.Transmissions.{Transmission, transmissions_among}
 use Rattle.cp_derive.specs.Assumed.{assumed_values}
 
@@ -36,3 +38,18 @@ transmissions_of k = transmissions_among (events_of k)
 -- What is given where the transmissions at these places came before.
 abbrev pub given_by : Skeleton → List ℕ → Given
 given_by k places = record { sent = messages_at places (transmissions_of k); secrets = assumed_values k.assumptions }
+
+-- These are the events of a skeleton, what its role strands send, and its pairs.
+pub record IsSurveyed (k : Skeleton) (events : List LocatedEvent) (sent : List Transmission) (pairs : List OrderPair) : Type 0 where
+  pub all : events ≡ events_of k
+  pub transmissions : sent ≡ transmissions_of k
+  pub along : pairs ≡ k.pairs
+
+-- A skeleton, and places in the list of what its role strands send.
+pub record PlacesIn : Type 0 where
+  pub skeleton : Skeleton
+  pub places : List ℕ
+
+abbrev pub coded_places_in : Coded PlacesIn
+coded_places_in =
+    code_by (Skeleton × List ℕ) (coded× coded_skeleton (coded_list coded_ℕ)) (λ p. (p.skeleton, p.places)) (λ p. record { skeleton = p.0; places = p.1 }) (λ _. refl)

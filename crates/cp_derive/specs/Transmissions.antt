@@ -4,7 +4,7 @@ use Rattle.cp_model.specs.Term.{Term}
 use Rattle.cp_model.specs.declared.strand.Event.{Event}
 use Rattle.cp_model.specs.declared.strand.Event.TheVariants.{Send as send, Receive as recv}
 use Rattle.cp_model.specs.declared.node.Node.{Node}
-use Rattle.cp_skel.specs.declared.events.LocatedEvent.{LocatedEvent}
+use Rattle.cp_skel.specs.Events.{LocatedEvent}
 -- A message that a role strand sends at a node.
 pub use Rattle.cp_derive.specs.declared.transmission.Transmission.{Transmission}
 

@@ -29,6 +29,15 @@ fn add_uniques(uniques: &[UniqueAt], terms: &mut Vec<Term>) -> Result<(), AllocE
     Ok(())
 }
 
+/// How many values the assumptions have, or `usize::MAX` if there are more.
+fn count_of(assumptions: &Assumptions) -> usize {
+    let atoms = assumptions
+        .non_originating()
+        .len()
+        .saturating_add(assumptions.penetrator_non_originating().len());
+    atoms.saturating_add(assumptions.uniquely_originating().len())
+}
+
 /// The values of the assumptions: the atoms that the penetrator cannot make.
 pub(crate) fn assumed_values(
     alloc: Global,
@@ -36,9 +45,8 @@ pub(crate) fn assumed_values(
 ) -> Result<Vec<Term>, AllocError>
     ensures { IfOk result (λ ts. ts.items ≡ assumed_values assumptions.now) }
 {
-    let mut values = Vec::new(alloc);
+    let mut values = Vec::with_capacity(alloc, count_of(assumptions))?;
     add_atoms(assumptions.non_originating(), &mut values)?;
     add_atoms(assumptions.penetrator_non_originating(), &mut values)?;
-    add_uniques(assumptions.uniquely_originating(), &mut values)?;
-    Ok(values)
+    add_uniques(assumptions.uniquely_originating(), &mut values).map(|_| values)
 }

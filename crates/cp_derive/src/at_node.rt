@@ -16,7 +16,7 @@ use crate::before::sent_before;
 use crate::component::Critical;
 use crate::knowledge::Known;
 use crate::walk::critical_in;
-use cp_skel::{LocatedEvent, Node, Predecessors, Skeleton, comes_before};
+use cp_skel::{LocatedEvent, Node, Preceding, Skeleton};
 use cp_term::Term;
 use std::alloc::{AllocError, Global};
 use std::marker::Model;
@@ -25,23 +25,22 @@ use std::marker::Model;
 /// known at it.
 #[derive(Drop)]
 pub struct AtNode<'a> {
-    skeleton: &'a Skeleton,
-    node: Node,
-    events: Vec<LocatedEvent>,
-    predecessors: Predecessors<'a>,
+    preceding: Preceding<'a>,
+    events: Vec<LocatedEvent<'a>>,
     known: Known,
 }
 
 impl<'a> Model for AtNode<'a> {
-    ghost use Rattle.cp_derive.specs.AtNode.{SkeletonNode, coded_skeleton_node, IsAtNode};
+    ghost use Rattle.cp_skel.specs.Preceding.{SkeletonNode, coded_skeleton_node};
+    ghost use Rattle.cp_derive.specs.AtNode.{IsAtNode};
 
     ghost Value = { SkeletonNode };
 
     ghost coded = { coded_skeleton_node };
 
-    ghost view = { λ a. record { skeleton = a.skeleton.now; node = a.node } };
+    ghost view = { λ a. a.preceding };
 
-    ghost invariant = { λ a. IsAtNode a.skeleton.now a.node a.events.items a.predecessors a.known };
+    ghost invariant = { λ a. IsAtNode a.preceding a.events.items a.known };
 }
 
 impl<'a> AtNode<'a> {
@@ -50,17 +49,14 @@ impl<'a> AtNode<'a> {
         requires there { IsNodeOf k.now.strands node }
         ensures { IfOk result (λ at. at ≡ record { skeleton = k.now; node = node }) }
     {
-        k.is_sound();
         let events = k.events(alloc)?;
-        let predecessors = Predecessors::new(alloc, k.order().pairs(), node)?;
-        let sent = sent_before(alloc, &events, &predecessors, node)?;
+        let preceding = Preceding::of(alloc, k, node)?;
+        let sent = sent_before(alloc, &events, &preceding)?;
         let secrets = assumed_values(alloc, k.assumptions())?;
         let known = Known::new(alloc, sent, secrets)?;
         Ok(AtNode {
-            skeleton: k,
-            node,
+            preceding,
             events,
-            predecessors,
             known,
         })
     }
@@ -69,18 +65,18 @@ impl<'a> AtNode<'a> {
     pub fn skeleton(&self) -> &'a Skeleton
         ensures { result.now ≡ self.now.skeleton }
     {
-        self.skeleton
+        self.preceding.skeleton()
     }
 
     /// The node.
     pub fn node(&self) -> Node
         ensures { result ≡ self.now.node }
     {
-        self.node
+        self.preceding.node()
     }
 
     /// The events of the skeleton, each with its node, by strand and then by index.
-    pub fn events(&self) -> &[LocatedEvent]
+    pub fn events(&self) -> &[LocatedEvent<'a>]
         ensures { result.now ≡ events_of self.now.skeleton }
     {
         &self.events
@@ -90,7 +86,7 @@ impl<'a> AtNode<'a> {
     pub fn has_before(&self, other: Node) -> bool
         ensures { IsTrue result ↔ Before self.now.skeleton other self.now.node }
     {
-        comes_before(self.skeleton, &self.predecessors, other, self.node)
+        self.preceding.has(other)
     }
 
     /// What is known at the node: what is derivable from it is what is derivable there.
@@ -106,7 +102,7 @@ impl<'a> AtNode<'a> {
         ensures first { IfOk result (λ found. IfSome found (λ c. (e : PlainEvent Plain) → term_event_at self.now.skeleton.strands self.now.node ≡ Some e → IsFirstUnderivable (DerivableAt self.now.skeleton self.now.node) (payload e) c.path c.term)) }
         ensures place { IfOk result (λ found. IfSome found (λ c. (e : PlainEvent Plain) → term_event_at self.now.skeleton.strands self.now.node ≡ Some e → term_at (payload e) c.path ≡ Some c.term)) }
     {
-        match message_at(alloc, self.skeleton, self.node)? {
+        match message_at(alloc, self.skeleton(), self.node())? {
             Some(message) => critical_in(alloc, &self.known, &message),
             None => Ok(None),
         }
@@ -118,17 +114,14 @@ impl<'a> AtNode<'a> {
         ensures { result ≡ record { skeleton = k.now; node = self.entry.node } }
     {
         let AtNode {
-            skeleton: _,
-            node,
+            preceding,
             events,
-            predecessors,
             known,
         } = self;
+        let preceding = preceding.in_table(k);
         AtNode {
-            skeleton: k,
-            node,
+            preceding,
             events,
-            predecessors,
             known,
         }
     }
@@ -141,10 +134,8 @@ pub fn known(alloc: Global, k: &Skeleton, node: Node) -> Result<Known, AllocErro
     ensures given { IfOk result (λ known. (t : Plain) → IsDerivable known t ↔ DerivableAt k.now node t) }
 {
     let AtNode {
-        skeleton: _,
-        node: _,
+        preceding: _,
         events: _,
-        predecessors: _,
         known,
     } = AtNode::new(alloc, k, node)?;
     Ok(known)
@@ -156,10 +147,7 @@ pub fn message_at(alloc: Global, k: &Skeleton, node: Node) -> Result<Option<Term
 {
     match k.strands().get(node.strand) {
         Some(strand) => match strand.event(alloc, node.index)? {
-            Some(event) => {
-                let message = event.payload().copy()?;
-                Ok(Some(message))
-            }
+            Some(event) => event.payload().copy().map(Some),
             None => Ok(None),
         },
         None => Ok(None),

@@ -5,7 +5,7 @@ ghost use Rattle.cp_derive.specs.AtNode.{AreSentBefore};
 ghost use Rattle.cp_derive.specs.Before.{ArePlacesBefore, messages_at};
 
 use crate::transmission::Transmission;
-use cp_skel::{Event, LocatedEvent, Node, Predecessors, SortedPairs};
+use cp_skel::{Event, LocatedEvent, Node, Preceding, SortedPairs};
 use cp_term::Term;
 use std::alloc::{AllocError, Global};
 
@@ -46,7 +46,7 @@ pub(crate) fn messages_at(
 ) -> Result<Vec<Term>, AllocError>
     ensures { IfOk result (λ ts. ts.items ≡ messages_at places.now transmissions.now) }
 {
-    let mut messages = Vec::new(alloc);
+    let mut messages = Vec::with_capacity(alloc, places.len())?;
     for place in places {
         if let Some(sent) = message_of(transmissions, *place) {
             let message = sent.copy()?;
@@ -56,21 +56,20 @@ pub(crate) fn messages_at(
     Ok(messages)
 }
 
-/// The messages that role strands send at those of the events that are predecessors and not at the node.
+/// The messages that role strands send at those of the events that are before the node.
 pub(crate) fn sent_before(
     alloc: Global,
-    events: &[LocatedEvent],
-    predecessors: &Predecessors<'_>,
-    node: Node,
+    events: &[LocatedEvent<'_>],
+    preceding: &Preceding<'_>,
 ) -> Result<Vec<Term>, AllocError>
-    ensures { IfOk result (λ ts. AreSentBefore predecessors.now node events.now ts.items) }
+    ensures { IfOk result (λ ts. AreSentBefore preceding.now events.now ts.items) }
 {
     let mut sent = Vec::new(alloc);
     for located in events {
-        if !located.by_role || located.node == node || !predecessors.has(located.node) {
+        if !located.is_by_role() || !preceding.has(located.node()) {
             continue;
         }
-        if let Event::Send(message) = &located.event {
+        if let Event::Send(message) = located.event() {
             let message = message.copy()?;
             sent.push(message)?;
         }

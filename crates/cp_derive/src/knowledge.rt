@@ -58,6 +58,9 @@ impl Known {
     pub(crate) fn extended(self, alloc: Global, mut more: Vec<Term>) -> Result<Known, AllocError>
         ensures { IfOk result (λ k. k ≡ record { sent = self.sent ++ more.items; secrets = self.secrets }) }
     {
+        if more.is_empty() {
+            return Ok(self);
+        }
         let Known {
             mut sent,
             secrets,

@@ -15,6 +15,7 @@ mod known_before;
 mod laws;
 mod opened_terms;
 mod receptions;
+mod survey;
 mod transmission;
 mod walk;
 

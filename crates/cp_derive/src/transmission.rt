@@ -16,19 +16,19 @@ pub(crate) struct Transmission {
 /// The transmissions of role strands among these events.
 pub(crate) fn transmissions(
     alloc: Global,
-    occurrences: &[LocatedEvent],
+    occurrences: &[LocatedEvent<'_>],
 ) -> Result<Vec<Transmission>, AllocError>
     ensures { IfOk result (λ ts. ts.items ≡ transmissions_among occurrences.now) }
 {
     let mut transmissions = Vec::new(alloc);
     for occurrence in occurrences {
-        if !occurrence.by_role {
+        if !occurrence.is_by_role() {
             continue;
         }
-        if let Event::Send(message) = &occurrence.event {
+        if let Event::Send(message) = occurrence.event() {
             let message = message.copy()?;
             transmissions.push(Transmission {
-                node: occurrence.node,
+                node: occurrence.node(),
                 message,
             })?;
         }

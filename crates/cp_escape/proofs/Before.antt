@@ -8,8 +8,7 @@ use Rattle.cp_model.specs.declared.node.Node.{Node}
 use Rattle.cp_model.specs.Skeleton.{Skeleton}
 use Rattle.cp_model.specs.Derivable.{DerivableAt, sent_before}
 use Rattle.cp_model.specs.declared.step.Step.{Step}
-use Rattle.cp_skel.specs.Events.{events_of}
-use Rattle.cp_skel.specs.declared.events.LocatedEvent.{LocatedEvent}
+use Rattle.cp_skel.specs.Events.{LocatedEvent, events_of}
 use Rattle.cp_skel.proofs.EventLists.{listed_event, listed_role}
 use Rattle.cp_derive.specs.Given.{Given, IsDerivable}
 use Rattle.cp_cohort.specs.CoveringChildren.{IsTransmissionBefore}

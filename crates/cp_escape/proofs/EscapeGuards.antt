@@ -20,8 +20,7 @@ use Rattle.cp_theory.specs.Normal.{variables_of_terms}
 use Rattle.cp_model.specs.declared.step.Step.{Step}
 use Rattle.cp_model.specs.Positions.{term_at}
 use Rattle.cp_term.proofs.PositionLaws.{positions_found, carried_position}
-use Rattle.cp_skel.specs.Events.{events_of}
-use Rattle.cp_skel.specs.declared.events.LocatedEvent.{LocatedEvent}
+use Rattle.cp_skel.specs.Events.{LocatedEvent, events_of}
 use Rattle.cp_skel.proofs.EventLists.{listed_event, listed_role, is_role_at, located_event_at, listed_at}
 use Rattle.cp_model.proofs.UnderVariables.{carried_variables}
 use Rattle.cp_theory.specs.Above.{encryptions_above}

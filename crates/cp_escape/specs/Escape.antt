@@ -9,8 +9,7 @@ use Rattle.cp_model.specs.Same.{same_term}
 use Rattle.cp_model.specs.Tree.{Pattern}
 use Rattle.cp_model.specs.declared.step.Step.{Step}
 use Rattle.cp_model.specs.Positions.{positions_where}
-use Rattle.cp_skel.specs.Events.{events_of}
-use Rattle.cp_skel.specs.declared.events.LocatedEvent.{LocatedEvent}
+use Rattle.cp_skel.specs.Events.{LocatedEvent, events_of}
 use Rattle.cp_theory.specs.Above.{encryptions_above}
 use Rattle.cp_cohort.specs.CoveringChildren.{IsTransmissionBefore}
 use Rattle.cp_cohort.specs.GatheredLists.{EachGives, AreThoseWith, terms_onto}

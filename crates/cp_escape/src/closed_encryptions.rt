@@ -18,8 +18,7 @@ fn is_closed(alloc: Global, known: &Known, term: &Term) -> Result<bool, AllocErr
 {
     match term.shape() {
         Shape::Encryption(_, key) => {
-            let inverse = invert(alloc, key)?;
-            Ok(!buildable(known, &inverse))
+            invert(alloc, key).map(|inverse| !buildable(known, &inverse))
         }
         _ => Ok(false),
     }

@@ -31,7 +31,7 @@ fn closed_before(alloc: Global, test: &AtTest<'_>) -> Result<Vec<Term>, AllocErr
         if !is_sent_before(place, occurrence) {
             continue;
         }
-        let message = occurrence.event.payload();
+        let message = occurrence.event().payload();
         add_closed(alloc, known, message, critical, &mut encryptions)?;
     }
     Ok(encryptions)

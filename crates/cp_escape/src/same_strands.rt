@@ -21,8 +21,7 @@ fn is_same_message(
     ensures { IfOk result (λ answer. IsTrue answer ↔ (apply_to (substitution_by a.now) message.now ≡ apply_to (substitution_by b.now) message.now)) }
 {
     let first = applied(alloc, a, message)?;
-    let second = applied(alloc, b, message)?;
-    Ok(first.same(&second))
+    applied(alloc, b, message).map(|second| first.same(&second))
 }
 
 /// Whether the values `a` and `b` agree on the variables of a role's events.

@@ -80,8 +80,7 @@ fn outermost_staying(
     let encryptions = encryptions_above(alloc, message, path.as_slice())?;
     for encryption in &encryptions {
         if stays_closed(alloc, k, *encryption)? {
-            let first = encryption.copy()?;
-            return Ok(Some(first));
+            return encryption.copy().map(Some);
         }
     }
     Ok(None)
@@ -102,15 +101,16 @@ pub fn widen(
     ensures some { IfOk result (λ answer. IfSome answer (λ p. WidensBy k.now child.now path.now p)) }
     ensures none { IfOk result (λ answer. IfNone answer ((p : Plain) → WidensBy k.now child.now path.now p → ⊥)) }
 {
-    if !binds_nothing(alloc, k, child)? {
-        return Ok(None);
-    }
     let Some(message) = last_sent(alloc, k, child)? else {
         return Ok(None);
     };
     let Some(encryption) = outermost_staying(alloc, k, &message, path)? else {
         return Ok(None);
     };
+    // This looks at all strands, and most children give no pattern anyway.
+    if !binds_nothing(alloc, k, child)? {
+        return Ok(None);
+    }
     let locals = new_variables(alloc, k, &encryption)?;
     Ok(Some(Pattern::new(encryption, locals)))
 }

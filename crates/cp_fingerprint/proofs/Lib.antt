@@ -1,4 +1,7 @@
+mod PlaceShares
+mod PlaceWeights
 mod SumsBeside
+mod ValuePlaces
 pub mod Listed
 pub mod Listened
 pub mod NoMore

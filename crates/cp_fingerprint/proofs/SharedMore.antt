@@ -115,7 +115,7 @@ from_no_less n t xs l =
     subst (λ (k : ℕ). n ≤ k) (sym (weight_sum n t xs l))
     (subst (λ (k : ℕ). k ≤ kept (n + sum_of (here t) xs)) (min-eq_left l) (min_no_more bound n (n + sum_of (here t) xs) (omega arith)))
 
-named_within : (n : ℕ) (t : Term) (xs : List Slot) → n ≤ bound → named_from n t xs ≤ bound
+pub named_within : (n : ℕ) (t : Term) (xs : List Slot) → n ≤ bound → named_from n t xs ≤ bound
 named_within n (atom_term (key_term (symmetric_term (ltk_term c d)))) xs l =
     let name : ℕ → Term = λ k. atom_term (name_variable k) in
     from_within (weight_from (weight_from n (name c) xs) (name d) xs) (name d) xs (from_within (weight_from n (name c) xs) (name d) xs (from_within n (name c) xs l))

@@ -6,4 +6,5 @@ pub mod PartitionNumber
 pub mod Partition
 pub mod SharedValues
 pub mod Slots
+pub mod Values
 pub mod Weights

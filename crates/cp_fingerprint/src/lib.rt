@@ -3,11 +3,13 @@
 #![tactic(auto)]
 
 mod first_places;
+mod heard;
 mod heights;
 mod partition;
 mod shared_values;
 mod signature;
 mod slots;
+mod values;
 mod weights;
 
 pub use first_places::first_of;

@@ -4,7 +4,7 @@ ghost use Rattle.cp_model.specs.Homomorphism.{substitution_by};
 ghost use Rattle.cp_fingerprint.specs.Slots.{slot_key};
 ghost use Rattle.cp_fingerprint.specs.SharedValues.{text_number, place_weight, value_slots, prefix_slots, strand_slots, lists_of};
 
-use cp_skel::{Instance, Skeleton, Strand, StrandShape, occurs, prefix_of, value_of_variable};
+use cp_skel::{Instance, Role, Skeleton, Strand, StrandShape, value_of_variable};
 use cp_term::{Shape, Term, VarId};
 use std::alloc::{AllocError, Global};
 use std::marker::Model;
@@ -120,13 +120,14 @@ fn value_slots(alloc: Global, values: &[Term]) -> Result<Vec<Slot>, AllocError>
 fn instance_slots(alloc: Global, instance: &Instance) -> Result<Vec<Slot>, AllocError>
     ensures { IfOk result (λ v. v.items ≡ prefix_slots instance.now.role instance.now.height (substitution_by instance.now.values)) }
 {
-    let name = text_number(instance.role().name().as_bytes());
-    let prefix = prefix_of(instance.role(), instance.height());
-    let declarations = instance.role().variables();
+    let role: &Role = instance.role();
+    let height = instance.height();
+    let name = text_number(role.name().as_bytes());
+    let declarations = role.variables();
     let mut slots = Vec::with_capacity(alloc, declarations.len())?;
     for (number, declaration) in declarations.iter().enumerate() {
         let id = VarId::numbered(number);
-        if !occurs(prefix, id, declaration.sort) {
+        if !role.occurs_before(id, declaration.sort, height) {
             continue;
         }
         let value = value_of_variable(alloc, instance.values(), id, declaration.sort)?;

@@ -16,8 +16,7 @@ use Rattle.cp_model.specs.OrderTests.{reaches_within}
 use Rattle.cp_model.specs.Skeleton.{term_event_at, Skeleton, Before}
 use Rattle.cp_model.proofs.LawOrder.{before_leads, leads_before}
 use Rattle.cp_model.proofs.BoundedSearch.{bounded_search}
-use Rattle.cp_skel.specs.Events.{events_of}
-use Rattle.cp_skel.specs.declared.events.LocatedEvent.{LocatedEvent}
+use Rattle.cp_skel.specs.Events.{LocatedEvent, events_of}
 use Rattle.cp_skel.specs.Ordered.{IsOrdered}
 use Rattle.cp_skel.proofs.EventLists.{listed_event, located_event_at, listed_at}
 use Rattle.cp_derive.specs.Unrealised.{IsListedBefore, AreRising}

@@ -1,5 +1,5 @@
 -- The pairs of a skeleton's order in a list, and how they are gathered.
-use Rattle.cp_skel.specs.declared.events.LocatedEvent.{LocatedEvent}
+use Rattle.cp_skel.specs.Events.{LocatedEvent}
 use Rattle.std.specs.Prelude.{◌↔◌, ◌==◌, ◌&&◌, not, if◌then◌else◌, length, Bool, true, false, List, [], ◌∷◌, ◌++◌, map}
 use Rattle.std.specs.List.{filter}
 use Rattle.cp_lists.specs.Lists.{IsIn}

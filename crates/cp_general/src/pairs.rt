@@ -31,13 +31,13 @@ fn is_reception(event: &Event) -> bool
 }
 
 /// The nodes of the transmissions among these events.
-fn transmissions(alloc: Global, occurrences: &[LocatedEvent]) -> Result<Vec<Node>, AllocError>
+fn transmissions(alloc: Global, occurrences: &[LocatedEvent<'_>]) -> Result<Vec<Node>, AllocError>
     ensures { IfOk result (λ ns. ns.items ≡ nodes_where is_transmission occurrences.now) }
 {
     occurrences
         .iter()
-        .filter(|occurrence| is_transmission(&occurrence.event))
-        .map(|occurrence| occurrence.node)
+        .filter(|occurrence| is_transmission(occurrence.event()))
+        .map(|occurrence| occurrence.node())
         .collect(alloc)
 }
 
@@ -45,16 +45,16 @@ fn transmissions(alloc: Global, occurrences: &[LocatedEvent]) -> Result<Vec<Node
 fn receptions<'a>(
     alloc: Global,
     sorted: &SortedPairs<'a>,
-    occurrences: &[LocatedEvent],
+    occurrences: &[LocatedEvent<'_>],
 ) -> Result<Vec<Reception<'a>>, AllocError>
     ensures { IfOk result (λ rs. rs.items ≡ map (gathered sorted.now) (nodes_where is_reception occurrences.now)) }
 {
     let mut receptions = Vec::new(alloc);
     for occurrence in occurrences {
-        if !is_reception(&occurrence.event) {
+        if !is_reception(occurrence.event()) {
             continue;
         }
-        let node = occurrence.node;
+        let node = occurrence.node();
         let leading = sorted.predecessors_of(alloc, node)?;
         receptions.push(Reception { node, leading })?;
     }

@@ -36,8 +36,7 @@ fn is_broken(
     let Some(y) = image_of_node(placements, pair.later) else {
         return Ok(false);
     };
-    let leads = leads_to_another(alloc, others, x, y)?;
-    Ok(!leads)
+    leads_to_another(alloc, others, x, y).map(|leads| !leads)
 }
 
 /// Fast test: true only if no map with these placements keeps the pairs. It looks only at pairs that have a node on this strand

@@ -45,6 +45,5 @@ pub fn isomorphic(alloc: Global, a: &Skeleton, b: &Skeleton) -> Result<bool, All
     if embed_by_search(alloc, a, b)?.is_none() {
         return Ok(false);
     }
-    let back = embed_by_search(alloc, b, a)?;
-    Ok(back.is_some())
+    embed_by_search(alloc, b, a).map(|back| back.is_some())
 }

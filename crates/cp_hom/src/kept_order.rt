@@ -144,8 +144,7 @@ pub(crate) fn leads_to_another(
     if leads_over_one(pairs, x, y) {
         return Ok(true);
     }
-    let leading = Predecessors::new(alloc, pairs, y)?;
-    Ok(leading.has(x))
+    Predecessors::new(alloc, pairs, y).map(|leading| leading.has(x))
 }
 
 /// Whether the map keeps the pairs: in each image the earlier node reaches the later one, a different one, along the other

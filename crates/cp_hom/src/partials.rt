@@ -123,11 +123,10 @@ impl Partial {
     pub(crate) fn copy(&self, alloc: Global) -> Result<Partial, AllocError>
         ensures { IfOk result (λ p. partial_view p ≡ partial_view self.now) }
     {
-        let values = self.values.copy(alloc)?;
-        Ok(Partial {
-            placements: Vec::from_slice(alloc, &self.placements)?,
-            values,
-        })
+        let placements = Vec::from_slice(alloc, &self.placements)?;
+        self.values
+            .copy(alloc)
+            .map(|values| Partial { placements, values })
     }
 
     /// The total map: what the partial map does not determine stays as it is.

@@ -132,12 +132,12 @@ fn push_placed(branch: Branch, branches: &mut Vec<Branch>) -> Result<(), AllocEr
     requires done { branch.done < 2 ^ 64 - 1 }
     ensures { OnOk result (branches_view branches.new.items ≡ branches_view branches.old.items ++ (placed_map (branch_view branch) ∷ [])) }
 {
-    branches.push(Branch {
+    let placed = Branch {
         done: branch.done + 1,
         choice: 0,
         given: branch.given,
-    })?;
-    Ok(())
+    };
+    branches.push(placed).map_err(AllocError::from)
 }
 
 /// Takes one step from a branch. If the next item is placed already, or its next possible choice surely holds, goes on to the

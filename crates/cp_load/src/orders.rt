@@ -71,8 +71,7 @@ pub fn closes_cycle(
     if !some_ends_before(before, pair.earlier) {
         return Ok(false);
     }
-    let leading = Predecessors::new(alloc, before, pair.earlier)?;
-    Ok(leading.has(pair.later))
+    Predecessors::new(alloc, before, pair.earlier).map(|leading| leading.has(pair.later))
 }
 
 /// The pair of two nodes, if both are there.

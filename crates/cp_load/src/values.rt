@@ -82,11 +82,11 @@ fn own_assumptions(
 ) -> Result<Assumptions, AllocError>
     ensures { IfOk result (λ a. a ≡ own_assumptions declared.now strands.now (map view body.now)) }
 {
-    Ok(Assumptions::new(
-        own_atoms(alloc, declared, Kind::Non, body)?,
-        own_atoms(alloc, declared, Kind::PenetratorNon, body)?,
-        own_uniques(alloc, declared, strands, body)?,
-    ))
+    Assumptions::of(
+        own_atoms(alloc, declared, Kind::Non, body),
+        own_atoms(alloc, declared, Kind::PenetratorNon, body),
+        own_uniques(alloc, declared, strands, body),
+    )
 }
 
 /// The numbers of these strands.

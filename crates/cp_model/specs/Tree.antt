@@ -99,8 +99,8 @@ pub record IsLabelOf (protocol : Protocol) (problem : Skeleton) (label : Label) 
   pub realised : label.mark ≡ Some shape → IsRealised protocol label.skeleton
 
 -- No shape embeds in another.
-abbrev pub AreApart : List Label → Type 0
-AreApart labels = (i j : ℕ) (l m : Label) → item_at labels i ≡ Some l → item_at labels j ≡ Some m → l.mark ≡ Some shape → m.mark ≡ Some shape → i ≢ j → Embeds l.skeleton m.skeleton → ⊥
+abbrev pub NoShapeEmbedsInAnother : List Label → Type 0
+NoShapeEmbedsInAnother labels = (i j : ℕ) (l m : Label) → item_at labels i ≡ Some l → item_at labels j ≡ Some m → l.mark ≡ Some shape → m.mark ≡ Some shape → i ≢ j → Embeds l.skeleton m.skeleton → ⊥
 
 -- A limit is the outcome only where its stated bound was reached.
 pub record HasReachedLimit (limits : Limits) (tree : Tree) : Type 0 where
@@ -112,7 +112,7 @@ pub record HasReachedLimit (limits : Limits) (tree : Tree) : Type 0 where
 -- label at a limit through which it does.
 pub record IsTrueOf (protocol : Protocol) (problem : Skeleton) (limits : Limits) (tree : Tree) : Type 0 where
   pub labels : (i : ℕ) (l : Label) → item_at tree.labels i ≡ Some l → IsLabelOf protocol problem l
-  pub apart : AreApart tree.labels
+  pub apart : NoShapeEmbedsInAnother tree.labels
   pub nothing_missed : tree.outcome ≡ complete → IsCompleteList protocol problem (shapes_of tree.labels)
   pub nothing_left_out : IsCompleteList protocol problem (skeletons_left tree.labels)
   pub limit_reached : HasReachedLimit limits tree

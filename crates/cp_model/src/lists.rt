@@ -58,8 +58,7 @@ impl<T: Drop> Sequence<T> {
         ensures ok { OnOk result (self.new ≡ self.old ++ item ∷ []) }
         ensures err { OnErr result (self.new ≡ self.old) }
     {
-        self.items.push(item)?;
-        Ok(())
+        self.items.push(item).map_err(AllocError::from)
     }
 
     /// The items.

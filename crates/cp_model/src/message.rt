@@ -76,8 +76,9 @@ impl Msg {
     fn made(alloc: Global, form: Form) -> Result<Msg, AllocError>
         ensures { IfOk result (λ m. m ≡ message_of_form form) }
     {
-        let node = Rc::new(alloc, form)?;
-        Ok(Msg { node })
+        Rc::new(alloc, form)
+            .map(|node| Msg { node })
+            .map_err(AllocError::from)
     }
 
     /// The outermost form of the message.

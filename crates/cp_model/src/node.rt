@@ -1,7 +1,7 @@
 // Nodes, and pairs of them.
 
 /// A node: the number of a strand, and the index of an event on it, both from 0.
-#[derive(Clone, Copy, Debug, PartialEq, Eq)]
+#[derive(Clone, Copy, Debug, Default, PartialEq, Eq)]
 pub struct Node {
     pub strand: usize,
     pub index: usize,

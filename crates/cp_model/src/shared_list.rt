@@ -89,7 +89,8 @@ impl<T: Clone + Drop> SharedList<T> {
         if more.is_empty() {
             return self.copy(alloc);
         }
-        let mut items = Vec::from_clones(alloc, own)?;
+        let mut items = Vec::with_capacity(alloc, own.len().saturating_add(more.len()))?;
+        items.extend_with_clones(own)?;
         items.extend_with_clones(more)?;
         Ok(SharedList::of(items))
     }

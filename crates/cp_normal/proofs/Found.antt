@@ -9,8 +9,7 @@ use Rattle.cp_model.specs.Skeleton.{SkeletonStrand, instance, listener, skeleton
 use Rattle.cp_model.specs.declared.node.OrderPair.{OrderPair}
 use Rattle.cp_model.specs.Derivable.{IsOnInstance}
 use Rattle.cp_model.specs.Realisation.{OriginatesAtTerm}
-use Rattle.cp_skel.specs.Events.{events_of}
-use Rattle.cp_skel.specs.declared.events.LocatedEvent.{LocatedEvent}
+use Rattle.cp_skel.specs.Events.{LocatedEvent, events_of}
 use Rattle.cp_collapse.specs.Property.{Has}
 use Rattle.cp_normal.specs.Events.{Gathers, CarriesOne, HasOtherOrigin, IsSentAtOrigin, IsCarriedBefore, IsPairBetween}
 use Rattle.cp_collapse.specs.Partitions.{is_some_instance}

@@ -13,8 +13,7 @@ use Rattle.cp_model.specs.declared.node.Node.{Node}
 use Rattle.cp_model.specs.Skeleton.{SkeletonStrand, skeleton_trace, skeleton_trace_or_none, Skeleton}
 use Rattle.cp_model.specs.Given.{atoms_onto}
 use Rattle.cp_model.proofs.Gathered.{onto-append, onto-takes, onto-only, atoms as gathering}
-use Rattle.cp_skel.specs.Events.{is_role_strand, located_events_on, located_events_from, events_of}
-use Rattle.cp_skel.specs.declared.events.LocatedEvent.{LocatedEvent}
+use Rattle.cp_skel.specs.Events.{LocatedEvent, is_role_strand, located_events_on, located_events_from, events_of}
 use Rattle.cp_normal.specs.ReceivedAtomLists.{carried_atoms, received_atoms, heard_in, heard_before, heard_of, heard_among}
 use Rattle.cp_normal.specs.NormalForms.{IsReceivedBefore}
 

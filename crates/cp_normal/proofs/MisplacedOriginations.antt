@@ -14,8 +14,7 @@ use Rattle.cp_model.specs.Given.{listed}
 use Rattle.cp_model.specs.Skeleton.{SkeletonStrand, skeleton_trace, term_event_at, UniqueAt, Skeleton}
 use Rattle.cp_skel.proofs.EachOnce.{listed-unique}
 use Rattle.cp_skel.proofs.EventLists.{listed_event, located_event_at, listed_at}
-use Rattle.cp_skel.specs.Events.{is_role_strand, located_events_on, located_events_from, events_of}
-use Rattle.cp_skel.specs.declared.events.LocatedEvent.{LocatedEvent}
+use Rattle.cp_skel.specs.Events.{LocatedEvent, is_role_strand, located_events_on, located_events_from, events_of}
 use Rattle.cp_normal.specs.NormalForms.{IsMisplaced}
 use Rattle.cp_normal.specs.Branches.{IsSettled}
 use Rattle.cp_normal.specs.MisplacedValues.{OriginatesElsewhere, OriginatesMisplaced, NoneBefore, IsFirstMisplacedAt, IsEarlier, IsFirstMisplaced}

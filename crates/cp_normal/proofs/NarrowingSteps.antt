@@ -1,5 +1,5 @@
 -- Steps of narrowing, and the normal forms to which they lead.
-use Rattle.std.proofs.Common.{◌≡◌, ◌<◌, List, [], ◌∷◌, ◌++◌, map, refl, sym, ap, ◌∙◌, subst, ⊎_elim}
+use Rattle.std.proofs.Common.{◌≡◌, ◌⊎◌, inl, inr, ◌<◌, List, [], ◌∷◌, map, refl, sym, ap, ◌∙◌, subst, ⊎_elim}
 use Rattle.std.proofs.lemmas.List.{map-append}
 use Rattle.cp_lists.specs.Lists.{IsIn, here, there}
 use Rattle.cp_lists.proofs.Items.{at_place}
@@ -162,18 +162,16 @@ leaves_are_beside f rs leaves = are_forms_beside f rs (leaves_are_forms leaves) 
 
 -- ---- what the program makes
 
-pub refuted_narrowed : (f : Form) (made : List (Candidate Form Form)) → IsRefuted f.skeleton → made ≡ [] → NarrowsInto f made
-refuted_narrowed f made r e = subst (NarrowsInto f) (sym e) (none_if_refuted r)
-
-pub cyclic_narrowed : (f : Form) (made : List (Candidate Form Form)) → IsSettled f.skeleton → IsContradictory f.skeleton → made ≡ [] → NarrowsInto f made
-cyclic_narrowed f made s c e = subst (NarrowsInto f) (sym e) (none_if_cyclic s c)
+pub ends_narrowed : (f : Form) (made : List (Candidate Form Form)) → IsRefuted f.skeleton ⊎ (IsSettled f.skeleton × IsContradictory f.skeleton) → made ≡ [] → NarrowsInto f made
+ends_narrowed f made (inl r) e = subst (NarrowsInto f) (sym e) (none_if_refuted r)
+ends_narrowed f made (inr s) e = subst (NarrowsInto f) (sym e) (none_if_cyclic s.0 s.1)
 
 pub branches_narrowed : (f : Form) (v : AtomTerm) (x : Node) (atoms : List AtomTerm) (made : List (Candidate Form Form)) → (IsRefuted f.skeleton → ⊥) → IsFirstMisplaced f.skeleton v x → atoms ≡ heard_before f.skeleton x →
     AreOpenBranches f v atoms made → NarrowsInto f made
 branches_narrowed f v x atoms made consistent misplaced in_order are = into_branches consistent misplaced (subst (λ (vs : List AtomTerm). AreOpenBranches f v vs made) in_order are)
 
-pub form_narrowed : (f r : Form) (pairs : List OrderPair) (none_yet made : List (Candidate Form Form)) → IsSettled f.skeleton → AreNormalPairs f.skeleton pairs × (IsContradictory f.skeleton → ⊥) → r.skeleton ≡ with_pairs f.skeleton pairs →
-    r.substitution ≡ f.substitution → none_yet ≡ [] → made ≡ none_yet ++ Done r ∷ [] → NarrowsInto f made
-form_narrowed f r pairs none_yet made settled are same substitution e is =
-    subst (NarrowsInto f) (sym (is ∙ ap (λ (cs : List (Candidate Form Form)). cs ++ Done r ∷ []) e))
+pub form_narrowed : (f r : Form) (pairs : List OrderPair) (made : List (Candidate Form Form)) → IsSettled f.skeleton → AreNormalPairs f.skeleton pairs × (IsContradictory f.skeleton → ⊥) → r.skeleton ≡ with_pairs f.skeleton pairs →
+    r.substitution ≡ f.substitution → made ≡ Done r ∷ [] → NarrowsInto f made
+form_narrowed f r pairs made settled are same substitution is =
+    subst (NarrowsInto f) (sym is)
     (into_form (record { settled = settled; pairs = pairs; normal = are.0; consistent = are.1; same = same; variables = ap (λ (k : Skeleton). k.variables) same; substitution = substitution }))

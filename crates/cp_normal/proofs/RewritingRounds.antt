@@ -39,13 +39,6 @@ module _ {I D : Type 0} (becomes : I → List (Candidate I D) → Type 0) where
   both _ ms _ es (of_first {c = c} {cs = cs} {ds = front} {es = back} one rest) h =
       subst (λ (zs : List D). EachHasLeaves becomes (c ∷ (cs ++ ms)) zs) (sym (append_assoc front back es)) (of_first one (both cs ms back es rest h))
 
-  one_alone : (c : Candidate I D) (cs : List (Candidate I D)) (ds : List D) → cs ≡ c ∷ [] → EachHasLeaves becomes cs ds → LeavesOf becomes c ds
-  one_alone c [] ds e h = absurd (cc)
-  one_alone c (x ∷ []) _ e (of_first {ds = front} one of_none) =
-      let q : x ≡ c = cc in
-      subst (λ (zs : List D). LeavesOf becomes c zs) (sym (append-nil front)) (subst (λ (z : Candidate I D). LeavesOf becomes z front) q one)
-  one_alone c (x ∷ y ∷ ys) ds e h = absurd (cc)
-
   -- What an item becomes stands in its place.
   placed : (x : I) (made : List (Candidate I D)) → becomes x made → (done rest : List (Candidate I D)) (ds : List D) → EachHasLeaves becomes ((done ++ made) ++ rest) ds → EachHasLeaves becomes (done ++ Open x ∷ rest) ds
   placed x made b done rest ds h =
@@ -150,8 +143,8 @@ pub record IsReached {I D : Type 0} (becomes : I → List (Candidate I D) → Ty
   pub leads : (ds : List D) → EachHasLeaves becomes candidates ds → LeavesOf becomes (Open x) ds
 
 module _ {I D : Type 0} (becomes : I → List (Candidate I D) → Type 0) (x : I) where
-  pub reached_at_first : (candidates : List (Candidate I D)) → candidates ≡ Open x ∷ [] → IsReached becomes x candidates
-  reached_at_first candidates e = record { leads = λ ds h. one_alone becomes (Open x) candidates ds e h }
+  pub reached_at_first : (candidates : List (Candidate I D)) → becomes x candidates → IsReached becomes x candidates
+  reached_at_first candidates b = record { leads = λ ds h. of_item b h }
 
   pub reached_next : (old new : List (Candidate I D)) → IsReached becomes x old → IsRound becomes old new → IsReached becomes x new
   reached_next old new reached r = record { leads = λ ds h. reached.leads ds (r.leads ds h) }

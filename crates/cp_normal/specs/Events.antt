@@ -6,7 +6,7 @@ use Rattle.cp_model.specs.Strand.{payload}
 use Rattle.cp_model.specs.declared.strand.Event.TheVariants.{Send as send, Receive as recv}
 use Rattle.cp_model.specs.Skeleton.{UniqueAt}
 use Rattle.cp_model.specs.declared.node.OrderPair.{OrderPair}
-use Rattle.cp_skel.specs.declared.events.LocatedEvent.{LocatedEvent}
+use Rattle.cp_skel.specs.Events.{LocatedEvent}
 use Rattle.cp_collapse.specs.Property.{Has}
 
 -- The new pairs are the old ones, and those that an item of the list gives.

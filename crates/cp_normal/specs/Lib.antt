@@ -8,6 +8,7 @@ pub mod MisplacedValues
 pub mod Branched
 pub mod Exact
 pub mod Candidates
+pub mod NextSteps
 pub mod Example
 pub mod BySubstitution
 pub mod Formed

@@ -7,7 +7,7 @@ use Rattle.cp_model.specs.Skeleton.{UniqueAt, Skeleton}
 use Rattle.cp_model.specs.Realisation.{OriginatesAtTerm}
 use Rattle.cp_model.specs.Given.{listed}
 use Rattle.cp_normal.specs.NormalForms.{IsMisplaced}
-use Rattle.cp_skel.specs.declared.events.LocatedEvent.{LocatedEvent}
+use Rattle.cp_skel.specs.Events.{LocatedEvent}
 
 -- The value originates at the node, which is not its recorded origin.
 abbrev pub OriginatesElsewhere : Skeleton → Node → UniqueAt → Type 0

@@ -7,7 +7,7 @@ use Rattle.cp_model.specs.declared.strand.Event.TheVariants.{Send as send, Recei
 use Rattle.cp_model.specs.declared.node.Node.{Node}
 use Rattle.cp_model.specs.Skeleton.{Skeleton, skeleton_trace_or_none}
 use Rattle.cp_model.specs.Given.{atoms_onto}
-use Rattle.cp_skel.specs.declared.events.LocatedEvent.{LocatedEvent}
+use Rattle.cp_skel.specs.Events.{LocatedEvent}
 
 -- The atoms that a term carries, in preorder, left before right.
 abbrev pub carried_atoms : Term → List AtomTerm

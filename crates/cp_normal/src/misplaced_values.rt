@@ -9,7 +9,7 @@ ghost use Rattle.cp_normal.specs.MisplacedValues.{OriginatesElsewhere, IsFirstMi
 
 use crate::carried_values::carries_value;
 use crate::origins::originates;
-use cp_skel::{Atom, LocatedEvent, Node, Skeleton, UniqueAt, listed};
+use cp_skel::{Atom, ListedSkeleton, LocatedEvent, Node, UniqueAt, listed};
 use std::alloc::{AllocError, Global};
 
 /// A unique value, and a node of a role strand at which it originates and that is not its recorded origin.
@@ -19,57 +19,54 @@ pub(crate) struct Misplaced {
     pub(crate) node: Node,
 }
 
-/// Whether a unique value is misplaced at this event. `occurrences` are the events of the skeleton.
+/// Whether a unique value is misplaced at this event.
 fn originates_elsewhere(
-    k: &Skeleton,
-    occurrences: &[LocatedEvent],
-    occurrence: &LocatedEvent,
+    k: &ListedSkeleton<'_>,
+    occurrence: &LocatedEvent<'_>,
     unique: &UniqueAt,
 ) -> bool
-    requires listed { occurrences.now ≡ events_of k.now }
     requires is_there { IsIn occurrence.now (events_of k.now) }
     ensures { IsTrue result ↔ OriginatesElsewhere k.now occurrence.now.node unique.now }
 {
-    if occurrence.node == unique.origin() {
+    let node = occurrence.node();
+    if node == unique.origin() {
         return false;
     }
     let value = unique.value();
     if !carries_value(occurrence, value) {
         return false;
     }
-    originates(k, occurrences, value, occurrence.node)
+    originates(k, value, node)
 }
 
-/// The value of the first entry that is misplaced at this event. `occurrences` are the events of the skeleton.
+/// The value of the first entry that is misplaced at this event.
 fn first_at<'a>(
-    k: &Skeleton,
-    occurrences: &[LocatedEvent],
-    occurrence: &LocatedEvent,
+    k: &ListedSkeleton<'_>,
+    occurrence: &LocatedEvent<'_>,
     uniques: &'a [UniqueAt],
 ) -> Option<&'a Atom>
-    requires listed { occurrences.now ≡ events_of k.now }
     requires is_there { IsIn occurrence.now (events_of k.now) }
     ensures { MatchOption result
         ((u : Plain) → IsIn u uniques.now → OriginatesElsewhere k.now occurrence.now.node u → ⊥)
         (λ v. IsFirstMisplacedAt k.now occurrence.now.node uniques.now v.now) }
 {
     for unique in uniques {
-        if originates_elsewhere(k, occurrences, occurrence, unique) {
+        if originates_elsewhere(k, occurrence, unique) {
             return Some(unique.value());
         }
     }
     None
 }
 
-/// Whether some unique value is misplaced. `occurrences` are the events of the skeleton.
-pub(crate) fn some_is_misplaced(k: &Skeleton, occurrences: &[LocatedEvent]) -> bool
-    requires listed { occurrences.now ≡ events_of k.now }
+/// Whether some unique value is misplaced.
+pub(crate) fn some_is_misplaced(k: &ListedSkeleton<'_>) -> bool
     ensures none { result ≡ false → IsSettled k.now }
     ensures some { IsTrue result → IsSettled k.now → ⊥ }
 {
-    let uniques = k.assumptions().uniquely_originating();
+    let occurrences = k.events();
+    let uniques = k.skeleton().assumptions().uniquely_originating();
     for occurrence in occurrences {
-        match first_at(k, occurrences, occurrence, uniques) {
+        match first_at(k, occurrence, uniques) {
             Some(_) => return true,
             None => {}
         }
@@ -77,24 +74,22 @@ pub(crate) fn some_is_misplaced(k: &Skeleton, occurrences: &[LocatedEvent]) -> b
     false
 }
 
-/// The first unique value that is misplaced. `occurrences` are the events of the skeleton, and the unique values are listed in
-/// report order.
+/// The first unique value that is misplaced. The unique values are listed in report order.
 fn first_among(
-    k: &Skeleton,
-    occurrences: &[LocatedEvent],
+    k: &ListedSkeleton<'_>,
     uniques: &[UniqueAt],
 ) -> Result<Option<Misplaced>, AllocError>
-    requires listed { occurrences.now ≡ events_of k.now }
     requires in_order { uniques.now ≡ (listed k.now).uniquely_originating }
     ensures { IfOk result (λ found. MatchOption found
         (IsSettled k.now)
         (λ s. IsFirstMisplaced k.now s.value s.node)) }
 {
+    let occurrences = k.events();
     for occurrence in occurrences {
-        match first_at(k, occurrences, occurrence, uniques) {
+        match first_at(k, occurrence, uniques) {
             Some(found) => {
                 let value = found.copy()?;
-                let node = occurrence.node;
+                let node = occurrence.node();
                 return Ok(Some(Misplaced { value, node }));
             }
             None => {}
@@ -104,20 +99,18 @@ fn first_among(
 }
 
 /// The first unique value that is misplaced: by the strand of the node where it originates, then the node's index, then the
-/// report order of unique values. They are sorted only if some value is misplaced. `occurrences` are the events of the skeleton.
+/// report order of unique values. They are sorted only if some value is misplaced.
 pub(crate) fn first_misplaced(
     alloc: Global,
-    k: &Skeleton,
-    occurrences: &[LocatedEvent],
+    k: &ListedSkeleton<'_>,
 ) -> Result<Option<Misplaced>, AllocError>
-    requires listed { occurrences.now ≡ events_of k.now }
     ensures { IfOk result (λ found. MatchOption found
         (IsSettled k.now)
         (λ s. IsFirstMisplaced k.now s.value s.node)) }
 {
-    if !some_is_misplaced(k, occurrences) {
+    if !some_is_misplaced(k) {
         return Ok(None);
     }
-    let assumptions = listed(alloc, k)?;
-    first_among(k, occurrences, assumptions.uniquely_originating())
+    let assumptions = listed(alloc, k.skeleton())?;
+    first_among(k, assumptions.uniquely_originating())
 }

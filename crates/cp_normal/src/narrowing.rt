@@ -1,53 +1,82 @@
 // Narrowing: the steps by which a skeleton comes to its normal forms.
-ghost use Rattle.std.specs.Prelude.{◌≡◌, IfOk};
-ghost use Rattle.cp_skel.specs.Events.{events_of};
+ghost use Rattle.std.specs.Prelude.{Some, IfOk};
 ghost use Rattle.cp_normal.specs.Branches.{IsSettled};
 ghost use Rattle.cp_normal.specs.Candidates.{NarrowsInto};
-ghost use Rattle.cp_normal.specs.Exact.{IsRefuted};
+ghost use Rattle.cp_normal.specs.Findings.{IsNormalised};
+ghost use Rattle.cp_normal.specs.NextSteps.{IsNextOf};
 
 use crate::form::Form;
-use crate::misplaced_values::first_misplaced;
+use crate::misplaced_values::{Misplaced, first_misplaced};
 use crate::normal::{is_refuted, normal_pairs_among};
 use crate::received_atoms::atoms_received;
 use crate::rewriting::{Candidate, Rewriting};
 use crate::unified_branches::branches;
-use cp_skel::LocatedEvent;
+use cp_skel::{Atom, ListedSkeleton, OrderPair, Skeleton};
 use std::alloc::{AllocError, Global};
 
 /// Rewrites a skeleton to its normal forms.
 #[derive(Drop)]
 pub(crate) struct Narrowing;
 
-/// The normal form of a skeleton in which no unique value is misplaced and whose assumptions do not contradict what its nodes
-/// carry; nothing if it contradicts itself nevertheless. `occurrences` are its events.
+/// What narrowing makes of a skeleton next.
+#[derive(Drop)]
+enum Next {
+    /// Nothing.
+    Ends,
+    /// The branches by a misplaced value and the atoms received before it.
+    Branches(Misplaced, Vec<Atom>),
+    /// The normal form, with these pairs.
+    Settles(Vec<OrderPair>),
+}
+
+/// What narrowing makes of the skeleton next.
+fn next_among(alloc: Global, k: &ListedSkeleton<'_>) -> Result<Next, AllocError>
+    ensures { IfOk result (λ next. IsNextOf k.now next) }
+{
+    if is_refuted(k) {
+        return Ok(Next::Ends);
+    }
+    match first_misplaced(alloc, k)? {
+        Some(misplaced) => {
+            let atoms = atoms_received(alloc, k.events(), misplaced.node)?;
+            Ok(Next::Branches(misplaced, atoms))
+        }
+        None => match normal_pairs_among(alloc, k)? {
+            Some(pairs) => Ok(Next::Settles(pairs)),
+            None => Ok(Next::Ends),
+        },
+    }
+}
+
+/// What narrowing makes of the skeleton next. The skeleton's events are listed only here.
+fn next_of(alloc: Global, k: &Skeleton) -> Result<Next, AllocError>
+    ensures { IfOk result (λ next. IsNextOf k.now next) }
+{
+    let listed = ListedSkeleton::of(alloc, k)?;
+    next_among(alloc, &listed)
+}
+
+/// The normal form of a skeleton in which no unique value is misplaced, given the pairs of that form.
 fn settled(
     alloc: Global,
     form: Form,
-    occurrences: &[LocatedEvent],
+    pairs: Vec<OrderPair>,
 ) -> Result<Vec<Candidate<Form, Form>>, AllocError>
-    requires listed { occurrences.now ≡ events_of form.skeleton }
-    requires consistent { IsRefuted form.skeleton → ⊥ }
     requires settled { IsSettled form.skeleton }
+    requires normal { IsNormalised form.skeleton (Some pairs.items) }
     ensures { IfOk result (λ made. NarrowsInto form made.items) }
 {
-    match normal_pairs_among(alloc, &form.skeleton, occurrences)? {
-        Some(pairs) => {
-            let Form {
-                skeleton,
-                substitution,
-            } = form;
-            skeleton.is_sound();
-            let skeleton = skeleton.with_pairs(alloc, pairs)?;
-            let normal = Form {
-                skeleton,
-                substitution,
-            };
-            let mut made = Vec::new(alloc);
-            made.push(Candidate::Done(normal))?;
-            Ok(made)
-        }
-        None => Ok(Vec::new(alloc)),
-    }
+    let Form {
+        skeleton,
+        substitution,
+    } = form;
+    skeleton.is_sound();
+    let skeleton = skeleton.with_pairs(alloc, pairs)?;
+    let normal = Form {
+        skeleton,
+        substitution,
+    };
+    Ok(vec![in alloc; Candidate::Done(normal)]?)
 }
 
 impl Rewriting for Narrowing {
@@ -58,18 +87,12 @@ impl Rewriting for Narrowing {
     ghost becomes = { λ _. NarrowsInto };
 
     /// Nothing if the assumptions contradict what the nodes carry; the branches if a unique value is misplaced; nothing if the
-    /// pairs of the normal form close a cycle; otherwise the normal form. The skeleton's events are listed only here.
+    /// pairs of the normal form close a cycle; otherwise the normal form.
     fn step(&self, alloc: Global, form: Form) -> Result<Vec<Candidate<Form, Form>>, AllocError> {
-        let occurrences = form.skeleton.events(alloc)?;
-        if is_refuted(&form.skeleton, &occurrences) {
-            return Ok(Vec::new(alloc));
-        }
-        match first_misplaced(alloc, &form.skeleton, &occurrences)? {
-            Some(misplaced) => {
-                let atoms = atoms_received(alloc, &occurrences, misplaced.node)?;
-                branches(alloc, &form, &misplaced.value, &atoms)
-            }
-            None => settled(alloc, form, &occurrences),
+        match next_of(alloc, &form.skeleton)? {
+            Next::Ends => Ok(Vec::new(alloc)),
+            Next::Branches(misplaced, atoms) => branches(alloc, &form, &misplaced.value, &atoms),
+            Next::Settles(pairs) => settled(alloc, form, pairs),
         }
     }
 }

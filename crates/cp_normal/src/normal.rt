@@ -1,6 +1,5 @@
 // Tests whether a skeleton is normal, and computes the pairs of its normal form.
-ghost use Rattle.std.specs.Prelude.{◌≡◌, ◌↔◌, option_map, IsTrue, IfOk};
-ghost use Rattle.cp_skel.specs.Events.{events_of};
+ghost use Rattle.std.specs.Prelude.{◌↔◌, option_map, IsTrue, IfOk};
 ghost use Rattle.cp_normal.specs.Exact.{IsRefuted};
 ghost use Rattle.cp_normal.specs.Findings.{AreNormalPairs, IsNormalised};
 ghost use Rattle.cp_normal.specs.NormalForms.{IsNormal};
@@ -11,34 +10,28 @@ use crate::origins::{has_two_origins, some_loses_origin};
 use crate::own_pairs::{add_others, all_lead, keys_of};
 use crate::pairs::pairs_among;
 use cp_collapse::some_is_closed;
-use cp_skel::{LocatedEvent, OrderPair, Skeleton};
+use cp_skel::{ListedSkeleton, OrderPair, Skeleton};
 use std::alloc::{AllocError, Global};
 
-/// Whether the assumptions contradict what the nodes carry. `occurrences` are the events of the skeleton.
-pub(crate) fn is_refuted(k: &Skeleton, occurrences: &[LocatedEvent]) -> bool
-    requires listed { occurrences.now ≡ events_of k.now }
+/// Whether the assumptions contradict what the nodes carry.
+pub(crate) fn is_refuted(k: &ListedSkeleton<'_>) -> bool
     ensures { IsTrue result ↔ IsRefuted k.now }
 {
-    if some_carries_non_originating(k, occurrences) {
+    if some_carries_non_originating(k) {
         return true;
     }
-    if has_two_origins(k) {
+    if has_two_origins(k.skeleton()) {
         return true;
     }
-    some_loses_origin(k, occurrences)
+    some_loses_origin(k)
 }
 
-/// The skeleton's own pairs, followed by the other pairs that unique values add. `occurrences` are the events of the skeleton.
-fn own_and_added(
-    alloc: Global,
-    k: &Skeleton,
-    occurrences: &[LocatedEvent],
-) -> Result<Vec<OrderPair>, AllocError>
-    requires listed { occurrences.now ≡ events_of k.now }
+/// The skeleton's own pairs, followed by the other pairs that unique values add.
+fn own_and_added(alloc: Global, k: &ListedSkeleton<'_>) -> Result<Vec<OrderPair>, AllocError>
     ensures { IfOk result (λ pairs. AreNormalPairs k.now pairs.items) }
 {
-    let added = pairs_among(alloc, k, occurrences)?;
-    let own = k.order().pairs();
+    let added = pairs_among(alloc, k)?;
+    let own = k.skeleton().order().pairs();
     let mut pairs = Vec::from_slice(alloc, own)?;
     if added.is_empty() {
         return Ok(pairs);
@@ -49,19 +42,18 @@ fn own_and_added(
 }
 
 /// The pairs of the normal form of a skeleton whose assumptions do not contradict what its nodes carry; `None` if the pairs close
-/// a cycle. `occurrences` are its events.
+/// a cycle.
 pub(crate) fn normal_pairs_among(
     alloc: Global,
-    k: &Skeleton,
-    occurrences: &[LocatedEvent],
+    k: &ListedSkeleton<'_>,
 ) -> Result<Option<Vec<OrderPair>>, AllocError>
-    requires listed { occurrences.now ≡ events_of k.now }
     requires consistent { IsRefuted k.now → ⊥ }
     ensures { IfOk result (λ found. IsNormalised k.now (option_map (λ pairs. pairs.items) found)) }
 {
-    k.is_sound();
-    let pairs = own_and_added(alloc, k, occurrences)?;
-    if some_is_closed(alloc, &pairs, k.assumptions().uniquely_originating())? {
+    let skeleton = k.skeleton();
+    skeleton.is_sound();
+    let pairs = own_and_added(alloc, k)?;
+    if some_is_closed(alloc, &pairs, skeleton.assumptions().uniquely_originating())? {
         return Ok(None);
     }
     Ok(Some(pairs))
@@ -74,11 +66,11 @@ pub(crate) fn normal_pairs_among(
 pub fn normal_pairs(alloc: Global, k: &Skeleton) -> Result<Option<Vec<OrderPair>>, AllocError>
     ensures { IfOk result (λ found. IsNormalised k.now (option_map (λ pairs. pairs.items) found)) }
 {
-    let occurrences = k.events(alloc)?;
-    if is_refuted(k, &occurrences) {
+    let listed = ListedSkeleton::of(alloc, k)?;
+    if is_refuted(&listed) {
         return Ok(None);
     }
-    normal_pairs_among(alloc, k, &occurrences)
+    normal_pairs_among(alloc, &listed)
 }
 
 /// Whether no rule of normalising changes the skeleton: its assumptions do not contradict what its nodes carry, no unique value
@@ -87,13 +79,13 @@ pub fn is_normal(alloc: Global, k: &Skeleton) -> Result<bool, AllocError>
     ensures { IfOk result (λ normal. IsTrue normal ↔ IsNormal k.now) }
 {
     k.is_sound();
-    let occurrences = k.events(alloc)?;
-    if is_refuted(k, &occurrences) {
+    let listed = ListedSkeleton::of(alloc, k)?;
+    if is_refuted(&listed) {
         return Ok(false);
     }
-    if some_is_misplaced(k, &occurrences) {
+    if some_is_misplaced(&listed) {
         return Ok(false);
     }
-    let added = pairs_among(alloc, k, &occurrences)?;
+    let added = pairs_among(alloc, &listed)?;
     all_lead(alloc, k.order().pairs(), &added)
 }

@@ -3,14 +3,15 @@ ghost use Rattle.std.specs.Prelude.{◌≡◌, ◌↔◌, IsTrue, IfOk};
 ghost use Rattle.cp_model.specs.Derivable.{IsOnInstance};
 ghost use Rattle.cp_model.specs.Realisation.{OriginatesAtTerm};
 ghost use Rattle.cp_lists.specs.Lists.{item_at};
-ghost use Rattle.cp_skel.specs.Events.{events_of};
 ghost use Rattle.cp_collapse.specs.Property.{Has};
 ghost use Rattle.cp_collapse.specs.Partitions.{is_some_instance};
 ghost use Rattle.cp_normal.specs.Events.{HasOtherOrigin, IsSentAtOrigin, IsCarriedBefore};
 ghost use Rattle.cp_normal.specs.Findings.{HasTwoOrigins, LosesOrigin};
 
 use crate::carried_values::carries_value;
-use cp_skel::{Atom, Event, LocatedEvent, Node, Skeleton, Strand, StrandShape, UniqueAt};
+use cp_skel::{
+    Atom, Event, ListedSkeleton, LocatedEvent, Node, Skeleton, Strand, StrandShape, UniqueAt,
+};
 use std::alloc::{AllocError, Global};
 
 /// Whether the other entry has the same value and another origin.
@@ -52,25 +53,24 @@ pub fn has_two_origins(k: &Skeleton) -> bool
 }
 
 /// Whether the event is a transmission at the node, and carries the value.
-fn is_sent_at_origin(occurrence: &LocatedEvent, value: &Atom, origin: Node) -> bool
+fn is_sent_at_origin(occurrence: &LocatedEvent<'_>, value: &Atom, origin: Node) -> bool
     ensures { IsTrue result ↔ IsSentAtOrigin (record { value = value.now; origin = origin }) occurrence.now }
 {
-    matches!(occurrence.event, Event::Send(_))
-        && occurrence.node == origin
+    matches!(occurrence.event(), Event::Send(_))
+        && occurrence.node() == origin
         && carries_value(occurrence, value)
 }
 
 /// Whether the event is before the node on its strand, and carries the value.
-fn is_carried_before(occurrence: &LocatedEvent, value: &Atom, origin: Node) -> bool
+fn is_carried_before(occurrence: &LocatedEvent<'_>, value: &Atom, origin: Node) -> bool
     ensures { IsTrue result ↔ IsCarriedBefore (record { value = value.now; origin = origin }) occurrence.now }
 {
-    occurrence.node.strand == origin.strand
-        && occurrence.node.index < origin.index
-        && carries_value(occurrence, value)
+    let at = occurrence.node();
+    at.strand == origin.strand && at.index < origin.index && carries_value(occurrence, value)
 }
 
 /// Whether some event is a transmission at the node that carries the value.
-fn some_is_sent_at_origin(occurrences: &[LocatedEvent], value: &Atom, origin: Node) -> bool
+fn some_is_sent_at_origin(occurrences: &[LocatedEvent<'_>], value: &Atom, origin: Node) -> bool
     ensures { IsTrue result ↔ Has (λ o. IsSentAtOrigin (record { value = value.now; origin = origin }) o) occurrences.now }
 {
     occurrences
@@ -79,7 +79,7 @@ fn some_is_sent_at_origin(occurrences: &[LocatedEvent], value: &Atom, origin: No
 }
 
 /// Whether some event before the node, on its strand, carries the value.
-fn some_is_carried_before(occurrences: &[LocatedEvent], value: &Atom, origin: Node) -> bool
+fn some_is_carried_before(occurrences: &[LocatedEvent<'_>], value: &Atom, origin: Node) -> bool
     ensures { IsTrue result ↔ Has (λ o. IsCarriedBefore (record { value = value.now; origin = origin }) o) occurrences.now }
 {
     occurrences
@@ -104,50 +104,42 @@ fn is_on_instance(k: &Skeleton, node: Node) -> bool
     is_instance_at(k.strands(), node.strand)
 }
 
-/// Whether the value originates at the node. `occurrences` are the events of the skeleton.
-pub(crate) fn originates(
-    k: &Skeleton,
-    occurrences: &[LocatedEvent],
-    value: &Atom,
-    origin: Node,
-) -> bool
-    requires listed { occurrences.now ≡ events_of k.now }
+/// Whether the value originates at the node.
+pub(crate) fn originates(k: &ListedSkeleton<'_>, value: &Atom, origin: Node) -> bool
     ensures { IsTrue result ↔ OriginatesAtTerm k.now value.now origin }
 {
-    if !is_on_instance(k, origin) {
+    if !is_on_instance(k.skeleton(), origin) {
         return false;
     }
+    let occurrences = k.events();
     if !some_is_sent_at_origin(occurrences, value, origin) {
         return false;
     }
     !some_is_carried_before(occurrences, value, origin)
 }
 
-/// Whether some of these unique values does not originate at its recorded origin. `occurrences` are the events of the skeleton.
-fn one_loses_origin(k: &Skeleton, occurrences: &[LocatedEvent], uniques: &[UniqueAt]) -> bool
-    requires listed { occurrences.now ≡ events_of k.now }
+/// Whether some of these unique values does not originate at its recorded origin.
+fn one_loses_origin(k: &ListedSkeleton<'_>, uniques: &[UniqueAt]) -> bool
     ensures { IsTrue result ↔ Has (λ u. OriginatesAtTerm k.now u.value u.origin → ⊥) uniques.now }
 {
     for unique in uniques {
-        if !originates(k, occurrences, unique.value(), unique.origin()) {
+        if !originates(k, unique.value(), unique.origin()) {
             return true;
         }
     }
     false
 }
 
-/// Whether some unique value does not originate at its recorded origin. `occurrences` are the events of the skeleton.
-pub(crate) fn some_loses_origin(k: &Skeleton, occurrences: &[LocatedEvent]) -> bool
-    requires listed { occurrences.now ≡ events_of k.now }
+/// Whether some unique value does not originate at its recorded origin.
+pub(crate) fn some_loses_origin(k: &ListedSkeleton<'_>) -> bool
     ensures { IsTrue result ↔ LosesOrigin k.now }
 {
-    one_loses_origin(k, occurrences, k.assumptions().uniquely_originating())
+    one_loses_origin(k, k.skeleton().assumptions().uniquely_originating())
 }
 
 /// Whether some unique value does not originate at its recorded origin.
 pub fn loses_origin(alloc: Global, k: &Skeleton) -> Result<bool, AllocError>
     ensures { IfOk result (λ found. IsTrue found ↔ LosesOrigin k.now) }
 {
-    let occurrences = k.events(alloc)?;
-    Ok(some_loses_origin(k, &occurrences))
+    ListedSkeleton::of(alloc, k).map(|listed| some_loses_origin(&listed))
 }

@@ -1,44 +1,43 @@
 // The pairs from recorded origins of unique values to receptions that carry them.
-ghost use Rattle.std.specs.Prelude.{◌≡◌, ◌↔◌, IfOk, IfSome, IfNone};
+ghost use Rattle.std.specs.Prelude.{◌↔◌, IfOk, IfSome, IfNone};
 ghost use Rattle.cp_lists.specs.Lists.{IsIn};
 ghost use Rattle.cp_model.specs.declared.node.OrderPair.{OrderPair as Plain};
-ghost use Rattle.cp_skel.specs.Events.{events_of};
 ghost use Rattle.cp_normal.specs.Events.{IsPairBetween};
 ghost use Rattle.cp_normal.specs.Findings.{IsAddedPair};
 
 use crate::carried_values::carries_value;
-use cp_skel::{Event, LocatedEvent, OrderPair, Skeleton, UniqueAt};
+use cp_skel::{Event, ListedSkeleton, LocatedEvent, OrderPair, Skeleton, UniqueAt};
 use std::alloc::{AllocError, Global};
 
 /// The pair from the recorded origin of a unique value to an event, if the event is a reception on another strand that carries
 /// the value.
-fn pair_between(occurrence: &LocatedEvent, unique: &UniqueAt) -> Option<OrderPair>
+fn pair_between(occurrence: &LocatedEvent<'_>, unique: &UniqueAt) -> Option<OrderPair>
     ensures some { IfSome result (λ p. IsPairBetween occurrence.now unique.now p) }
     ensures none { IfNone result ((p : Plain) → IsPairBetween occurrence.now unique.now p → ⊥) }
 {
-    let is_pair = matches!(occurrence.event, Event::Receive(_))
-        && unique.origin().strand != occurrence.node.strand
+    let later = occurrence.node();
+    let is_pair = matches!(occurrence.event(), Event::Receive(_))
+        && unique.origin().strand != later.strand
         && carries_value(occurrence, unique.value());
     if is_pair {
         Some(OrderPair {
             earlier: unique.origin(),
-            later: occurrence.node,
+            later,
         })
     } else {
         None
     }
 }
 
-/// The pairs that unique values add. `occurrences` are the events of the skeleton.
+/// The pairs that unique values add.
 pub(crate) fn pairs_among(
     alloc: Global,
-    k: &Skeleton,
-    occurrences: &[LocatedEvent],
+    k: &ListedSkeleton<'_>,
 ) -> Result<Vec<OrderPair>, AllocError>
-    requires listed { occurrences.now ≡ events_of k.now }
     ensures { IfOk result (λ pairs. (p : Plain) → IsIn p pairs.items ↔ IsAddedPair k.now p) }
 {
-    let uniques = k.assumptions().uniquely_originating();
+    let occurrences = k.events();
+    let uniques = k.skeleton().assumptions().uniquely_originating();
     let mut pairs = Vec::new(alloc);
     for occurrence in occurrences {
         for unique in uniques {
@@ -55,6 +54,6 @@ pub(crate) fn pairs_among(
 pub fn added_pairs(alloc: Global, k: &Skeleton) -> Result<Vec<OrderPair>, AllocError>
     ensures { IfOk result (λ pairs. (p : Plain) → IsIn p pairs.items ↔ IsAddedPair k.now p) }
 {
-    let occurrences = k.events(alloc)?;
-    pairs_among(alloc, k, &occurrences)
+    let listed = ListedSkeleton::of(alloc, k)?;
+    pairs_among(alloc, &listed)
 }

@@ -49,11 +49,16 @@ fn add_received(event: &Event, atoms: &mut Vec<Atom>) -> Result<(), AllocError>
 
 /// Appends the atoms that the event carries if it is a reception before the node on the node's strand, except those listed
 /// already.
-fn add_heard(occurrence: &LocatedEvent, node: Node, atoms: &mut Vec<Atom>) -> Result<(), AllocError>
+fn add_heard(
+    occurrence: &LocatedEvent<'_>,
+    node: Node,
+    atoms: &mut Vec<Atom>,
+) -> Result<(), AllocError>
     ensures { OnOk result (atoms.new.items ≡ atoms_onto atoms.old.items (heard_of node occurrence.now)) }
 {
-    if occurrence.node.strand == node.strand && occurrence.node.index < node.index {
-        return add_received(&occurrence.event, atoms);
+    let at = occurrence.node();
+    if at.strand == node.strand && at.index < node.index {
+        return add_received(occurrence.event(), atoms);
     }
     Ok(())
 }
@@ -62,7 +67,7 @@ fn add_heard(occurrence: &LocatedEvent, node: Node, atoms: &mut Vec<Atom>) -> Re
 /// receptions, then of the positions.
 pub(crate) fn atoms_received(
     alloc: Global,
-    occurrences: &[LocatedEvent],
+    occurrences: &[LocatedEvent<'_>],
     node: Node,
 ) -> Result<Vec<Atom>, AllocError>
     ensures { IfOk result (λ atoms. atoms.items ≡ atoms_onto [] (heard_among node occurrences.now)) }

@@ -103,8 +103,7 @@ pub fn leaves<R: Rewriting, N: Ranking<R::Item>>(
     requires { Falls (R.becomes rewriting.now) N.rank }
     ensures { IfOk result (λ leaves. LeavesOf (R.becomes rewriting.now) (variants.Open item) leaves.items) }
 {
-    let mut candidates = Vec::new(alloc);
-    candidates.push(Candidate::Open(item))?;
+    let mut candidates = rewriting.step(alloc, item)?;
     while some_is_open(&candidates) {
         candidates = round(alloc, rewriting, candidates)?;
     }

@@ -22,8 +22,7 @@ fn branch_by(alloc: Global, form: &Form, s: &Subst) -> Result<Form, AllocError>
         ≡ apply_to (as_substitution s.now) (apply_to (as_substitution form.now.substitution) t)) }
 {
     let skeleton = under(alloc, &form.skeleton, s)?;
-    let substitution = compose(alloc, &form.substitution, s)?;
-    Ok(Form {
+    compose(alloc, &form.substitution, s).map(|substitution| Form {
         skeleton,
         substitution,
     })

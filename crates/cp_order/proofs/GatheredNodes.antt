@@ -1,6 +1,6 @@
 -- The search for the predecessors of one node: what a step keeps, and what there is at the end.
-use Rattle.std.proofs.Common.{◌≡◌, ◌⊎◌, inl, inr, ℕ, suc, ◌+◌, ◌<◌, ◌≤◌, List, [], ◌∷◌, ◌++◌, length, Bool, true, false, not, ◌&&◌, ◌||◌, if◌then◌else◌, refl, sym, ap, ap₂, ◌∙◌, subst, arith}
-use Rattle.std.specs.Prelude.{Option, Some, None}
+use Rattle.std.proofs.Common.{◌≡◌, ◌==◌, ◌⊎◌, inl, inr, ℕ, suc, ◌+◌, ◌<◌, ◌≤◌, nat_le, List, [], ◌∷◌, ◌++◌, length, Bool, true, false, not, ◌&&◌, ◌||◌, if◌then◌else◌, refl, sym, ap, ap₂, ◌∙◌, subst, arith}
+use Rattle.std.specs.Prelude.{Option, Some, None, IsSome, option_to_list}
 use Rattle.std.proofs.lemmas.Bool.Decides.{nat_tests}
 use Rattle.std.proofs.lemmas.Bool.{or_left, or_right, and_from, and_parts, not_from_false}
 use Rattle.std.proofs.lemmas.List.{append-nil, length-append}
@@ -9,9 +9,9 @@ use Rattle.cp_lists.proofs.Members.{only_item, in_append_left, in_append_right, 
 use Rattle.cp_model.specs.declared.node.Node.{Node}
 use Rattle.cp_model.specs.declared.node.OrderPair.{OrderPair}
 use Rattle.cp_model.specs.Order.{IsAtOrAfter, ReachesAlong, on_strand, over_pair}
-use Rattle.cp_model.specs.OrderTests.{at_or_after}
+use Rattle.cp_model.specs.OrderTests.{any_pair, at_or_after}
 use Rattle.cp_order.specs.PredecessorNodes.{Tops, is_within, is_under_tops, AreTops, is_reached, reached, TakesNode, waiting, IsGathered}
-use Rattle.cp_model.proofs.BoundedSearch.{after_true, true_after, after_leads}
+use Rattle.cp_model.proofs.BoundedSearch.{after_true, true_after, after_leads, none_in}
 
 -- ---- tests
 
@@ -202,3 +202,36 @@ module _ (pairs : List OrderPair) (y : Node) (tops : Tops) (g : IsGathered pairs
 
 pub gathered_all : (pairs : List OrderPair) (y : Node) (tops : Tops) (work : List Node) → work ≡ [] → IsGathered pairs y tops work → AreTops pairs y tops
 gathered_all pairs y tops work e g = gathered_whole pairs y tops (subst (IsGathered pairs y tops) e g)
+
+-- ---- the work list
+
+-- What was there was popped off.
+pub popped : (old new : List Node) (r : Option Node) (x : Node) → old ≡ new ++ option_to_list r → r ≡ Some x → old ≡ new ++ (x ∷ [])
+popped old new r x h is = h ∙ ap (λ o. new ++ option_to_list o) is
+
+-- There was nothing to pop.
+pub nothing_left : (xs : List Node) (r : Option Node) → (0 < length xs → IsSome r) → ((x : Node) → r ≡ Some x → ⊥) → xs ≡ []
+nothing_left [] r h none = refl
+nothing_left (y ∷ ys) (Some x) h none = absurd (none x refl)
+nothing_left (y ∷ ys) None h none = let e : false ≡ true = h (omega arith) in absurd (cc)
+
+-- ---- a node at which no pair ends, nor before it on its strand
+
+ends_on_strand : (pairs : List OrderPair) (x y : Node) → ReachesAlong pairs x y → ((p : OrderPair) → IsIn p pairs → at_or_after p.later y ≡ false) → at_or_after x y ≡ true
+ends_on_strand pairs x y (on_strand a) none = true_after x y a
+ends_on_strand pairs x y (over_pair {p} m a l) none =
+    let e : at_or_after p.later y ≡ true = ends_on_strand pairs p.later y l none in
+    absurd (let f : at_or_after p.later y ≡ false = none p m in cc)
+
+pub alone : (pairs : List OrderPair) (y : Node) (old new : Tops) → ((s : ℕ) → old s ≡ None) → ((s : ℕ) → new s ≡ (if s == y.strand then Some y.index else old s)) → any_pair (λ p. at_or_after p.later y) pairs ≡ false → AreTops pairs y new
+alone pairs y old new empty put none x = (
+  λ h. on_strand (after_true x y (sym (under x) ∙ h)),
+  λ r. under x ∙ ends_on_strand pairs x y r (λ p m. none_in (λ q. at_or_after q.later y) pairs p none m),
+)
+  where
+    by : (z : Node) (b : Bool) → is_within (if b then Some y.index else old z.strand) z.index ≡ (b && nat_le z.index y.index)
+    by z true = refl
+    by z false = ap (λ top. is_within top z.index) (empty z.strand)
+
+    under : (z : Node) → is_under_tops new z ≡ at_or_after z y
+    under z = ap (λ top. is_within top z.index) (put z.strand) ∙ by z (z.strand == y.strand)

@@ -94,7 +94,7 @@ fn next_row(
         }
     }
     let row = row_to(alloc, pairs, node)?;
-    Ok(Rc::new(alloc, row)?)
+    Rc::new(alloc, row).map_err(AllocError::from)
 }
 
 /// The greatest index of a strand at which one of the pairs ends, or 0.
@@ -180,7 +180,7 @@ impl ClosedPairs {
     {
         let rows = rows_of(alloc, &pairs)?;
         let closed = ClosedPairs { pairs, rows };
-        Ok(Rc::new(alloc, closed)?)
+        Rc::new(alloc, closed).map_err(AllocError::from)
     }
 
     /// Closed pairs with the same order as these.

@@ -119,8 +119,7 @@ impl Order {
         let Some(closed) = &self.closure else {
             return Ok(None);
         };
-        let closed = closed.with_pair(alloc, pair)?;
-        Ok(Some(closed))
+        closed.with_pair(alloc, pair).map(Some)
     }
 
     /// Adds a pair. If the order was closed, its closed pairs take the new pair into account. On an error nothing has

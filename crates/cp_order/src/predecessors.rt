@@ -8,6 +8,7 @@ ghost use Rattle.std.specs.List.Sorted.{IsPermutation};
 
 use crate::tops::{Tops, is_within};
 use cp_model::{Node, OrderPair};
+use smallvec::SmallVec;
 use std::alloc::{AllocError, Global};
 use std::marker::Model;
 
@@ -66,7 +67,11 @@ pub(crate) fn is_at_or_before(node: Node, other: Node) -> bool
 
 /// Appends the earlier nodes of the first pairs to the work list, as long as these pairs end at the node or at one
 /// before it on its strand.
-fn push_first(pairs: &[OrderPair], node: Node, work: &mut Vec<Node>) -> Result<(), AllocError>
+fn push_first(
+    pairs: &[OrderPair],
+    node: Node,
+    work: &mut SmallVec<Node, 8>,
+) -> Result<(), AllocError>
     ensures { OnOk result (work.new.items ≡ work.old.items ++ first_nodes node pairs.now) }
 {
     for pair in pairs {
@@ -83,7 +88,7 @@ fn push_reached(
     pairs: &[OrderPair],
     top: Option<usize>,
     node: Node,
-    work: &mut Vec<Node>,
+    work: &mut SmallVec<Node, 8>,
 ) -> Result<(), AllocError>
     requires { AreSorted pairs.now }
     ensures { OnOk result (work.new.items ≡ work.old.items ++ reached top node pairs.now) }
@@ -97,7 +102,7 @@ fn take(
     pairs: &[OrderPair],
     node: Node,
     tops: &mut Tops,
-    work: &mut Vec<Node>,
+    work: &mut SmallVec<Node, 8>,
 ) -> Result<(), AllocError>
     requires { AreSorted pairs.now }
     ensures { OnOk result (TakesNode pairs.now node (tops_in tops.old) (tops_in tops.new) work.old.items work.new.items) }
@@ -126,7 +131,7 @@ impl<'a> SortedPairs<'a> {
     {
         let sorted = self.sorted.as_slice();
         let mut tops = Tops::new(alloc);
-        let mut work = Vec::new(alloc);
+        let mut work = SmallVec::new(alloc);
         work.push(node)?;
         while let Some(next) = work.pop() {
             take(sorted, next, &mut tops, &mut work)?;
@@ -140,7 +145,8 @@ impl<'a> SortedPairs<'a> {
 }
 
 impl<'a> Predecessors<'a> {
-    /// The predecessors of the node along strands and these pairs.
+    /// The predecessors of the node along strands and these pairs. The pairs are sorted only if one of them ends at the node or
+    /// before it on its strand: otherwise nothing else reaches the node.
     pub fn new(
         alloc: Global,
         pairs: &'a [OrderPair],
@@ -148,7 +154,14 @@ impl<'a> Predecessors<'a> {
     ) -> Result<Predecessors<'a>, AllocError>
         ensures { IfOk result (λ l. l ≡ record { pairs = pairs.now; node = node }) }
     {
-        SortedPairs::new(alloc, pairs)?.predecessors_of(alloc, node)
+        for pair in pairs {
+            if is_at_or_before(pair.later, node) {
+                return SortedPairs::new(alloc, pairs)?.predecessors_of(alloc, node);
+            }
+        }
+        let mut tops = Tops::new(alloc);
+        tops.put(node)?;
+        Ok(Predecessors { pairs, node, tops })
     }
 
     /// Whether a node reaches the node whose predecessors these are.

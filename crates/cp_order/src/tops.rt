@@ -63,7 +63,7 @@ impl Tops {
         ensures { (s : ℕ) → tops_in result s ≡ None }
     {
         Tops {
-            low: SmallVec::new(alloc),
+            low: SmallVec::from_buf(alloc, [None; 8]),
             high: HashMap::new(alloc),
         }
     }

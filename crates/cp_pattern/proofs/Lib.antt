@@ -1,3 +1,4 @@
+pub mod BothMapped
 pub mod LawMatches
 pub mod Unifiers
 pub mod DifferentTerms

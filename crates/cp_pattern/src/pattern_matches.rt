@@ -59,8 +59,7 @@ fn made_ready(alloc: Global, pattern: &Pattern, from: &Subst) -> Result<Ready, A
     ensures { IfOk result (λ r. IsReadyFor (as_substitution from.now) pattern.now r) }
 {
     let term = pattern.term().copy()?;
-    let said = said_of(alloc, pattern, from)?;
-    Ok(Ready { term, said })
+    said_of(alloc, pattern, from).map(|said| Ready { term, said })
 }
 
 /// Prepares the patterns for matching under the substitution.
@@ -84,8 +83,7 @@ fn is_matched(alloc: Global, ready: &Ready, term: &Term) -> Result<bool, AllocEr
     ensures { IfOk result (λ answer. (p : Plain) (s : Substitution) → IsReadyFor s p ready.now → IsTrue answer ↔ Matches p s term.now) }
 {
     let said = ready.said.copy(alloc)?;
-    let found = matching_beside(alloc, &ready.term, term, said)?;
-    Ok(found.is_some())
+    matching_beside(alloc, &ready.term, term, said).map(|found| found.is_some())
 }
 
 /// Whether one of the prepared patterns matches the term.

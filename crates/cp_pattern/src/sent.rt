@@ -1,51 +1,41 @@
 // Transmissions of role strands before a node.
-ghost use Rattle.std.specs.Prelude.{◌≡◌, ◌↔◌, IsTrue, IfOk};
+ghost use Rattle.std.specs.Prelude.{◌↔◌, IsTrue, IfOk};
 ghost use Rattle.cp_model.specs.Skeleton.{IsNodeOf};
 ghost use Rattle.cp_pattern.specs.Sent.{IsGuardedAt, SendInsideAlone};
 
 use crate::first_outside;
 use crate::test_terms::event_at;
-use cp_skel::{Event, LocatedEvent, Node, Predecessors, Skeleton, comes_before};
+use cp_skel::{Event, LocatedEvent, Node, Preceding, Skeleton};
 use cp_term::{Pattern, Term};
 use cp_unify::Subst;
 use std::alloc::{AllocError, Global};
 
 /// Whether the event carries the critical term inside the patterns alone, if it is a transmission of a role strand before the
-/// node. `leading` must hold the predecessors of the node along the skeleton's pairs, and the node must exist.
+/// node.
 fn is_guarded_at(
     alloc: Global,
-    k: &Skeleton,
-    leading: &Predecessors<'_>,
-    node: Node,
+    preceding: &Preceding<'_>,
     critical: &Term,
     patterns: &[Pattern],
-    occurrence: &LocatedEvent,
+    occurrence: &LocatedEvent<'_>,
 ) -> Result<bool, AllocError>
-    requires there { IsNodeOf k.now.strands node }
-    requires gathered { leading.now ≡ record { pairs = k.now.pairs; node = node } }
-    ensures { IfOk result (λ answer. IsTrue answer ↔ IsGuardedAt patterns.now k.now node critical.now occurrence.now) }
+    ensures { IfOk result (λ answer. IsTrue answer ↔ IsGuardedAt patterns.now preceding.now.skeleton preceding.now.node critical.now occurrence.now) }
 {
-    let Event::Send(message) = &occurrence.event else {
+    let Event::Send(message) = occurrence.event() else {
         return Ok(true);
     };
-    if !occurrence.by_role || !comes_before(k, leading, occurrence.node, node) {
+    if !occurrence.is_by_role() || !preceding.has(occurrence.node()) {
         return Ok(true);
     }
     let nothing = Subst::new(alloc);
-    match first_outside(alloc, patterns, &nothing, critical, message)? {
-        Some(_) => Ok(false),
-        None => Ok(true),
-    }
+    first_outside(alloc, patterns, &nothing, critical, message).map(|outside| outside.is_none())
 }
 
 /// Whether there is an event at the node.
 fn is_there(alloc: Global, k: &Skeleton, node: Node) -> Result<bool, AllocError>
     ensures { IfOk result (λ there. IsTrue there ↔ IsNodeOf k.now.strands node) }
 {
-    match event_at(alloc, k, node)? {
-        Some(_) => Ok(true),
-        None => Ok(false),
-    }
+    event_at(alloc, k, node).map(|event| event.is_some())
 }
 
 /// Whether each transmission of a role strand before the node carries the critical term inside the patterns alone.
@@ -62,10 +52,10 @@ pub(crate) fn send_inside_alone(
     if !is_there(alloc, k, node)? {
         return Ok(true);
     }
-    let leading = Predecessors::new(alloc, k.order().pairs(), node)?;
+    let preceding = Preceding::of(alloc, k, node)?;
     let occurrences = k.events(alloc)?;
     for occurrence in &occurrences {
-        if !is_guarded_at(alloc, k, &leading, node, critical, patterns, occurrence)? {
+        if !is_guarded_at(alloc, &preceding, critical, patterns, occurrence)? {
             return Ok(false);
         }
     }

@@ -38,6 +38,5 @@ pub fn is_test(alloc: Global, k: &Skeleton, node: Node, critical: &Term) -> Resu
     if !is_heard(alloc, k, node, critical)? {
         return Ok(false);
     }
-    let known = known(alloc, k, node)?;
-    Ok(!buildable(&known, critical))
+    known(alloc, k, node).map(|known| !buildable(&known, critical))
 }

@@ -20,16 +20,14 @@ fn no_place() -> Place
 pub(crate) fn word(alloc: Global, text: &str) -> Result<Form, AllocError>
     ensures { IfOk result (λ f. view f ≡ word text.now) }
 {
-    let text = Text::new(alloc, text)?;
-    Ok(Form::Symbol(no_place(), text))
+    Text::new(alloc, text).map(|text| Form::Symbol(no_place(), text))
 }
 
 /// A string.
 pub(crate) fn quoted(alloc: Global, text: &str) -> Result<Form, AllocError>
     ensures { IfOk result (λ f. view f ≡ string no_place text.now) }
 {
-    let text = Text::new(alloc, text)?;
-    Ok(Form::String(no_place(), text))
+    Text::new(alloc, text).map(|text| Form::String(no_place(), text))
 }
 
 /// A number.
@@ -50,8 +48,7 @@ fn plain_list(items: Vec<Form>) -> Form
 pub(crate) fn list(items: Result<Vec<Form>, AllocError>) -> Result<Form, AllocError>
     ensures { (fs : List Plain) → IfOk items (λ gs. map view gs.items ≡ fs) → IfOk result (λ f. view f ≡ plain_list fs) }
 {
-    let items = items?;
-    Ok(plain_list(items))
+    items.map(plain_list)
 }
 
 /// A form in front of others.

@@ -19,8 +19,7 @@ use Rattle.cp_theory.specs.Normal.{skeleton_under}
 use Rattle.cp_model.specs.PrefixVariables.{prefix_variables, added_variables}
 use Rattle.cp_model.specs.Declares.{DeclaresItsVariables}
 use Rattle.cp_model.specs.Extensions.{Extends}
-use Rattle.cp_skel.specs.Events.{events_of}
-use Rattle.cp_skel.specs.declared.events.LocatedEvent.{LocatedEvent}
+use Rattle.cp_skel.specs.Events.{LocatedEvent, events_of}
 use Rattle.cp_skel.specs.Tables.{HaveTable}
 use Rattle.cp_skel.proofs.EventLists.{listed_event}
 use Rattle.cp_normal.specs.Exact.{HasForms}

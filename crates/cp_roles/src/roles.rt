@@ -135,14 +135,15 @@ fn role_of(
     let non_originating = atoms_of(alloc, &variables, Kind::Non, items)?;
     let penetrator_non_originating = atoms_of(alloc, &variables, Kind::PenetratorNon, items)?;
     let uniquely_originating = atoms_of(alloc, &variables, Kind::Unique, items)?;
-    Ok(Role::new(
+    let role = Role::new(
         name_of(alloc, name)?,
         variables,
         trace,
         non_originating,
         penetrator_non_originating,
         uniquely_originating,
-    ))
+    );
+    Role::indexed(alloc, role)
 }
 
 /// Notes the faults of an item of a protocol, and appends the role that it defines, if any.

@@ -9,9 +9,8 @@ use std::alloc::{AllocError, Global};
 pub(crate) fn partition_of(alloc: Global, places: &[usize]) -> Result<Vec<usize>, AllocError>
     ensures { IfOk result (λ p. p.items ≡ firsts places.now) }
 {
-    let mut partition = Vec::new(alloc);
-    for place in places {
-        partition.push(first_of(places, *place))?;
-    }
-    Ok(partition)
+    places
+        .iter()
+        .map(|place| first_of(places, *place))
+        .collect(alloc)
 }

@@ -14,7 +14,7 @@ use Rattle.cp_shapes.specs.Shapes.{FindsLeast}
 use Rattle.cp_search.specs.Flags.{IsFlagged}
 use Rattle.cp_search.specs.LabelsByNumber.{with_key}
 use Rattle.cp_search.proofs.LabelsByNumber.{there_listed, listed_there, AreAscending, are_ascending, ascending_from}
-use Rattle.cp_search.specs.MadeLabels.{made_link, AreFound, AreReaching, MayBeSeenIn, MayBeSeen}
+use Rattle.cp_search.specs.MadeLabels.{made_link, AreFound, AreReaching, MayBeSeenIn, MayBeSeen, IsSeenIn}
 use Rattle.cp_search.proofs.Links.{finds_alike}
 use Rattle.cp_tree.specs.Made.{IsEdge, Reaches}
 
@@ -150,3 +150,7 @@ module _ (ms : List Made) (k : Skeleton) (parent : Option ℕ) where
       never q apart (inl same) = apart same
       never q apart (inr (one_step e)) = none q e
       never q apart (inr (more_steps {y = y} e steps)) = none y e
+
+-- In which label one that lives is seen.
+pub seen_living : (ms : List Made) (m : Made) → m.dead ≡ false → (seen : Option ℕ) → FindsLeast (MayBeSeen ms m.parent m.skeleton) seen → IsSeenIn ms m seen
+seen_living ms m lives seen first = record { dead = λ dead. absurd (not_both lives dead); living = λ _. first }

@@ -1,7 +1,5 @@
 -- Labels that are made behind others.
 use Rattle.std.proofs.Common.{◌≡◌, ◌⊎◌, inl, inr, ◌∙◌, ℕ, ◌<◌, List, [], ◌∷◌, ◌++◌, length, map, take, true, false, Option, Some, None, IfSome, sym, ap, subst, arith}
-use Rattle.std.specs.Prelude.{Result, Ok, Err, OnOk}
-use Rattle.std.specs.Result.{is_err}
 use Rattle.std.proofs.lemmas.List.{map-append, length-map}
 use Rattle.std.proofs.Math.Seq.{take-append_seam}
 use Rattle.cp_lists.specs.Lists.{item_at}
@@ -127,11 +125,6 @@ module _ (ms : List Made) (x : Made) where
         each = λ i m at. each_found i m (item_of_push ms x i m at);
         later = λ i p m at e. each_later i p m (item_of_push ms x i m at) e;
       }
-
--- What holds where a call succeeds, of one that does.
-pub on_ok : {A E : Type 0} (r : Result A E) (P : Type 0) → is_err r ≡ false → OnOk r P → P
-on_ok (Ok a) P e p = p
-on_ok (Err a) P e p = absurd (cc)
 
 -- ---- what is found of one label more
 

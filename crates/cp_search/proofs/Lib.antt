@@ -23,5 +23,4 @@ pub mod Links
 pub mod LabelExpanded
 pub mod MadeTrees
 mod SoundBehind
-pub mod Spellings
-pub mod SpelledLabels
+pub mod SameSkeletons

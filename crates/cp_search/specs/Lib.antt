@@ -7,4 +7,3 @@ pub mod IndexedLabels
 pub mod GeneralLabels
 pub mod Candidates
 pub mod TreeLabels
-pub mod Spellings

@@ -4,9 +4,10 @@
 
 mod candidates;
 mod children;
-mod copies;
+mod copy_index;
 mod general_labels;
 mod graph;
+mod isomorphism;
 mod label_search;
 mod labels;
 mod made;
@@ -14,7 +15,6 @@ mod new_labels;
 mod resolved;
 mod resolved_tree;
 mod roots;
-mod spelling;
 mod trees;
 
 pub use trees::search;

@@ -15,7 +15,7 @@ use Rattle.cp_strand.specs.declared.given.IndexedUnique.{IndexedUnique}
 use Rattle.cp_strand.specs.declared.given.Given.{Given}
 use Rattle.cp_strand.specs.Givens.{unique_on, IsGivenBy}
 use Rattle.cp_skel.specs.declared.already_listed.Counts.{Counts}
-use Rattle.cp_skel.specs.InOrder.{ListsTo, AreWithin, none_listed, these, given_from, ListEach}
+use Rattle.cp_skel.specs.InOrder.{ListsTo, AreCountsWithin, none_listed, these, given_from, ListEach}
 use Rattle.cp_skel.proofs.EachOnce.{onto-known, onto-new, is-new}
 
 pub one-more : {A : Type 0} (xs : List A) (i : ℕ) (x : A) → i < length xs → x ≡ get_or xs i x → take (i + 1) xs ≡ take i xs ++ x ∷ []
@@ -146,10 +146,10 @@ each_given old m n s g k given e = record {
   unique = subst (λ us. ListsTo has_unique uniques_onto old.uniquely_originating m.uniquely_originating us n.uniquely_originating) (given.unique s) e.unique;
 }
 
-pub each_within : (old stated : Assumptions) (m n : Counts) → ListEach old m stated n → AreWithin old n
+pub each_within : (old stated : Assumptions) (m n : Counts) → ListEach old m stated n → AreCountsWithin old n
 each_within old stated m n e = record { non = e.non.0; penetrator_non = e.penetrator_non.0; unique = e.unique.0 }
 
-pub each_start : (old : Assumptions) (m : Counts) (ks : List SkeletonStrand) → AreWithin old m → ListEach old m (given_from 0 (take 0 ks)) m
+pub each_start : (old : Assumptions) (m : Counts) (ks : List SkeletonStrand) → AreCountsWithin old m → ListEach old m (given_from 0 (take 0 ks)) m
 each_start old m ks w = record {
   non = lists-start atoms old.non_originating given_non ks m.non_originating refl w.non;
   penetrator_non = lists-start atoms old.penetrator_non_originating given_penetrator_non ks m.penetrator_non_originating refl w.penetrator_non;

@@ -1,5 +1,5 @@
 -- Lists that are gathered so that each item stands once, and the order in which a report lists assumptions.
-use Rattle.std.proofs.Common.{◌≡◌, List, [], ◌∷◌, ◌++◌, Bool, true, false, if◌then◌else◌, refl, sym, ap, ◌∙◌, subst, ◌⊎◌, ⊎_elim, append_assoc}
+use Rattle.std.proofs.Common.{◌≡◌, List, [], ◌∷◌, ◌++◌, Bool, true, false, if◌then◌else◌, Result, Ok, Err, is_ok, OnOk, refl, sym, ap, ◌∙◌, subst, ◌⊎◌, ⊎_elim, append_assoc}
 use Rattle.std.specs.Cmp.{both_ways as same_by}
 use Rattle.std.specs.List.{filter}
 use Rattle.std.proofs.lemmas.Bool.{both_ways, false_from_ne_true}
@@ -12,6 +12,15 @@ use Rattle.cp_lists.proofs.Members.{in_append, in_append_left, in_append_right, 
 use Rattle.cp_model.proofs.Gathered.{IsGathering, onto-append, onto-keeps, onto-takes, onto-only, atoms, uniques}
 use Rattle.cp_model.specs.GivenAssumptions.{IsEachOnce, AddsOnce, HasEachOnce}
 use Rattle.cp_skel.proofs.Once.{once-append, adds-none, adds-known, adds-one, adds-then}
+
+-- ---- pushing
+
+-- What follows from a pushed item holds where the error of the push becomes another.
+pub if_pushed : {T E D A Q : Type 0} {new more : A} (old : A) (r : Result T E) (s : Result T D) → new ≡ (if is_ok r then more else old) → is_ok s ≡ is_ok r → (new ≡ more → Q) → OnOk s Q
+if_pushed old (Ok x) (Ok y) h same step = step h
+if_pushed old (Ok x) (Err d) h same step = tt
+if_pushed old (Err e) (Ok y) h same step = absurd (cc)
+if_pushed old (Err e) (Err d) h same step = tt
 
 -- ---- what is kept of a list
 
@@ -65,6 +74,11 @@ module _ {A : Type 0} {has : List A → A → Bool} {onto : List A → List A �
 
   pub put-nowhere : (old more : List A) (v : A) → IsIn v old ⊎ IsIn v more → old ++ more ≡ onto (old ++ more) (v ∷ [])
   put-nowhere old more v i = put-known (old ++ more) (old ++ more) v true refl (λ e. ⊎_elim (λ j. in_append_left more j) (λ j. in_append_right old j) i) refl
+
+  -- A loop over items that puts a copy of each behind what is there.
+  pub put-next : (now new left rest all : List A) (v w : A) → left ≡ v ∷ rest → w ≡ v → new ≡ onto now (w ∷ []) → onto now left ≡ all → onto new rest ≡ all
+  put-next now new left rest all v w next same put h =
+      ap (λ xs. onto xs rest) (put ∙ ap (λ x. onto now (x ∷ [])) same) ∙ sym (onto-append g now (v ∷ []) rest) ∙ ap (onto now) (sym next) ∙ h
 
   -- ---- what is put behind a list
 

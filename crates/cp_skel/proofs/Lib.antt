@@ -24,4 +24,5 @@ pub mod SoundSkeletons
 mod AddedPairs
 pub mod TableAlone
 mod VariablesOfLists
-mod ThreeLists
+pub mod ThreeLists
+pub mod FourParts

@@ -1,33 +1,37 @@
 -- What the roles of strands give, strand by strand.
-use Rattle.std.proofs.Common.{◌≡◌, ℕ, suc, ◌+◌, ◌<◌, List, [], ◌∷◌, ◌++◌, length, get_or, map, drop, refl, sym, ap, ◌∙◌, add-one, Bool}
+use Rattle.std.proofs.Common.{◌≡◌, ℕ, suc, ◌+◌, ◌<◌, List, [], ◌∷◌, ◌++◌, length, get_or, map, drop, refl, sym, ap, ap₂, ◌∙◌, add-one}
 use Rattle.std.proofs.lemmas.List.{append-nil}
 use Rattle.cp_lists.proofs.Members.{drop_read}
 use Rattle.cp_model.specs.Term.{AtomTerm}
 use Rattle.cp_model.specs.Skeleton.{SkeletonStrand, instance, listener, UniqueAt, Assumptions}
 use Rattle.cp_model.specs.Given.{atoms_onto, uniques_onto, applying, applying_uniques, given_non, given_penetrator_non, given_uniques}
 use Rattle.cp_model.specs.GivenAssumptions.{with_given_from}
-use Rattle.cp_model.proofs.Gathered.{IsGathering, onto-append, atoms, uniques}
+use Rattle.cp_model.proofs.Gathered.{onto-append, atoms, uniques}
+use Rattle.cp_skel.proofs.EachOnce.{put-next}
 use Rattle.cp_strand.specs.declared.given.IndexedUnique.{IndexedUnique}
 use Rattle.cp_strand.specs.declared.given.Given.{Given}
 use Rattle.cp_strand.specs.Givens.{unique_on, IsGivenBy}
-use Rattle.cp_skel.specs.JoinedAssumptions.{with_these}
+use Rattle.cp_skel.specs.JoinedAssumptions.{joined_assumptions, with_these}
 
--- ---- what is given to a strand, item by item
-
--- A loop over items that puts each behind what is there.
-module _ {A : Type 0} {has : List A → A → Bool} {onto : List A → List A → List A} (g : IsGathering has onto) where
-  put-next : (now new left rest all : List A) (v : A) → left ≡ v ∷ rest → new ≡ onto now (v ∷ []) → onto now left ≡ all → onto new rest ≡ all
-  put-next now new left rest all v next put h =
-      ap (λ xs. onto xs rest) put ∙ sym (onto-append g now (v ∷ []) rest) ∙ ap (onto now) (sym next) ∙ h
-
-pub put-atom : (now new vs all : List AtomTerm) (n : ℕ) (v w : AtomTerm) → n < length vs → v ≡ get_or vs n v → w ≡ v → new ≡ atoms_onto now (w ∷ []) → atoms_onto now (drop n vs) ≡ all → atoms_onto new (drop (n + 1) vs) ≡ all
-put-atom now new vs all n v w lt is e put h =
-    put-next atoms now new (drop n vs) (drop (n + 1) vs) all v (drop_read vs n v lt is) (put ∙ ap (λ x. atoms_onto now (x ∷ [])) e) h
+-- ---- what is given to a strand
 
 pub put-unique : (s : ℕ) (now new all : List UniqueAt) (us : List IndexedUnique) (n : ℕ) (u : IndexedUnique) (w : UniqueAt) → n < length us → u ≡ get_or us n u → w ≡ unique_on s u
     → new ≡ uniques_onto now (w ∷ []) → uniques_onto now (map (unique_on s) (drop n us)) ≡ all → uniques_onto new (map (unique_on s) (drop (n + 1) us)) ≡ all
 put-unique s now new all us n u w lt is e put h =
-    put-next uniques now new (map (unique_on s) (drop n us)) (map (unique_on s) (drop (n + 1) us)) all (unique_on s u) (ap (map (unique_on s)) (drop_read us n u lt is)) (put ∙ ap (λ x. uniques_onto now (x ∷ [])) e) h
+    put-next uniques now new (map (unique_on s) (drop n us)) (map (unique_on s) (drop (n + 1) us)) all (unique_on s u) w (ap (map (unique_on s)) (drop_read us n u lt is)) e put h
+
+-- A list with what is missing grows by what is given, wherever the list and what is given are read.
+pub missing-grew : {A B : Type 0} (onto : List A → List B → List A) (own now more new : List A) (given read : List B)
+    → now ≡ own → read ≡ given → now ++ new ≡ onto (now ++ more) read → own ++ new ≡ onto (own ++ more) given
+missing-grew onto own now more new given read same is h = sym (ap (λ xs. xs ++ new) same) ∙ h ∙ ap₂ (λ xs gs. onto (xs ++ more) gs) same is
+
+-- Behind assumptions that lack nothing stand no others.
+pub none-missing : (a : Assumptions) → joined_assumptions a (record { non_originating = []; penetrator_non_originating = []; uniquely_originating = [] }) ≡ a
+none-missing a = λ i. record {
+  non_originating = append-nil a.non_originating i;
+  penetrator_non_originating = append-nil a.penetrator_non_originating i;
+  uniquely_originating = append-nil a.uniquely_originating i;
+}
 
 -- What is given to a strand is put behind the assumptions.
 pub these-given : (s : ℕ) (k : SkeletonStrand) (g : Given) (own all : Assumptions) → IsGivenBy k g → all ≡ with_these s g own → all ≡ with_given_from s (k ∷ []) own

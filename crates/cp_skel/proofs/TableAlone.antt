@@ -1,5 +1,5 @@
 -- Skeletons that differ in their tables of variables alone.
-use Rattle.std.proofs.Common.{◌≡◌, List, ℕ, refl, sym, ap, ◌∙◌}
+use Rattle.std.proofs.Common.{◌≡◌, List, ℕ, refl, sym, ap, ◌∙◌, subst}
 use Rattle.cp_model.specs.Bindings.{Binding}
 use Rattle.cp_model.specs.Strand.{Role, Protocol}
 use Rattle.cp_model.specs.declared.variable.Declaration.{Declaration}
@@ -7,6 +7,8 @@ use Rattle.cp_model.specs.declared.node.Node.{Node}
 use Rattle.cp_model.specs.declared.node.OrderPair.{OrderPair}
 use Rattle.cp_model.specs.Skeleton.{UniqueAt, Skeleton, Before, IsOrderPair, IsOrigin, GivesAssumptions, IsSkeleton}
 use Rattle.cp_model.proofs.LawOrder.{before_wider}
+use Rattle.cp_order.specs.PredecessorNodes.{Target}
+use Rattle.cp_skel.specs.Preceding.{ArePredecessors}
 use Rattle.cp_skel.specs.Sound.{IsSound}
 use Rattle.cp_skel.specs.Tables.{DiffersInTable}
 
@@ -64,3 +66,7 @@ module _ (k : Skeleton) (table : List Declaration) where
     assumed = record { non = s.assumed.non; penetrator_non = s.assumed.penetrator_non; unique = s.assumed.unique };
     ordered = λ p i. still_before (s.ordered p i);
   }
+
+-- What precedes a node of one precedes it in the other.
+pub preceded_in_table : (k l : Skeleton) → DiffersInTable k l → (n : Node) (leading : Target) → ArePredecessors k n leading → ArePredecessors l n leading
+preceded_in_table k l differs n leading are = subst (λ (x : Skeleton). ArePredecessors x n leading) (sym differs) (record { there = are.there; along = are.along })

@@ -8,8 +8,7 @@ use Rattle.cp_model.specs.declared.strand.Event.{Event}
 use Rattle.cp_model.specs.declared.strand.Event.TheVariants.{Send as send}
 use Rattle.cp_model.specs.Skeleton.{SkeletonStrand, skeleton_trace, Skeleton}
 use Rattle.cp_model.specs.Problem.{variables_of_strands, variables_of_atoms, variables_of_skeleton, variables_of_terms, variables_of_uniques}
-use Rattle.cp_skel.specs.Events.{is_role_strand, located_events_on, located_events_from, events_of, variables_of_located}
-use Rattle.cp_skel.specs.declared.events.LocatedEvent.{LocatedEvent}
+use Rattle.cp_skel.specs.Events.{LocatedEvent, is_role_strand, located_events_on, located_events_from, events_of, variables_of_located}
 
 of_located-append : (os ps : List LocatedEvent) → variables_of_located (os ++ ps) ≡ variables_of_located os ++ variables_of_located ps
 of_located-append [] ps = refl

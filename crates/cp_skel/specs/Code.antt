@@ -1,16 +1,24 @@
--- How skeletons are told apart.
-use Rattle.std.specs.Prelude.{ℕ, List, refl}
-use Rattle.std.specs.Coded.{Coded, code_by, coded_ℕ, coded_list, coded×}
+-- How skeletons, and their events in a list, are told apart.
+use Rattle.std.specs.Prelude.{◌≡◌, ◌⊎◌, ℕ, Bool, List, refl}
+use Rattle.std.specs.Coded.{Coded, code_by, coded_ℕ, coded_bool, coded_list, coded×, coded⊎}
 use Rattle.cp_model.specs.Term.{AtomTerm, Term}
 use Rattle.cp_model.specs.declared.node.Node.{Node}
 use Rattle.cp_model.specs.Skeleton.{UniqueAt, Assumptions, FromProblem, SkeletonStrand, Skeleton}
 use Rattle.cp_model.specs.declared.node.OrderPair.{OrderPair}
 use Rattle.cp_term.specs.Code.{coded_atom_term, coded_term}
 use Rattle.cp_model.specs.declared.variable.Declaration.{Declaration}
-use Rattle.cp_strand.specs.Code.{coded_atoms, coded_declaration, coded_strand}
+use Rattle.cp_model.specs.declared.strand.Event.{Event}
+use Rattle.cp_strand.specs.Code.{coded_atoms, coded_declaration, coded_event, coded_strand}
+use Rattle.cp_skel.specs.Events.{LocatedEvent}
 
 abbrev pub coded_node : Coded Node
 coded_node = code_by (ℕ × ℕ) (coded× coded_ℕ coded_ℕ) (λ n. (n.strand, n.index)) (λ p. record { strand = p.0; index = p.1 }) (λ n. refl)
+
+abbrev pub coded_located_event : Coded LocatedEvent
+coded_located_event =
+    code_by (Node × (Event Term × Bool)) (coded× coded_node (coded× coded_event coded_bool)) (λ o. (o.node, (o.event, o.by_role)))
+    (λ p. record { node = p.0; event = p.1.0; by_role = p.1.1 })
+    (λ o. refl)
 
 abbrev coded_pair : Coded OrderPair
 coded_pair = code_by (Node × Node) (coded× coded_node coded_node) (λ p. (p.earlier, p.later)) (λ q. record { earlier = q.0; later = q.1 }) (λ p. refl)

@@ -4,10 +4,15 @@ use Rattle.cp_model.specs.Term.{Term, variables_of}
 use Rattle.cp_model.specs.declared.variable.Variable.{Variable}
 use Rattle.cp_model.specs.Strand.{payload}
 use Rattle.cp_model.specs.declared.strand.Event.{Event}
+use Rattle.cp_model.specs.declared.node.Node.{Node}
 use Rattle.cp_model.specs.Bundle.{node_at}
 use Rattle.cp_model.specs.Skeleton.{SkeletonStrand, instance, listener, skeleton_trace, Skeleton}
+
 -- An event, the node where it stands, and whether a role strand is there.
-pub use Rattle.cp_skel.specs.declared.events.LocatedEvent.{LocatedEvent}
+pub record LocatedEvent : Type 0 where
+  pub node : Node
+  pub event : Event Term
+  pub by_role : Bool
 
 -- The strand is an instance of a role.
 abbrev pub is_role_strand : SkeletonStrand → Bool

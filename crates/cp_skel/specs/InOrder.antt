@@ -12,7 +12,7 @@ abbrev pub ListsTo : {A : Type 0} → (List A → A → Bool) → (List A → Li
 ListsTo among onto old m stated n = (n ≤ length old) × (onto (take m old) (filter (among old) stated) ≡ take n old)
 
 -- No more are listed than there are.
-pub record AreWithin (old : Assumptions) (n : Counts) : Type 0 where
+pub record AreCountsWithin (old : Assumptions) (n : Counts) : Type 0 where
   pub non : n.non_originating ≤ length old.non_originating
   pub penetrator_non : n.penetrator_non_originating ≤ length old.penetrator_non_originating
   pub unique : n.uniquely_originating ≤ length old.uniquely_originating

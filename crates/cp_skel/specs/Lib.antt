@@ -1,5 +1,6 @@
 pub mod Code
 pub mod Parts
+pub mod MapParts
 pub mod Sound
 pub mod JoinedAssumptions
 pub mod Ordered
@@ -9,4 +10,6 @@ pub mod Bridges
 pub mod Kinds
 pub mod InOrder
 pub mod Events
+pub mod LentEvents
 pub mod Tables
+pub mod Preceding

@@ -2,7 +2,7 @@
 ghost use Rattle.std.specs.Prelude.{◌≡◌, ◌≤◌, ◌∷◌, [], length, map, take, IsTrue, IfSome};
 ghost use Rattle.cp_model.specs.Given.{has_unique, uniques_onto, listed};
 ghost use Rattle.cp_strand.specs.Givens.{unique_on};
-ghost use Rattle.cp_skel.specs.InOrder.{ListsTo, AreWithin, none_listed, these, given_from, ListEach};
+ghost use Rattle.cp_skel.specs.InOrder.{ListsTo, AreCountsWithin, none_listed, these, given_from, ListEach};
 
 use crate::assumptions::{Assumptions, UniqueAt};
 use crate::gathered::Gathered;
@@ -118,7 +118,7 @@ fn listed_with_given(
     old: &Assumptions,
     start: Counts,
 ) -> Option<Counts>
-    requires { AreWithin old.now start }
+    requires { AreCountsWithin old.now start }
     ensures { IfSome result (λ n. ListEach old.now start (these number given.now) n) }
 {
     let non_originating = listed_with_all(
@@ -153,7 +153,7 @@ fn listed_with_strand(
     old: &Assumptions,
     start: Counts,
 ) -> Option<Counts>
-    requires { AreWithin old.now start }
+    requires { AreCountsWithin old.now start }
     ensures { IfSome result (λ n. ListEach old.now start (given_from number (strand.now ∷ [])) n) }
 {
     if let Some(given) = strand.given() {
@@ -173,7 +173,7 @@ fn listed_with_strands(
     old: &Assumptions,
     start: Counts,
 ) -> Option<Counts>
-    requires { AreWithin old.now start }
+    requires { AreCountsWithin old.now start }
     ensures { IfSome result (λ n. ListEach old.now start (given_from 0 strands.now) n) }
 {
     let mut counts = start;

@@ -3,7 +3,7 @@ ghost use Rattle.std.specs.Prelude.{◌≡◌, [], ◌∷◌, OnOk, OnErr};
 ghost use Rattle.cp_model.specs.Given.{atoms_onto, uniques_onto};
 
 use crate::assumptions::UniqueAt;
-use crate::gathered::{add_each, add_once};
+use crate::gathered::{add_missing, add_once};
 use cp_strand::Atom;
 use std::alloc::AllocError;
 
@@ -19,7 +19,7 @@ pub fn add_atom(atoms: &mut Vec<Atom>, atom: Atom) -> Result<(), AllocError>
 pub fn add_atoms(atoms: &mut Vec<Atom>, more: &[Atom]) -> Result<(), AllocError>
     ensures { OnOk result (atoms.new.items ≡ atoms_onto atoms.old.items more.now) }
 {
-    add_each(atoms, more)
+    add_missing(more, &[], atoms)
 }
 
 /// Appends a unique value with its origin, unless it is already in the list. On an error the list is unchanged.

@@ -1,5 +1,5 @@
 // What skeletons assume.
-ghost use Rattle.std.specs.Prelude.{◌≡◌, IfOk, OnOk, OnErr};
+ghost use Rattle.std.specs.Prelude.{◌≡◌, [], IsTrue, IfOk, OnOk, OnErr};
 ghost use Rattle.std.specs.Result.{IsOkAnd};
 ghost use Rattle.cp_skel.specs.JoinedAssumptions.{joined_assumptions};
 
@@ -124,7 +124,7 @@ impl Assumptions {
     }
 
     /// The assumptions of these three lists, if each could be made.
-    pub(crate) fn of(
+    pub fn of(
         non_originating: Result<Vec<Atom>, AllocError>,
         penetrator_non_originating: Result<Vec<Atom>, AllocError>,
         uniquely_originating: Result<Vec<UniqueAt>, AllocError>,
@@ -133,11 +133,28 @@ impl Assumptions {
         ensures penetrator_non { IfOk result (λ a. IsOkAnd penetrator_non_originating (λ v. a.penetrator_non_originating ≡ v.items)) }
         ensures unique { IfOk result (λ a. IsOkAnd uniquely_originating (λ v. a.uniquely_originating ≡ v.items)) }
     {
-        Ok(Assumptions::new(
-            non_originating?,
-            penetrator_non_originating?,
-            uniquely_originating?,
-        ))
+        Assumptions::of_shared(
+            non_originating.map(SharedList::of),
+            penetrator_non_originating.map(SharedList::of),
+            uniquely_originating.map(SharedList::of),
+        )
+    }
+
+    /// The assumptions of these three shared lists, if each could be made.
+    fn of_shared(
+        non_originating: Result<SharedList<Atom>, AllocError>,
+        penetrator_non_originating: Result<SharedList<Atom>, AllocError>,
+        uniquely_originating: Result<SharedList<UniqueAt>, AllocError>,
+    ) -> Result<Assumptions, AllocError>
+        ensures non { IfOk result (λ a. IsOkAnd non_originating (λ l. a.non_originating ≡ l)) }
+        ensures penetrator_non { IfOk result (λ a. IsOkAnd penetrator_non_originating (λ l. a.penetrator_non_originating ≡ l)) }
+        ensures unique { IfOk result (λ a. IsOkAnd uniquely_originating (λ l. a.uniquely_originating ≡ l)) }
+    {
+        Ok(Assumptions {
+            non_originating: non_originating?,
+            penetrator_non_originating: penetrator_non_originating?,
+            uniquely_originating: uniquely_originating?,
+        })
     }
 
     /// The values that originate nowhere (`non-orig`).
@@ -161,15 +178,24 @@ impl Assumptions {
         self.uniquely_originating.as_slice()
     }
 
+    /// Whether nothing is assumed.
+    fn is_empty(&self) -> bool
+        ensures { IsTrue result → self.now ≡ record { non_originating = []; penetrator_non_originating = []; uniquely_originating = [] } }
+    {
+        self.non_originating().is_empty()
+            && self.penetrator_non_originating().is_empty()
+            && self.uniquely_originating().is_empty()
+    }
+
     /// The same assumptions.
     pub fn copy(&self, alloc: Global) -> Result<Assumptions, AllocError>
         ensures { IfOk result (λ a. a ≡ self.now) }
     {
-        Ok(Assumptions {
-            non_originating: self.non_originating.copy(alloc)?,
-            penetrator_non_originating: self.penetrator_non_originating.copy(alloc)?,
-            uniquely_originating: self.uniquely_originating.copy(alloc)?,
-        })
+        Assumptions::of_shared(
+            self.non_originating.copy(alloc),
+            self.penetrator_non_originating.copy(alloc),
+            self.uniquely_originating.copy(alloc),
+        )
     }
 
     /// The assumptions with these unique values in place of their own. They share the other lists.
@@ -180,26 +206,11 @@ impl Assumptions {
     ) -> Result<Assumptions, AllocError>
         ensures { IfOk result (λ a. a ≡ record self.now { uniquely_originating = uniques.items }) }
     {
-        Ok(Assumptions {
-            non_originating: self.non_originating.copy(alloc)?,
-            penetrator_non_originating: self.penetrator_non_originating.copy(alloc)?,
-            uniquely_originating: SharedList::of(uniques),
-        })
-    }
-
-    /// These assumptions and others behind them. Where there are no others, they share the list.
-    fn joined(&self, more: &Assumptions) -> Result<Assumptions, AllocError>
-        ensures { IfOk result (λ a. a ≡ joined_assumptions self.now more.now) }
-    {
-        Ok(Assumptions {
-            non_originating: self.non_originating.joined(more.non_originating())?,
-            penetrator_non_originating: self
-                .penetrator_non_originating
-                .joined(more.penetrator_non_originating())?,
-            uniquely_originating: self
-                .uniquely_originating
-                .joined(more.uniquely_originating())?,
-        })
+        Assumptions::of_shared(
+            self.non_originating.copy(alloc),
+            self.penetrator_non_originating.copy(alloc),
+            Ok(SharedList::of(uniques)),
+        )
     }
 
     /// Appends other assumptions to these. On an error nothing has changed.
@@ -207,8 +218,18 @@ impl Assumptions {
         ensures joined { OnOk result (self.new ≡ joined_assumptions self.old more) }
         ensures unchanged { OnErr result (self.new ≡ self.old) }
     {
-        let joined = self.joined(&more)?;
-        *self = joined;
+        if more.is_empty() {
+            return Ok(());
+        }
+        // Where there are no others, the list is shared.
+        let both = Assumptions::of_shared(
+            self.non_originating.joined(more.non_originating()),
+            self.penetrator_non_originating
+                .joined(more.penetrator_non_originating()),
+            self.uniquely_originating
+                .joined(more.uniquely_originating()),
+        )?;
+        *self = both;
         Ok(())
     }
 }

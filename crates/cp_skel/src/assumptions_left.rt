@@ -8,8 +8,8 @@ ghost use Rattle.cp_skel.specs.Deletion.{LeavesOut, as_it_is, GivesFrom, IsGiven
 ghost use Rattle.cp_skel.specs.Kinds.{stated_as, IsInFirstAlone};
 
 use crate::assumptions::Assumptions;
+use crate::gathered::add_missing;
 use crate::new_numbers::left_without;
-use crate::role_assumptions::missing_atoms;
 use crate::skeleton::Skeleton;
 use cp_strand::{Atom, Instance, Role, Strand, StrandShape, applying, has_atom};
 use std::alloc::{AllocError, Global};
@@ -43,7 +43,9 @@ fn missing_applied(
         (applying instance.now.role instance.now.height (bindings_of instance.now.values) stated.now)) }
 {
     let applied = applying(alloc, instance, stated)?;
-    missing_atoms(alloc, &applied, old)
+    let mut more = Vec::new(alloc);
+    add_missing(&applied, old, &mut more)?;
+    Ok(more)
 }
 
 /// What a strand gives of a kind, each once, except what is already given.

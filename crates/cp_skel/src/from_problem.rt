@@ -1,5 +1,7 @@
 // The map from a problem to a skeleton.
 ghost use Rattle.std.specs.Prelude.{◌≡◌, IfOk};
+ghost use Rattle.std.specs.Result.{IsOkAnd};
+ghost use Rattle.cp_skel.specs.MapParts.{map_of_parts};
 
 use crate::assumptions::Assumptions;
 use crate::skeleton::OrderPair;
@@ -7,25 +9,35 @@ use cp_model::SharedList;
 use cp_term::Term;
 use std::alloc::{AllocError, Global};
 use std::marker::Model;
+use std::rc::Rc;
 
-/// The map from a problem: a strand for each strand of the problem, and a term for each of its variables; and the
-/// images of the assumptions and the pairs that the problem itself states. Copies share all of these.
-pub struct FromProblem {
+/// What a map from a problem consists of.
+#[derive(Drop)]
+struct Parts {
     strands: SharedList<usize>,
     values: SharedList<Term>,
     assumptions: Assumptions,
     pairs: SharedList<OrderPair>,
 }
 
+/// How the parts of a map are held: by a handle that copies share; or, if there was no memory for a handle, by
+/// themselves.
+#[derive(Drop)]
+enum Held {
+    Shared(Rc<Parts>),
+    Own(Parts),
+}
+
+/// The map from a problem: a strand for each strand of the problem, and a term for each of its variables; and the
+/// images of the assumptions and the pairs that the problem itself states. Copies share all of these.
+pub struct FromProblem {
+    held: Held,
+}
+
 // A value drops by one call of its own, wherever it is held.
 impl Drop for FromProblem {
     fn drop(self) {
-        let FromProblem {
-            strands,
-            values,
-            assumptions,
-            pairs,
-        } = self;
+        let FromProblem { held } = self;
     }
 }
 
@@ -37,12 +49,9 @@ impl Model for FromProblem {
 
     ghost coded = { coded_from_problem };
 
-    ghost view = { λ p. record {
-      strands = p.strands;
-      values = p.values;
-      assumptions = p.assumptions;
-      pairs = p.pairs;
-    } };
+    ghost use Rattle.cp_skel.specs.MapParts.{held_map};
+
+    ghost view = { λ p. held_map p.held };
 }
 
 impl FromProblem {
@@ -56,11 +65,58 @@ impl FromProblem {
     ) -> FromProblem
         ensures { result ≡ record { strands = strands.items; values = values.items; assumptions = assumptions; pairs = pairs.items } }
     {
-        FromProblem {
-            strands: SharedList::of(strands),
-            values: SharedList::of(values),
-            assumptions,
-            pairs: SharedList::of(pairs),
+        let alloc = *strands.allocator();
+        FromProblem::of(
+            alloc,
+            Parts {
+                strands: SharedList::of(strands),
+                values: SharedList::of(values),
+                assumptions,
+                pairs: SharedList::of(pairs),
+            },
+        )
+    }
+
+    /// The map of these parts.
+    fn of(alloc: Global, parts: Parts) -> FromProblem
+        ensures { result ≡ map_of_parts parts }
+    {
+        let held = match Rc::new(alloc, parts) {
+            Ok(parts) => Held::Shared(parts),
+            Err(refused) => Held::Own(refused.value),
+        };
+        FromProblem { held }
+    }
+
+    /// The map of these parts, if each could be made.
+    fn of_shared(
+        alloc: Global,
+        strands: Result<SharedList<usize>, AllocError>,
+        values: Result<SharedList<Term>, AllocError>,
+        assumptions: Result<Assumptions, AllocError>,
+        pairs: Result<SharedList<OrderPair>, AllocError>,
+    ) -> Result<FromProblem, AllocError>
+        ensures strands { IfOk result (λ f. IsOkAnd strands (λ l. f.strands ≡ l)) }
+        ensures values { IfOk result (λ f. IsOkAnd values (λ l. f.values ≡ l)) }
+        ensures assumptions { IfOk result (λ f. IsOkAnd assumptions (λ a. f.assumptions ≡ a)) }
+        ensures pairs { IfOk result (λ f. IsOkAnd pairs (λ l. f.pairs ≡ l)) }
+    {
+        let parts = Parts {
+            strands: strands?,
+            values: values?,
+            assumptions: assumptions?,
+            pairs: pairs?,
+        };
+        Ok(FromProblem::of(alloc, parts))
+    }
+
+    /// What it consists of.
+    fn parts(&self) -> &Parts
+        ensures { map_of_parts result.now ≡ self.now }
+    {
+        match &self.held {
+            Held::Shared(parts) => parts,
+            Held::Own(parts) => parts,
         }
     }
 
@@ -68,40 +124,46 @@ impl FromProblem {
     pub fn strands(&self) -> &[usize]
         ensures { result.now ≡ self.now.strands }
     {
-        self.strands.as_slice()
+        self.parts().strands.as_slice()
     }
 
     /// A term for each variable of the problem.
     pub fn values(&self) -> &[Term]
         ensures { result.now ≡ self.now.values }
     {
-        self.values.as_slice()
+        self.parts().values.as_slice()
     }
 
     /// The images of the assumptions that the problem itself states.
     pub fn assumptions(&self) -> &Assumptions
         ensures { result.now ≡ self.now.assumptions }
     {
-        &self.assumptions
+        &self.parts().assumptions
     }
 
     /// The images of the pairs that the problem itself states.
     pub fn pairs(&self) -> &[OrderPair]
         ensures { result.now ≡ self.now.pairs }
     {
-        self.pairs.as_slice()
+        self.parts().pairs.as_slice()
     }
 
     /// The same map from a problem.
     pub fn copy(&self, alloc: Global) -> Result<FromProblem, AllocError>
         ensures { IfOk result (λ p. p ≡ self.now) }
     {
-        Ok(FromProblem {
-            strands: self.strands.copy(alloc)?,
-            values: self.values.copy(alloc)?,
-            assumptions: self.assumptions.copy(alloc)?,
-            pairs: self.pairs.copy(alloc)?,
-        })
+        match &self.held {
+            Held::Shared(parts) => parts.clone().map(|parts| FromProblem {
+                held: Held::Shared(parts),
+            }),
+            Held::Own(parts) => FromProblem::of_shared(
+                alloc,
+                parts.strands.copy(alloc),
+                parts.values.copy(alloc),
+                parts.assumptions.copy(alloc),
+                parts.pairs.copy(alloc),
+            ),
+        }
     }
 
     /// The map with these values and these images of the assumptions in place of its own. It shares the strands and the
@@ -114,12 +176,14 @@ impl FromProblem {
     ) -> Result<FromProblem, AllocError>
         ensures { IfOk result (λ p. p ≡ record self.now { values = values.items; assumptions = assumptions }) }
     {
-        Ok(FromProblem {
-            strands: self.strands.copy(alloc)?,
-            values: SharedList::of(values),
-            assumptions,
-            pairs: self.pairs.copy(alloc)?,
-        })
+        let own = self.parts();
+        FromProblem::of_shared(
+            alloc,
+            own.strands.copy(alloc),
+            Ok(SharedList::of(values)),
+            Ok(assumptions),
+            own.pairs.copy(alloc),
+        )
     }
 
     /// The map with these strands, images of the assumptions and images of the pairs in place of its own. It shares the
@@ -133,11 +197,12 @@ impl FromProblem {
     ) -> Result<FromProblem, AllocError>
         ensures { IfOk result (λ p. p ≡ record { strands = strands.items; values = self.now.values; assumptions = assumptions; pairs = pairs.items }) }
     {
-        Ok(FromProblem {
-            strands: SharedList::of(strands),
-            values: self.values.copy(alloc)?,
-            assumptions,
-            pairs: SharedList::of(pairs),
-        })
+        FromProblem::of_shared(
+            alloc,
+            Ok(SharedList::of(strands)),
+            self.parts().values.copy(alloc),
+            Ok(assumptions),
+            Ok(SharedList::of(pairs)),
+        )
     }
 }

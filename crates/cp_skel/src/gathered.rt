@@ -51,19 +51,7 @@ pub(crate) fn add_once<T: Gathered + Drop>(items: &mut Vec<T>, item: T) -> Resul
     if has(items, &item) {
         return Ok(());
     }
-    items.push(item)?;
-    Ok(())
-}
-
-/// Appends copies of these items, except those already in the list. On an error some may have been added.
-pub(crate) fn add_each<T: Gathered + Drop>(items: &mut Vec<T>, more: &[T]) -> Result<(), AllocError>
-    ensures { OnOk result (items.new.items ≡ T.onto items.old.items more.now) }
-{
-    for item in more {
-        let item = item.clone()?;
-        add_once(items, item)?;
-    }
-    Ok(())
+    items.push(item).map_err(AllocError::from)
 }
 
 /// Appends an item to `more`, unless it is already there or in `old`.
@@ -77,7 +65,20 @@ pub(crate) fn push_missing<T: Gathered + Drop>(
     if has(old, &item) || has(more, &item) {
         return Ok(());
     }
-    more.push(item)?;
+    more.push(item).map_err(AllocError::from)
+}
+
+/// Appends copies of these items to `more`, except those already there or in `old`. On an error some may have been added.
+pub(crate) fn add_missing<T: Gathered + Drop>(
+    given: &[T],
+    old: &[T],
+    more: &mut Vec<T>,
+) -> Result<(), AllocError>
+    ensures { OnOk result (old.now ++ more.new.items ≡ T.onto (old.now ++ more.old.items) given.now) }
+{
+    for item in given {
+        push_missing(old, more, item.clone()?)?;
+    }
     Ok(())
 }
 
@@ -95,6 +96,6 @@ pub(crate) fn stated_first<T: Gathered + Drop>(
             add_once(&mut listed, item.clone()?)?;
         }
     }
-    add_each(&mut listed, old)?;
+    add_missing(old, &[], &mut listed)?;
     Ok(listed)
 }

@@ -3,12 +3,11 @@ ghost use Rattle.std.specs.Prelude.{◌≡◌, OnOk};
 ghost use Rattle.cp_model.specs.Given.{with_given};
 
 use crate::assumptions::Assumptions;
-use crate::role_assumptions::lacking;
+use crate::role_assumptions::Missing;
 use cp_strand::Strand;
 use std::alloc::{AllocError, Global};
 
-/// Adds what the roles of these strands give, strand by strand, except what is already there. On an error some may have
-/// been added.
+/// Adds what the roles of these strands give, strand by strand, except what is already there.
 pub fn add_given(
     alloc: Global,
     strands: &[Strand],
@@ -17,9 +16,9 @@ pub fn add_given(
     ensures { OnOk result (assumptions.new
         ≡ with_given strands.now assumptions.old) }
 {
+    let mut missing = Missing::none(alloc);
     for (number, strand) in strands.iter().enumerate() {
-        let more = lacking(alloc, number, strand, assumptions)?;
-        assumptions.append(more)?;
+        missing.add_lacking(alloc, number, strand, assumptions)?;
     }
-    Ok(())
+    assumptions.append(missing.into_assumptions())
 }

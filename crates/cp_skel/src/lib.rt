@@ -20,6 +20,7 @@ mod laws;
 mod new_numbers;
 mod node_order;
 mod origins;
+mod preceding;
 mod report_order;
 mod role_assumptions;
 mod skeleton;
@@ -37,9 +38,9 @@ pub use cp_model::{Limits, Mark, Nodes, Numbers, Operation, Outcome};
 pub use cp_order::{Order, Predecessors, SortedPairs};
 pub use cp_strand::{
     Atom, Declaration, Event, Instance, Protocol, Role, Strand, StrandShape, all_occur, applied,
-    applied_atom, has_atom, is_same_role, occurs, origin, prefix_of, value_of_variable,
+    applied_atom, has_atom, is_added, is_same_role, occurs, origin, prefix_of, value_of_variable,
 };
-pub use events::LocatedEvent;
+pub use events::{ListedSkeleton, LocatedEvent};
 pub use from_problem::FromProblem;
 pub use given_assumptions::add_given;
 pub use laws::{
@@ -47,7 +48,7 @@ pub use laws::{
     listed_assumptions_are_the_same, listener_keeps_skeletons, skeletons_have_declared_prefixes,
     strand_keeps_skeletons, test_of_variables, variables_of_prefixes,
 };
-pub use node_order::comes_before;
+pub use preceding::Preceding;
 pub use report_order::listed;
 pub use role_assumptions::has_unique;
 pub use skeleton::{Node, OrderPair, Skeleton};

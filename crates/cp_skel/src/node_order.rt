@@ -69,14 +69,3 @@ impl Skeleton {
         Ok(true)
     }
 }
-
-/// Whether n is before m in the skeleton's order, decided by the gathered nodes that reach m along its pairs. The
-/// node m must exist.
-pub fn comes_before(k: &Skeleton, leading: &Predecessors<'_>, n: Node, m: Node) -> bool
-    requires there { IsNodeOf k.now.strands m }
-    requires gathered { leading.now ≡ record { pairs = k.now.pairs; node = m } }
-    ensures { IsTrue result ↔ Before k.now n m }
-{
-    k.is_sound();
-    n != m && leading.has(n)
-}

@@ -15,8 +15,7 @@ fn add_term(term: &Term, events: &mut Vec<Event>) -> Result<(), AllocError>
     ensures { OnOk result (variables_of_trace events.new.items ≡ variables_of_trace events.old.items ++ variables_of term.now) }
 {
     let term = term.copy()?;
-    events.push(Event::Send(term))?;
-    Ok(())
+    events.push(Event::Send(term)).map_err(AllocError::from)
 }
 
 /// Appends transmissions of the terms.
@@ -57,7 +56,7 @@ pub fn used_terms(alloc: Global, k: &Skeleton) -> Result<Vec<Event>, AllocError>
     let mut events = Vec::new(alloc);
     let occurrences = k.events(alloc)?;
     for occurrence in &occurrences {
-        add_term(occurrence.event.payload(), &mut events)?;
+        add_term(occurrence.event().payload(), &mut events)?;
     }
     let assumptions = k.assumptions();
     add_atoms(assumptions.non_originating(), &mut events)?;

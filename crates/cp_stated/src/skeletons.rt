@@ -28,10 +28,11 @@ fn assumptions_under(
     requires { scope_view scope ≡ scope_of (map view items.now) }
     ensures { IfOk result (λ a. a ≡ assumptions_stated (map view items.now)) }
 {
-    let non = atoms_under(alloc, scope, b"non-orig", items)?;
-    let penetrator_non = atoms_under(alloc, scope, b"pen-non-orig", items)?;
-    let uniques = uniques_under(alloc, scope, items)?;
-    Ok(Assumptions::new(non, penetrator_non, uniques))
+    Assumptions::of(
+        atoms_under(alloc, scope, b"non-orig", items),
+        atoms_under(alloc, scope, b"pen-non-orig", items),
+        uniques_under(alloc, scope, items),
+    )
 }
 
 /// The map from a problem to these strands, pairs and assumptions that sends its strands to these numbers and its
@@ -48,8 +49,9 @@ fn from_problem_by(
     ensures { IfOk result (λ f. f ≡ from_problem_to own.now strands.now pairs.now assumptions.now to_strands.items values.items) }
 {
     let images = images_among(alloc, &to_strands, &values, own.assumptions(), assumptions)?;
-    let ordered = pairs_in_order(alloc, &to_strands, &values, own.pairs(), strands, pairs)?;
-    Ok(FromProblem::new(to_strands, values, images, ordered))
+    pairs_in_order(alloc, &to_strands, &values, own.pairs(), strands, pairs).map(
+        |ordered| FromProblem::new(to_strands, values, images, ordered),
+    )
 }
 
 /// The skeleton that the items of a label form state. They must fit. The names are those of the problem's variables in

@@ -6,3 +6,4 @@ pub mod ValuedItems
 pub mod SameLists
 pub mod InstanceTraces
 mod GivenValues
+pub mod FirstEvents

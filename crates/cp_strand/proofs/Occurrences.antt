@@ -12,7 +12,7 @@ use Rattle.cp_model.specs.Strand.{payload, variables_of_trace}
 use Rattle.cp_model.specs.Same.{same_sort, has_variable}
 use Rattle.cp_term.specs.Keys.{key_as_term}
 
-has_variable-append : (xs ys : List Variable) (z : Variable) → has_variable (xs ++ ys) z ≡ (has_variable xs z || has_variable ys z)
+pub has_variable-append : (xs ys : List Variable) (z : Variable) → has_variable (xs ++ ys) z ≡ (has_variable xs z || has_variable ys z)
 has_variable-append [] ys z = refl
 has_variable-append (x ∷ xs) ys z =
     ap (λ b. (same_sort x.sort z.sort && (x.number == z.number)) || b) (has_variable-append xs ys z) ∙ sym (or_assoc (same_sort x.sort z.sort && (x.number == z.number)) (has_variable xs z) (has_variable ys z))

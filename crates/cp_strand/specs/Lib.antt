@@ -7,3 +7,4 @@ pub mod RoleParts
 pub mod Shapes
 pub mod Origins
 pub mod Valued
+pub mod FirstEvents

@@ -7,7 +7,8 @@ ghost use Rattle.cp_strand.specs.View.{instance_view};
 
 use crate::atom::Atom;
 use crate::events::applied_atom;
-use crate::prefix_variables::{all_occur, prefix_of};
+use crate::prefix_variables::all_occur_before;
+use crate::protocol::Role;
 use crate::strand::{Body, Instance, Strand, StrandShape};
 use crate::term_origins::origin;
 use std::alloc::{AllocError, Global};
@@ -46,10 +47,11 @@ pub fn applying(
     ensures { IfOk result (λ v. v.items
         ≡ applying instance.now.role instance.now.height (bindings_of instance.now.values) stated.now) }
 {
-    let prefix = prefix_of(instance.role(), instance.height());
+    let role: &Role = instance.role();
+    let height = instance.height();
     let mut values = Vec::new(alloc);
     for atom in stated {
-        if !all_occur(prefix, atom) {
+        if !all_occur_before(role, atom, height) {
             continue;
         }
         values.push(applied_atom(alloc, instance.values(), atom)?)?;

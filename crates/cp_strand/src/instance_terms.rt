@@ -5,7 +5,7 @@ ghost use Rattle.cp_model.specs.Strand.{variables_of_prefix};
 ghost use Rattle.cp_model.specs.PrefixVariables.{is_added};
 ghost use Rattle.cp_strand.specs.Valued.{term_or, valued};
 
-use crate::prefix_variables::{is_added, prefix_of};
+use crate::prefix_variables::is_added;
 use crate::protocol::Role;
 use crate::strand::Instance;
 use cp_model::item_at;
@@ -42,13 +42,11 @@ fn terms_of(
         (is_added (variables_of_prefix role.now before) (variables_of_prefix role.now height))
         old.now 0 role.now.variables values.now) }
 {
-    let earlier = prefix_of(role, before);
-    let prefix = prefix_of(role, height);
     let mut terms = Vec::with_capacity(alloc, role.variables().len())?;
     let mut next = 0;
     for (number, declaration) in role.variables().iter().enumerate() {
         let id = VarId::numbered(number);
-        if !is_added(earlier, prefix, id, declaration.sort) {
+        if !is_added(role, before, height, id, declaration.sort) {
             terms.push(term_or_variable(alloc, item_at(old, number), id, declaration.sort)?)?;
             continue;
         }

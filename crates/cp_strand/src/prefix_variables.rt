@@ -1,13 +1,16 @@
 // Variables that occur in terms and in the prefixes of roles.
-ghost use Rattle.std.specs.Prelude.{◌≡◌, ◌&&◌, ◌==◌};
+ghost use Rattle.std.specs.Prelude.{◌≡◌, ◌&&◌, ◌==◌, IfOk};
 ghost use Rattle.cp_model.specs.Term.{variables_of, variables_of_atom};
-ghost use Rattle.cp_model.specs.Strand.{variables_of_trace, prefix_of};
+ghost use Rattle.cp_model.specs.Strand.{variables_of_trace, variables_of_prefix, prefix_of};
 ghost use Rattle.cp_model.specs.Same.{same_sort, has_variable, has_variables};
 ghost use Rattle.cp_model.specs.PrefixVariables.{is_added};
+ghost use Rattle.cp_strand.specs.FirstEvents.{first_event, first_events, is_reached};
 
 use crate::atom::Atom;
 use crate::protocol::{Event, Role};
+use cp_model::Declaration;
 use cp_term::{Shape, Sort, Term, VarId};
+use std::alloc::{AllocError, Global};
 
 /// The first `height` events of a role.
 pub fn prefix_of(role: &Role, height: usize) -> &[Event]
@@ -72,12 +75,48 @@ pub fn occurs(events: &[Event], id: VarId, sort: Sort) -> bool
     false
 }
 
-/// Whether the variable of this sort occurs in the events and not in the earlier ones.
-pub(crate) fn is_added(earlier: &[Event], events: &[Event], id: VarId, sort: Sort) -> bool
-    ensures { result ≡ is_added (variables_of_trace earlier.now) (variables_of_trace events.now)
+/// The index of the first event in which the variable of this sort occurs, if it occurs in one.
+fn first_event(events: &[Event], id: VarId, sort: Sort) -> Option<usize>
+    ensures { result ≡ first_event events.now (record { sort = sort; number = id }) }
+{
+    events
+        .iter()
+        .position(|event| occurs_in(event.payload(), id, sort))
+}
+
+/// For each declared variable the index of the first event in which it occurs, if it occurs in one.
+pub(crate) fn first_events(
+    alloc: Global,
+    variables: &[Declaration],
+    events: &[Event],
+) -> Result<Vec<Option<usize>>, AllocError>
+    ensures { IfOk result (λ v. v.items ≡ first_events variables.now events.now) }
+{
+    variables
+        .iter()
+        .enumerate()
+        .map(|(number, declaration)| {
+            first_event(events, VarId::numbered(number), declaration.sort)
+        })
+        .collect(alloc)
+}
+
+/// Whether an event with this index, if there is one, is among the first `height` events.
+pub(crate) fn is_reached(index: Option<usize>, height: usize) -> bool
+    ensures { result ≡ is_reached index height }
+{
+    match index {
+        Some(index) => index < height,
+        None => false,
+    }
+}
+
+/// Whether the variable of this sort occurs in the first `height` events of a role and not in the first `before`.
+pub fn is_added(role: &Role, before: usize, height: usize, id: VarId, sort: Sort) -> bool
+    ensures { result ≡ is_added (variables_of_prefix role.now before) (variables_of_prefix role.now height)
         (record { sort = sort; number = id }) }
 {
-    occurs(events, id, sort) && !occurs(earlier, id, sort)
+    role.occurs_before(id, sort, height) && !role.occurs_before(id, sort, before)
 }
 
 /// Whether all variables of an atom occur in the events.
@@ -89,6 +128,21 @@ pub fn all_occur(events: &[Event], atom: &Atom) -> bool
         Shape::Inverse(id) => occurs(events, id, Sort::Akey),
         Shape::Ltk(a, b) => occurs(events, a, Sort::Name) && occurs(events, b, Sort::Name),
         Shape::Pubk(_, _, name) => occurs(events, name, Sort::Name),
+        Shape::Tag(_) | Shape::Pair(..) | Shape::Encryption(..) => unreachable!(),
+    }
+}
+
+/// Whether all variables of an atom occur in the first `height` events of a role.
+pub(crate) fn all_occur_before(role: &Role, atom: &Atom, height: usize) -> bool
+    ensures { result ≡ has_variables (variables_of_prefix role.now height) (variables_of_atom atom.now) }
+{
+    match atom.as_term().shape() {
+        Shape::Variable(id, sort) => role.occurs_before(id, sort, height),
+        Shape::Inverse(id) => role.occurs_before(id, Sort::Akey, height),
+        Shape::Ltk(a, b) => {
+            role.occurs_before(a, Sort::Name, height) && role.occurs_before(b, Sort::Name, height)
+        }
+        Shape::Pubk(_, _, name) => role.occurs_before(name, Sort::Name, height),
         Shape::Tag(_) | Shape::Pair(..) | Shape::Encryption(..) => unreachable!(),
     }
 }

@@ -1,11 +1,15 @@
 // Declarations, events, roles and protocols.
-ghost use Rattle.std.specs.Prelude.{◌≡◌, ◌≤◌, map};
+ghost use Rattle.std.specs.Prelude.{◌≡◌, ◌≤◌, map, IfOk};
 ghost use Rattle.cp_model.specs.Declares.{DeclaresItsVariables, HasDeclaringRoles};
+ghost use Rattle.cp_model.specs.Strand.{variables_of_prefix};
+ghost use Rattle.cp_model.specs.Same.{has_variable};
 
 use crate::atom::Atom;
+use crate::prefix_variables::{first_events, is_reached, occurs, prefix_of};
 use cp_base::Text;
-use cp_model::Declaration;
-use cp_term::{Shape, Term};
+use cp_model::{Declaration, item_at};
+use cp_term::{Shape, Sort, Term, VarId};
+use std::alloc::{AllocError, Global};
 use std::marker::Model;
 use std::rc::Rc;
 
@@ -13,7 +17,8 @@ use std::rc::Rc;
 pub type Event = cp_model::Event<Term>;
 
 /// A role: its name, its variables, its events and its assumptions. It declares the variables of its events. It also
-/// keeps whether it is small, which contracts do not see.
+/// keeps whether it is small, and may keep the index of the first event in which each of its variables occurs;
+/// contracts see neither.
 pub struct Role {
     name: Text,
     variables: Vec<Declaration>,
@@ -22,6 +27,7 @@ pub struct Role {
     penetrator_non_originating: Vec<Atom>,
     uniquely_originating: Vec<Atom>,
     is_small: bool,
+    first_events: Vec<Option<usize>>,
 }
 
 // A value drops by one call of its own, wherever it is held.
@@ -35,6 +41,7 @@ impl Drop for Role {
             penetrator_non_originating,
             uniquely_originating,
             is_small,
+            first_events,
         } = self;
     }
 }
@@ -86,8 +93,9 @@ impl Model for Role {
     ghost view = { role_of_parts };
 
     ghost use Rattle.cp_model.specs.Declares.{DeclaresItsVariables};
+    ghost use Rattle.cp_strand.specs.FirstEvents.{AreFirstEvents};
 
-    ghost invariant = { λ r. DeclaresItsVariables (role_of_parts r) };
+    ghost invariant = { λ r. DeclaresItsVariables (role_of_parts r) × AreFirstEvents (role_of_parts r) r.first_events.items };
 }
 
 impl Role {
@@ -123,6 +131,7 @@ impl Role {
             && non_originating.len() < PARTS
             && penetrator_non_originating.len() < PARTS
             && uniquely_originating.len() < PARTS;
+        let first_events = Vec::new(*variables.allocator());
         Role {
             name,
             variables,
@@ -131,7 +140,16 @@ impl Role {
             penetrator_non_originating,
             uniquely_originating,
             is_small,
+            first_events,
         }
+    }
+
+    /// The same role. It keeps the index of the first event in which each of its variables occurs.
+    pub fn indexed(alloc: Global, mut role: Role) -> Result<Role, AllocError>
+        ensures { IfOk result (λ r. r ≡ role) }
+    {
+        role.first_events = first_events(alloc, &role.variables, &role.trace)?;
+        Ok(role)
     }
 
     /// Every role declares the variables of its events.
@@ -145,6 +163,22 @@ impl Role {
     /// become.
     pub(crate) fn is_small(&self) -> bool {
         self.is_small
+    }
+
+    /// Whether the variable of this sort occurs in the first `height` events.
+    pub fn occurs_before(&self, id: VarId, sort: Sort, height: usize) -> bool
+        ensures { result ≡ has_variable (variables_of_prefix self.now height) (record { sort = sort; number = id }) }
+    {
+        let number = id.number();
+        match (
+            item_at(&self.variables, number),
+            item_at(&self.first_events, number),
+        ) {
+            (Some(declaration), Some(first)) if declaration.sort == sort => is_reached(
+                *first, height,
+            ),
+            _ => occurs(prefix_of(self, height), id, sort),
+        }
     }
 
     /// Its name.

@@ -1,5 +1,5 @@
 // Strands of skeletons, as handles that copies share.
-ghost use Rattle.std.specs.Prelude.{◌≡◌, IfOk, IfSome};
+ghost use Rattle.std.specs.Prelude.{◌≡◌, IfOk};
 ghost use Rattle.cp_strand.specs.Bodies.{strand_of_body, HoldsItsOwn};
 ghost use Rattle.cp_strand.specs.Givens.{IsGivenBy};
 ghost use Rattle.cp_model.specs.Skeleton.{listener, skeleton_trace};
@@ -119,20 +119,6 @@ pub enum StrandShape<'a> {
     Listener(&'a Term),
 }
 
-/// What a strand keeps of an instance: nothing unless its role is small, since what is kept of many strands could take
-/// much memory.
-fn held_of(alloc: Global, instance: &Instance) -> Result<Option<Held>, AllocError>
-    ensures { IfOk result (λ held. IfSome held (λ h. (h.events.items ≡ skeleton_trace (instance_view instance.now))
-        × IsGivenBy (instance_view instance.now) h.given)) }
-{
-    if !instance.role().is_small() {
-        return Ok(None);
-    }
-    let events = instance_events(alloc, instance)?;
-    let given = given_to(alloc, instance)?;
-    Ok(Some(Held { events, given }))
-}
-
 impl Strand {
     /// The strand that is this instance.
     pub fn instance(alloc: Global, instance: Instance) -> Result<Strand, AllocError>
@@ -143,12 +129,32 @@ impl Strand {
     }
 
     /// The strand that is this instance. If its role is small, the strand keeps its events and what its role gives it,
-    /// so that they need not be made each time. Meant for strands that a search adds, and for what they become.
+    /// so that they need not be made each time; those of many large strands could take much memory. Meant for strands
+    /// that a search adds, and for what they become.
     pub fn with_events(alloc: Global, instance: Instance) -> Result<Strand, AllocError>
         ensures { IfOk result (λ s. s ≡ instance_view instance) }
     {
-        let held = held_of(alloc, &instance)?;
-        let body = Rc::new(alloc, Body::Instance(instance, held))?;
+        if !instance.role().is_small() {
+            return Strand::instance(alloc, instance);
+        }
+        let events = instance_events(alloc, &instance)?;
+        let given = given_to(alloc, &instance)?;
+        Strand::holding(alloc, instance, events, given)
+    }
+
+    /// The strand that is this instance and keeps these events, which must be its own, and what its role gives it.
+    pub fn holding(
+        alloc: Global,
+        instance: Instance,
+        events: Vec<Event>,
+        given: Given,
+    ) -> Result<Strand, AllocError>
+        requires events { events.items ≡ skeleton_trace (instance_view instance) }
+        requires given { IsGivenBy (instance_view instance) given }
+        ensures { IfOk result (λ s. s ≡ instance_view instance) }
+    {
+        let held = Held { events, given };
+        let body = Rc::new(alloc, Body::Instance(instance, Some(held)))?;
         Ok(Strand { body })
     }
 

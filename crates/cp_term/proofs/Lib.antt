@@ -1,5 +1,6 @@
 pub mod Behind
 pub mod CarriedTerms
+pub mod CopiedEntries
 pub mod Depths
 pub mod Listed
 pub mod LocalVariables

@@ -1,10 +1,10 @@
 // Numbers that are mixed from others.
 ghost use Rattle.std.specs.Prelude.{◌≡◌};
-ghost use Rattle.cp_term.specs.Numbers.{mixed, mixed_bytes};
+ghost use Rattle.cp_term.specs.Numbers.{mixed_with, mixed_bytes};
 
 /// A number mixed from two others, in this order.
 pub(crate) fn mixed(number: usize, part: usize) -> usize
-    ensures { result ≡ mixed number part }
+    ensures { result ≡ mixed_with number part }
 {
     let sum = number.wrapping_mul(1_000_003).wrapping_add(part);
     sum.wrapping_mul(sum.wrapping_mul(2).wrapping_add(1))

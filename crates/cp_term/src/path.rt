@@ -43,8 +43,7 @@ impl Path {
     pub fn from_slice(alloc: Global, steps: &[Step]) -> Result<Path, AllocError>
         ensures { IfOk result (λ p. p ≡ steps.now) }
     {
-        let steps = SmallVec::from_slice(alloc, steps)?;
-        Ok(Path { steps })
+        SmallVec::from_slice(alloc, steps).map(|steps| Path { steps })
     }
 
     /// The steps.
@@ -80,7 +79,6 @@ impl Path {
     pub fn copy(&self) -> Result<Path, AllocError>
         ensures { IfOk result (λ p. p ≡ self.now) }
     {
-        let steps = SmallVec::from_slice(*self.steps.allocator(), self.steps.as_slice())?;
-        Ok(Path { steps })
+        Path::from_slice(*self.steps.allocator(), self.as_slice())
     }
 }

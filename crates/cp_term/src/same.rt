@@ -31,22 +31,27 @@ impl Term {
     pub fn same(&self, other: &Term) -> bool
         ensures { IsTrue result ↔ (self.now ≡ other.now) }
     {
-        if self.number() != other.number() {
-            return false;
-        }
+        self.number() == other.number() && self.is_same_throughout(other)
+    }
+
+    /// The same test, for terms whose numbers do not tell them apart. Right parts and plaintexts are walked by a loop,
+    /// since a term may be long.
+    fn is_same_throughout(&self, other: &Term) -> bool
+        ensures { IsTrue result ↔ (self.now ≡ other.now) }
+    {
         let mut a = self;
         let mut b = other;
         loop {
             match (a.node(), b.node()) {
                 (Node::Pair(left, right), Node::Pair(other_left, other_right)) => {
-                    if !left.same(other_left) {
+                    if !left.is_same_throughout(other_left) {
                         return false;
                     }
                     a = right;
                     b = other_right;
                 }
                 (Node::Encryption(body, key), Node::Encryption(other_body, other_key)) => {
-                    if !key.same(other_key) {
+                    if !key.is_same_throughout(other_key) {
                         return false;
                     }
                     a = body;

@@ -142,8 +142,7 @@ fn new_parts(
         return Ok(None);
     }
     let first = or_copy(new_first, first)?;
-    let second = or_copy(new_second, second)?;
-    Ok(Some((first, second)))
+    or_copy(new_second, second).map(|second| Some((first, second)))
 }
 
 /// A new pair, of new parts if there are any, or `None` if neither part is new.

@@ -48,16 +48,19 @@ struct Entry {
     sort: Sort,
 }
 
-/// Appends copies of these entries. They share the identifiers. On an error some may have been added.
-fn push_copies(copies: &mut Vec<Entry>, entries: &[Entry]) -> Result<(), AllocError>
-    ensures { OnOk result (map declared_by copies.new.items ≡ map declared_by copies.old.items ++ map declared_by entries.now) }
-{
-    for entry in entries {
-        let root = entry.root.clone()?;
-        let sort = entry.sort;
-        copies.push(Entry { root, sort })?;
+// A copy shares the identifier.
+impl Clone for Entry {
+    ghost use Rattle.cp_term.specs.Entries.{declared_by};
+
+    ghost is_clone = { λ e copy. declared_by copy ≡ declared_by e };
+
+    fn clone(&self) -> Result<Entry, AllocError> {
+        let root = self.root.clone()?;
+        Ok(Entry {
+            root,
+            sort: self.sort,
+        })
     }
-    Ok(())
 }
 
 /// The entries that a table shares with its copies.
@@ -141,11 +144,10 @@ impl VarTable {
         if self.own.is_empty() {
             return another_handle(&self.shared);
         }
-        let mut entries = Vec::new(alloc);
-        push_copies(&mut entries, entries_of(&self.shared))?;
-        push_copies(&mut entries, &self.own)?;
-        let shared = Rc::new(alloc, entries)?;
-        Ok(Some(shared))
+        let mut entries = Vec::with_capacity(alloc, self.len())?;
+        entries.extend_with_clones(entries_of(&self.shared))?;
+        entries.extend_with_clones(&self.own)?;
+        Rc::new(alloc, entries).map(Some).map_err(AllocError::from)
     }
 
     /// The same variables. If none was made since this table is a copy itself, the two share all entries; otherwise they

@@ -7,7 +7,7 @@ use Rattle.cp_model.specs.Strand.{Role, Protocol}
 use Rattle.cp_model.specs.Term.{Term}
 use Rattle.cp_model.specs.declared.tree.Operation.{Operation}
 use Rattle.cp_model.specs.declared.step.Step.{Step}
-use Rattle.cp_skel.specs.declared.events.LocatedEvent.{LocatedEvent}
+use Rattle.cp_skel.specs.Events.{LocatedEvent}
 use Rattle.cp_normal.specs.NormalForms.{IsNormal}
 use Rattle.cp_normal.specs.Exact.{HasForms}
 use Rattle.cp_normal.specs.Formed.{Formed}

@@ -11,19 +11,44 @@ use crate::terms_under::apply;
 use std::alloc::{AllocError, Global};
 
 /// The bindings of the first, with their terms under the second, followed by those of the second.
-pub(crate) fn join(alloc: Global, first: &Subst, second: &Subst) -> Result<Subst, AllocError>
+fn join_all(alloc: Global, first: &Subst, second: &Subst) -> Result<Subst, AllocError>
     ensures { IfOk result (λ s. s ≡ joined_bindings first.now second.now) }
 {
-    let mut bindings = Vec::new(alloc);
+    let room = first
+        .bindings()
+        .len()
+        .saturating_add(second.bindings().len());
+    let mut bindings = Vec::with_capacity(alloc, room)?;
     for binding in first.bindings() {
         let term = apply(alloc, second, binding.term())?;
         bindings.push(Binding::new(binding.variable(), term))?;
     }
-    for binding in second.bindings() {
-        let copy = binding.clone()?;
-        bindings.push(copy)?;
-    }
+    bindings.extend_with_clones(second.bindings())?;
     Subst::made(alloc, bindings)
+}
+
+/// The bindings of the first, with their terms under the second, followed by those of the second. If one of them has none, the
+/// other is copied.
+fn join(alloc: Global, first: &Subst, second: &Subst) -> Result<Subst, AllocError>
+    ensures { IfOk result (λ s. s ≡ joined_bindings first.now second.now) }
+{
+    if second.bindings().is_empty() {
+        return first.copy(alloc);
+    }
+    if first.bindings().is_empty() {
+        return second.copy(alloc);
+    }
+    join_all(alloc, first, second)
+}
+
+/// The same for a second that is given away, which is not copied.
+pub(crate) fn join_onto(alloc: Global, first: &Subst, second: Subst) -> Result<Subst, AllocError>
+    ensures { IfOk result (λ s. s ≡ joined_bindings first.now second) }
+{
+    if first.bindings().is_empty() {
+        return Ok(second);
+    }
+    join(alloc, first, &second)
 }
 
 /// The substitution that does what the first does, then what the second does.

@@ -56,9 +56,13 @@ fn alike_difference(alloc: Global, sort: Sort, x: VarId, y: VarId) -> Result<Dif
     if x == y {
         return Ok(Difference::Same);
     }
-    let a = var(alloc, x, sort)?;
-    let b = var(alloc, y, sort)?;
-    bind_later(sort, x, &a, y, &b)
+    let (later, earlier) = if x.number() < y.number() {
+        (y, x)
+    } else {
+        (x, y)
+    };
+    let term = var(alloc, earlier, sort)?;
+    Ok(Difference::Bind(Binding::of(sort, later, term)))
 }
 
 /// The inverse of a variable of sort akey.

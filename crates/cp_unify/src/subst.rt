@@ -107,7 +107,7 @@ impl Subst {
         self.least
     }
 
-    /// The bindings from the first with this number on, or from an earlier one on.
+    /// The bindings from the first with this number on, or from an earlier one on; none if none can have this number.
     pub(crate) fn from_number(&self, number: usize) -> &[Binding]
         ensures { IsRestAfter number result.now self.now }
     {

@@ -4,7 +4,7 @@ ghost use Rattle.cp_model.specs.Term.{Term as Plain};
 ghost use Rattle.cp_unify.specs.Solved.{IsSolved, SolvesBeside, AreSolvedBut};
 ghost use Rattle.cp_unify.specs.Unifiers.{IsMostGeneralUnifier, HasNoUnifier};
 
-use crate::composition::join;
+use crate::composition::join_onto;
 use crate::difference::{Difference, first_difference};
 use crate::subst::Subst;
 use crate::terms_under::apply;
@@ -29,7 +29,7 @@ fn solve(alloc: Global, a: &Term, b: &Term, given: Subst) -> Result<Option<Subst
                 let one = Subst::of(alloc, binding)?;
                 left = apply(alloc, &one, &left)?;
                 right = apply(alloc, &one, &right)?;
-                solved = join(alloc, &solved, &one)?;
+                solved = join_onto(alloc, &solved, one)?;
             }
         }
     }

@@ -15,9 +15,9 @@ fn message_of(event: &Event) -> &Term {
 fn terms_of<'a>(
     alloc: Global,
     label: &'a Label,
-    events: &'a [LocatedEvent],
+    events: &'a [LocatedEvent<'_>],
 ) -> Result<Vec<&'a Term>, AllocError> {
-    let messages = events.iter().map(|located| message_of(&located.event));
+    let messages = events.iter().map(|located| message_of(located.event()));
     let patterns = label.escape.as_slice().iter().map(|pattern| pattern.term());
     let mut terms: Vec<&'a Term> = messages.chain(patterns).collect(alloc)?;
     if let Some(test) = &label.test {

@@ -1,5 +1,10 @@
+use Rattle.std.proofs.Common.{refl, sym, ◌∙◌}
+use Rattle.cp_lists.proofs.Appended.{none_counted}
 use Rattle.cp_cohort.proofs.Made.{branch_made}
 use Rattle.cp_cohort.proofs.branches.branch.Goals as goal
+
+pub closed_branch-requires : goal.closed_branch-requires
+closed_branch-requires c = sym c.locals.ensures.variables ∙ none_counted c.locals.result.now _ refl (sym c.is_empty.ensures ∙ c.if-is_empty.true)
 
 pub returns-in-Some : goal.returns-in-Some
 returns-in-Some c =

@@ -1,6 +1,7 @@
 use Rattle.std.proofs.Common.{rules, tests, true, inl, ◌≡◌, ◌↔◌}
 use Rattle.std.proofs.lemmas.Iterator.{cases_from_any, YieldsList-from_slice}
 use Rattle.cp_model.specs.declared.node.OrderPair.{OrderPair}
+use Rattle.cp_skel.proofs.EachOnce.{if_pushed}
 use Rattle.cp_collapse.specs.Property.{Has}
 use Rattle.cp_collapse.proofs.AnyItem.{some_has}
 use Rattle.cp_collapse.proofs.ImagesOnce.{listed_stays}
@@ -13,4 +14,4 @@ returns-then-any c =
     listed_stays c.args.pair c.args.pairs.now.items (some.0 c.if-any.true)
 
 pub returns : goal.returns
-returns c = inl c.in_ok-push.ensures.items
+returns c = if_pushed c.args.pairs.now.items c.push.result c.map_err.result c.push.ensures.items c.map_err.ensures.variant (λ added. inl added)

@@ -1,5 +1,9 @@
-use Rattle.std.proofs.Common.{ap, sym, ◌∙◌}
+use Rattle.std.proofs.Common.{List, ap, sym, ◌∙◌}
 use Rattle.std.proofs.lemmas.Result.{IfOk-weaker}
+use Rattle.cp_model.specs.Term.{Term, composed}
+use Rattle.cp_model.specs.Values.{substitution_by}
+use Rattle.cp_model.specs.PrefixVariables.{declared_variables, terms_of}
+use Rattle.cp_model.specs.declared.variable.Declaration.{Declaration}
 use Rattle.cp_model.specs.Strand.{Role}
 use Rattle.cp_unify.specs.Bindings.{as_substitution}
 use Rattle.cp_strand.specs.Shapes.{strand_of_shape}
@@ -11,6 +15,16 @@ returns-then-leaves_declared c =
     IfOk-weaker c.copy.result _ _
     (λ t h. h ∙ left_is (as_substitution c.args.s.now) c.in-Instance.instance.now c.args.strand.now c.values-terms.result.now c.variables-declarations.result.now (ap strand_of_shape (sym c.in-Instance.is) ∙ c.shape.ensures) c.values-terms.ensures (c.variables-declarations.ensures ∙ ap (λ (r : Role). r.variables) (c.deref.ensures ∙ c.role.ensures)) (c.leaves_declared.ensures c.if-leaves_declared.true))
     c.copy.ensures
+
+pub with_values-requires : goal.with_values-requires
+with_values-requires c = record {
+  strand = sym (ap strand_of_shape (sym c.in-Instance.is) ∙ c.shape.ensures);
+  values =
+      c.in_ok-values-in-Instance.ensures
+      ∙ ap (λ (ts : List Term). terms_of (composed (substitution_by ts) (as_substitution c.args.s.now)) (declared_variables 0 c.variables-declarations.result.now)) c.values-terms.ensures
+      ∙ ap (λ (ds : List Declaration). terms_of (composed (substitution_by c.in-Instance.instance.now.values) (as_substitution c.args.s.now)) (declared_variables 0 ds))
+      (c.variables-declarations.ensures ∙ ap (λ (r : Role). r.variables) (c.deref.ensures ∙ c.role.ensures));
+}
 
 pub returns-in_ok-values-in-Instance : goal.returns-in_ok-values-in-Instance
 returns-in_ok-values-in-Instance c =

@@ -33,7 +33,7 @@ add_closed-requires c =
     let all : c.events-occurrences.result.now ≡ events_of t.skeleton = c.events-occurrences.ensures ∙ ap (λ (n : SkeletonNode). events_of n.skeleton) c.at-place.ensures in
     let listed : IsIn o (events_of t.skeleton) = listed_among t.skeleton c.events-occurrences.result.now c.loop-occurrence.occurrence-index o c.loop-occurrence-test.true c.occurrence-item.is all in
     record {
-      derivable = subst (IsDerivable c.known-known.result.now) (sym c.payload-message.ensures) ((given (payload o.event)).1 (sent_is_derivable t.skeleton t.node o listed (sent.0 c.if-not-is_sent_before.false)));
+      derivable = subst (IsDerivable c.known-known.result.now) (sym (c.payload-message.ensures ∙ ap payload c.event.ensures)) ((given (payload o.event)).1 (sent_is_derivable t.skeleton t.node o listed (sent.0 c.if-not-is_sent_before.false)));
       underivable = λ d. c.is_test.ensures.underivable (subst (DerivableAt t.skeleton t.node) c.critical-critical.ensures ((given c.critical-critical.result.now).0 d));
     }
 
@@ -44,7 +44,7 @@ loop-occurrence-preserved c =
     subst (λ (n : SkeletonNode). IsTrue c.is_sent_before.result ↔ IsTransmissionBefore n.skeleton n.node c.occurrence-item.result) c.at-place.ensures c.is_sent_before.ensures in
     puts_next (GivesEvent t.skeleton t.node c.known-known.result.now c.critical-critical.result.now) c.events-occurrences.result.now c.loop-occurrence.occurrence-index c.occurrence-item.result
     c.loop-occurrence-test.true c.occurrence-item.is _ _ c.loop-occurrence.invariant _
-    (event_given t.skeleton t.node c.known-known.result.now c.critical-critical.result.now c.occurrence-item.result c.payload-message.result.now c.payload-message.ensures
+    (event_given t.skeleton t.node c.known-known.result.now c.critical-critical.result.now c.occurrence-item.result c.payload-message.result.now (c.payload-message.ensures ∙ ap payload c.event.ensures)
     (sent.0 c.if-not-is_sent_before.false) _ _ c.in_ok-add_closed.ensures)
 
 pub returns : goal.returns

@@ -1,4 +1,6 @@
-use Rattle.std.proofs.Common.{◌≡◌, map, List, sym, ap, ◌∙◌, subst}
+use Rattle.std.proofs.Common.{rules, ◌≡◌, map, List, Some, sym, ap, ◌∙◌, subst}
+use Rattle.std.specs.Prelude.{Option, IfSome, IfNone}
+use Rattle.cp_lists.proofs.Collected.{if_mapped}
 use Rattle.cp_model.proofs.CarriedParts.{not_both}
 use Rattle.cp_model.specs.Term.{Term}
 use Rattle.cp_theory.specs.Above.{encryptions_above}
@@ -12,9 +14,19 @@ returns-then-branch-clause-some c =
     let es : List Term = encryptions_above c.args.message.now c.args.path.now in
     let all : map (λ e. e.now) c.deref-encryption-items.result.now ≡ es =
     ap (map (λ e. e.now)) c.deref-encryption-items.ensures.value ∙ c.in_ok-encryptions.ensures ∙ ap (encryptions_above c.args.message.now) c.as_slice.ensures in
-    subst (IsFirstWith (StaysClosed c.args.k.now) es) (sym c.in_ok-first.ensures)
-    (item_stays (λ e. e.now) c.args.k.now c.deref-encryption-items.result.now c.loop-encryption.encryption-index c.encryption-item.result c.loop-encryption-test.true c.encryption-item.is c.loop-encryption.invariant es all
-    (c.in_ok-stays_closed.ensures.0 c.if-branch.true))
+    let first : IsFirstWith (StaysClosed c.args.k.now) es c.encryption-item.result.now =
+    item_stays (λ e. e.now) c.args.k.now c.deref-encryption-items.result.now c.loop-encryption.encryption-index c.encryption-item.result c.loop-encryption-test.true c.encryption-item.is c.loop-encryption.invariant es all
+    (c.in_ok-stays_closed.ensures.0 c.if-branch.true) in
+    if_mapped c.copy.result c.map.result (λ x answer same k.
+    let is : answer ≡ Some x = search rules in
+    subst (λ (o : Option Term). IfSome o (IsFirstWith (StaysClosed c.args.k.now) es)) (sym is) (subst (IsFirstWith (StaysClosed c.args.k.now) es) (sym same) first)) c.copy.ensures c.map.ensures.cases
+
+pub returns-then-branch-clause-none : goal.returns-then-branch-clause-none
+returns-then-branch-clause-none c =
+    let es : List Term = encryptions_above c.args.message.now c.args.path.now in
+    if_mapped c.copy.result c.map.result (λ x answer same k.
+    let is : answer ≡ Some x = search rules in
+    subst (λ (o : Option Term). IfNone o ((e : Term) → IsFirstWith (StaysClosed c.args.k.now) es e → ⊥)) (sym is) tt) c.copy.ensures c.map.ensures.cases
 
 pub loop-encryption-preserved : goal.loop-encryption-preserved
 loop-encryption-preserved c =

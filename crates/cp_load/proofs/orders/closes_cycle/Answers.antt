@@ -1,4 +1,5 @@
-use Rattle.std.proofs.Common.{sym, ◌∙◌}
+use Rattle.std.proofs.Common.{rules, sym, ◌∙◌}
+use Rattle.cp_lists.proofs.Collected.{if_mapped}
 use Rattle.cp_load.proofs.Cycles.{cycle-searched, no-way-from, no-way-to}
 use Rattle.cp_load.proofs.NoCycles.{known-acyclic}
 use Rattle.cp_load.proofs.orders.closes_cycle.Goals as goal
@@ -17,4 +18,5 @@ returns-then-not-some_ends_before c =
 
 pub returns : goal.returns
 returns c =
-    cycle-searched c.args.before.now c.args.pair c.in_ok-leading.leading c.has.result (sym c.is_on_one_strand.ensures ∙ c.if-is_on_one_strand.false) c.in_ok-leading.ensures c.has.ensures
+    if_mapped c.new.result c.map.result (λ leading answer gathered k.
+    cycle-searched c.args.before.now c.args.pair leading answer (sym c.is_on_one_strand.ensures ∙ c.if-is_on_one_strand.false) gathered (search rules)) c.new.ensures c.map.ensures.cases

@@ -1,6 +1,6 @@
 use Rattle.std.proofs.Common.{rules, tests}
 use Rattle.std.proofs.lemmas.Iterator.{cases_from_any, YieldsList-from_slice}
-use Rattle.cp_skel.specs.declared.events.LocatedEvent.{LocatedEvent}
+use Rattle.cp_skel.specs.Events.{LocatedEvent}
 use Rattle.cp_normal.specs.Events.{CarriesOne}
 use Rattle.cp_collapse.proofs.AnyItem.{some_has}
 use Rattle.cp_normal.proofs.carried_values.some_carries_one.Goals as goal

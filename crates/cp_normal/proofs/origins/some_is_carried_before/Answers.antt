@@ -1,7 +1,7 @@
 use Rattle.std.proofs.Common.{rules, tests}
 use Rattle.std.proofs.lemmas.Iterator.{cases_from_any, YieldsList-from_slice}
 use Rattle.cp_model.specs.Skeleton.{UniqueAt}
-use Rattle.cp_skel.specs.declared.events.LocatedEvent.{LocatedEvent}
+use Rattle.cp_skel.specs.Events.{LocatedEvent}
 use Rattle.cp_normal.specs.Events.{IsCarriedBefore}
 use Rattle.cp_collapse.proofs.AnyItem.{some_has}
 use Rattle.cp_normal.proofs.origins.some_is_carried_before.Goals as goal

@@ -1,6 +1,6 @@
 use Rattle.std.proofs.Common.{refl, ap, sym, subst, ◌∙◌}
 use Rattle.std.specs.Prelude.{IfSome, IfNone}
-use Rattle.cp_model.specs.Skeleton.{Assumptions}
+use Rattle.cp_model.specs.Skeleton.{Assumptions, Skeleton}
 use Rattle.cp_model.specs.declared.node.OrderPair.{OrderPair}
 use Rattle.cp_collapse.specs.Property.{Has}
 use Rattle.cp_normal.specs.Events.{IsPairBetween}
@@ -30,12 +30,12 @@ loop-unique-preserved-in-None c =
 pub loop-occurrence-preserved : goal.loop-occurrence-preserved
 loop-occurrence-preserved c =
     let uniques = c.uniquely_originating-uniques.result.now in
-    step (λ o p. Has (λ u. IsPairBetween o u p) uniques) c.args.occurrences.now _ _ _ _ _ c.loop-occurrence-test.true c.occurrence-item.is
+    step (λ o p. Has (λ u. IsPairBetween o u p) uniques) c.events-occurrences.result.now _ _ _ _ _ c.loop-occurrence-test.true c.occurrence-item.is
     (end (λ u p. IsPairBetween c.occurrence-item.result u p) uniques _ _ _ c.loop-unique-test.false c.loop-unique.invariant)
     c.loop-occurrence.invariant
 
 pub returns : goal.returns
 returns c =
     let uniques = c.uniquely_originating-uniques.result.now in
-    added_exactly c.args.k.now _ _ c.requires.listed refl _ _ (ap (λ (a : Assumptions). a.uniquely_originating) c.assumptions.ensures) c.uniquely_originating-uniques.ensures _ _ c.new-pairs.ensures.items
-    (end (λ o p. Has (λ u. IsPairBetween o u p) uniques) c.args.occurrences.now _ _ _ c.loop-occurrence-test.false c.loop-occurrence.invariant)
+    added_exactly c.args.k.now _ _ c.events-occurrences.ensures refl _ _ (ap (λ (a : Assumptions). a.uniquely_originating) (c.assumptions.ensures ∙ ap (λ (k : Skeleton). k.assumptions) c.skeleton.ensures)) c.uniquely_originating-uniques.ensures _ _ c.new-pairs.ensures.items
+    (end (λ o p. Has (λ u. IsPairBetween o u p) uniques) c.events-occurrences.result.now _ _ _ c.loop-occurrence-test.false c.loop-occurrence.invariant)

@@ -1,5 +1,11 @@
+use Rattle.std.proofs.Common.{rules, ◌≡◌}
+use Rattle.std.specs.Prelude.{is_some}
+use Rattle.cp_pattern.proofs.BothMapped.{if_both_mapped}
 use Rattle.cp_pattern.proofs.Matched.{tells_match}
 use Rattle.cp_pattern.proofs.pattern_matches.is_matched.Goals as goal
 
 pub returns : goal.returns
-returns c = tells_match c.args.ready.now c.args.term.now c.in_ok-said.said c.in_ok-said.ensures _ _ c.is_some.ensures c.in_ok-found.ensures.some c.in_ok-found.ensures.none
+returns c =
+    if_both_mapped c.matching_beside.result c.map.result (λ found answer some none k.
+    let told : answer ≡ is_some found = search rules in
+    tells_match c.args.ready.now c.args.term.now c.in_ok-said.said c.in_ok-said.ensures found answer told some none) c.matching_beside.ensures.some c.matching_beside.ensures.none c.map.ensures.cases

@@ -1,8 +1,10 @@
-use Rattle.std.proofs.Common.{ap, ◌∙◌}
-use Rattle.std.proofs.lemmas.Result.{IfOk-weaker}
+use Rattle.std.proofs.Common.{◌++◌, ap, ap₂, ◌∙◌}
+use Rattle.std.proofs.lemmas.List.{append-nil}
 use Rattle.cp_model.specs.Given.{atoms_onto}
 use Rattle.cp_skel.proofs.assumptions_left.missing_applied.Goals as goal
 
 pub returns : goal.returns
 returns c =
-    IfOk-weaker c.missing_atoms.result _ _ (λ more e. e ∙ ap (atoms_onto c.args.old.now) (c.deref.ensures.value ∙ c.in_ok-applied.ensures)) c.missing_atoms.ensures
+    let old = c.args.old.now in
+    c.in_ok-add_missing.ensures
+    ∙ ap₂ (λ xs ys. atoms_onto xs ys) (ap (λ xs. old ++ xs) c.new-more.ensures.items ∙ append-nil old) (c.deref.ensures.value ∙ c.in_ok-applied.ensures)

@@ -1,7 +1,7 @@
 use Rattle.std.proofs.Common.{inl, inr, sym, subst}
 use Rattle.std.proofs.lemmas.Bool.{both_ways}
 use Rattle.cp_lists.specs.Lists.{IsIn}
-use Rattle.cp_skel.proofs.EachOnce.{put-nowhere, put-behind}
+use Rattle.cp_skel.proofs.EachOnce.{put-nowhere, put-behind, if_pushed}
 use Rattle.cp_skel.proofs.gathered.push_missing.Goals as goal
 use Rattle.cp_skel.proofs.gathered.push_missing.Goals.{then-has-via-then-has, then-has-via-else-has+then-has-2}
 
@@ -15,7 +15,7 @@ returns-then-has g c =
 
 pub returns : goal.returns
 returns g c =
-    put-behind g.T.Gathered.gathers c.args.old.now c.args.more.now.items c.push.new.self.items c.args.item
+    if_pushed c.args.more.now.items c.push.result c.map_err.result c.push.ensures.items c.map_err.ensures.variant
+    (put-behind g.T.Gathered.gathers c.args.old.now c.args.more.now.items c.push.new.self.items c.args.item
     (λ i. both_ways c.has.result c.if-has.false (c.has.ensures.1 i))
-    (λ i. both_ways c.has-else-has.result c.if-has-2.false (c.has-else-has.ensures.1 (subst (IsIn c.args.item) (sym c.deref.ensures.value) i)))
-    c.in_ok-push.ensures.items
+    (λ i. both_ways c.has-else-has.result c.if-has-2.false (c.has-else-has.ensures.1 (subst (IsIn c.args.item) (sym c.deref.ensures.value) i))))

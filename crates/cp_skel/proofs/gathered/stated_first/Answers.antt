@@ -25,5 +25,5 @@ loop-item-preserved g c =
 
 pub returns : goal.returns
 returns g c =
-    kept-end g.T.Gathered.gathers c.args.old.now c.args.stated.now (drop c.loop-item.item-index c.args.stated.now) c.loop-item.listed.items c.add_each.new.items.items
-    (drop_all c.loop-item.item-index c.args.stated.now c.loop-item-test.false) c.loop-item.invariant c.in_ok-add_each.ensures
+    kept-end g.T.Gathered.gathers c.args.old.now c.args.stated.now (drop c.loop-item.item-index c.args.stated.now) c.loop-item.listed.items c.add_missing.new.more.items
+    (drop_all c.loop-item.item-index c.args.stated.now c.loop-item-test.false) c.loop-item.invariant c.in_ok-add_missing.ensures

@@ -1,7 +1,7 @@
 use Rattle.std.proofs.Common.{[], ◌++◌, refl, ap, ◌∙◌}
 use Rattle.cp_lists.proofs.Members.{drop_read}
 use Rattle.cp_model.specs.Problem.{variables_of_atoms, variables_of_terms, variables_of_uniques}
-use Rattle.cp_model.specs.Strand.{variables_of_trace}
+use Rattle.cp_model.specs.Strand.{payload, variables_of_trace}
 use Rattle.cp_model.specs.Term.{variables_of}
 use Rattle.cp_skel.specs.Events.{variables_of_located}
 use Rattle.cp_skel.proofs.VariablesOfLists.{put_next, put_last, of_events, all_gathered}
@@ -10,7 +10,7 @@ use Rattle.cp_skel.proofs.used.used_terms.Goals as goal
 pub loop-occurrence-preserved : goal.loop-occurrence-preserved
 loop-occurrence-preserved c =
     put_next (variables_of_trace c.loop-occurrence.events.items) (variables_of_trace c.add_term.new.events.items) _ _ _ _
-    (c.in_ok-add_term.ensures ∙ ap (λ xs. variables_of_trace c.loop-occurrence.events.items ++ xs) (ap variables_of c.payload.ensures))
+    (c.in_ok-add_term.ensures ∙ ap (λ xs. variables_of_trace c.loop-occurrence.events.items ++ xs) (ap variables_of (c.payload.ensures ∙ ap payload c.event.ensures)))
     (ap variables_of_located (drop_read c.deref-occurrence-items.result.now c.loop-occurrence.occurrence-index c.occurrence-item.result c.loop-occurrence-test.true c.occurrence-item.is)) c.loop-occurrence.invariant
 
 pub returns : goal.returns

@@ -1,5 +1,5 @@
 use Rattle.std.proofs.Common.{ap, ◌∙◌, arith}
-use Rattle.cp_model.specs.Strand.{variables_of_trace, variables_of_prefix}
+use Rattle.cp_model.specs.Strand.{variables_of_prefix}
 use Rattle.cp_model.specs.PrefixVariables.{is_added}
 use Rattle.cp_strand.specs.Valued.{valued}
 use Rattle.cp_strand.proofs.ValuedItems.{declaration-kept, declaration-taken, declarations-end}
@@ -7,7 +7,7 @@ use Rattle.cp_strand.proofs.instance_terms.terms_of.Goals as goal
 
 pub loop-number-preserved-then-not-is_added : goal.loop-number-preserved-then-not-is_added
 loop-number-preserved-then-not-is_added c =
-    let wanted = is_added (variables_of_trace c.prefix_of-earlier.result.now) (variables_of_trace c.prefix_of-prefix.result.now) in
+    let wanted = is_added (variables_of_prefix c.args.role.now c.args.before) (variables_of_prefix c.args.role.now c.args.height) in
     let l = c.loop-number in
     let d = c.declaration-item.result in (
       declaration-kept wanted c.args.old.now c.variables-declaration-items.result.now l.number l.next c.args.values.now d
@@ -19,7 +19,7 @@ loop-number-preserved-then-not-is_added c =
 
 pub loop-number-preserved : goal.loop-number-preserved
 loop-number-preserved c =
-    let wanted = is_added (variables_of_trace c.prefix_of-earlier.result.now) (variables_of_trace c.prefix_of-prefix.result.now) in
+    let wanted = is_added (variables_of_prefix c.args.role.now c.args.before) (variables_of_prefix c.args.role.now c.args.height) in
     let l = c.loop-number in
     let d = c.declaration-item.result in (
       declaration-taken wanted c.args.old.now c.variables-declaration-items.result.now l.number l.next c.args.values.now d
@@ -32,9 +32,7 @@ loop-number-preserved c =
 pub returns : goal.returns
 returns c =
     let l = c.loop-number in
-    let wanted = is_added (variables_of_trace c.prefix_of-earlier.result.now) (variables_of_trace c.prefix_of-prefix.result.now) in
+    let wanted = is_added (variables_of_prefix c.args.role.now c.args.before) (variables_of_prefix c.args.role.now c.args.height) in
     let ds = c.variables-declaration-items.result.now in
     declarations-end wanted c.args.old.now ds l.number _ l.terms.items _ c.loop-number-test.false l.invariant.0
-    ∙ ap (λ es. valued (is_added (variables_of_trace es) (variables_of_trace c.prefix_of-prefix.result.now)) c.args.old.now 0 ds c.args.values.now) c.prefix_of-earlier.ensures
-    ∙ ap (λ es. valued (is_added (variables_of_prefix c.args.role.now c.args.before) (variables_of_trace es)) c.args.old.now 0 ds c.args.values.now) c.prefix_of-prefix.ensures
-    ∙ ap (λ vs. valued (is_added (variables_of_prefix c.args.role.now c.args.before) (variables_of_prefix c.args.role.now c.args.height)) c.args.old.now 0 vs c.args.values.now) c.variables-declaration-items.ensures
+    ∙ ap (λ vs. valued wanted c.args.old.now 0 vs c.args.values.now) c.variables-declaration-items.ensures

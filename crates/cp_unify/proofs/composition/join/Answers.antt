@@ -1,5 +1,17 @@
-use Rattle.cp_unify.proofs.SolvedBindings.{sorted_under}
+use Rattle.std.proofs.Common.{refl, sym, ◌∙◌}
+use Rattle.std.proofs.lemmas.Result.{IfOk-weaker}
+use Rattle.cp_lists.proofs.Appended.{none_counted}
+use Rattle.cp_unify.proofs.Composed.{joined_before_none, joined_after_none}
 use Rattle.cp_unify.proofs.composition.join.Goals as goal
 
-pub new-requires : goal.new-requires
-new-requires c = sorted_under c.args.second.now c.binding-item.result _ _ _ c.term.ensures.sort c.variable.ensures c.term.ensures.term c.in_ok-term.ensures.plain
+pub returns-then-is_empty : goal.returns-then-is_empty
+returns-then-is_empty c =
+    IfOk-weaker c.copy.result _ _
+    (λ s same. joined_before_none c.args.first.now c.args.second.now s (sym c.bindings.ensures ∙ none_counted c.bindings.result.now _ refl (sym c.is_empty.ensures ∙ c.if-is_empty.true)) same)
+    c.copy.ensures
+
+pub returns-then-is_empty-2 : goal.returns-then-is_empty-2
+returns-then-is_empty-2 c =
+    IfOk-weaker c.copy-then-is_empty-2.result _ _
+    (λ s same. joined_after_none c.args.first.now c.args.second.now s (sym c.bindings-2.ensures ∙ none_counted c.bindings-2.result.now _ refl (sym c.is_empty-2.ensures ∙ c.if-is_empty-2.true)) same)
+    c.copy-then-is_empty-2.ensures

@@ -26,9 +26,9 @@ returns-in_ok-encryptions-in-Some c =
     (c.deref.ensures.value ∙ c.in_ok-encryptions-in-Some.ensures) (ap (λ (q : Release). q.patterns) c.self.view_is) are)
     c.branches.ensures
 
-pub returns-in_ok-push-in-None : goal.returns-in_ok-push-in-None
-returns-in_ok-push-in-None c =
+pub returns-in_ok-vec-in-None : goal.returns-in_ok-vec-in-None
+returns-in_ok-vec-in-None c =
     let r = c.args.self.now in
     let x = c.args.attempt.tried in
-    solved_left r c.args.attempt c.new-made.result.items c.push.new.self.items c.if-not-is_normal.false
-    (both_met r x _ c.if-branch.false c.in_ok-is_released_inside.ensures.1 (rw c.in-None.is at c.in_ok-term.ensures)) c.new-made.ensures.items c.in_ok-push-in-None.ensures.items
+    solved_left r c.args.attempt _ c.if-not-is_normal.false
+    (both_met r x _ c.if-branch.false c.in_ok-is_released_inside.ensures.1 (rw c.in-None.is at c.in_ok-term.ensures)) c.in_ok-vec-in-None.ensures.items

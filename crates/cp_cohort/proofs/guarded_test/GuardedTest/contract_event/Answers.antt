@@ -9,7 +9,7 @@ use Rattle.cp_model.specs.declared.step.Step.{Step}
 use Rattle.cp_model.specs.Positions.{positions_where}
 use Rattle.std.specs.Prelude.{◌↔◌, Bool, IsTrue}
 use Rattle.cp_derive.specs.AtNode.{SkeletonNode}
-use Rattle.cp_skel.specs.declared.events.LocatedEvent.{LocatedEvent}
+use Rattle.cp_skel.specs.Events.{LocatedEvent}
 use Rattle.cp_cohort.specs.CoveringChildren.{IsTransmissionBefore}
 use Rattle.cp_cohort.specs.Cohort.{Contracts, GuardedTest}
 use Rattle.cp_cohort.specs.Children.{not_before}
@@ -36,7 +36,7 @@ contract_at-requires c =
     let q = c.args.self.now in
     let o = c.args.occurrence.now in
     let all : c.deref-path-items.result.now ≡ positions_where (may_equal q.critical) (payload o.event) =
-    c.deref-path-items.ensures.value ∙ c.in_ok-paths.ensures ∙ ap (λ (z : GuardedTest). positions_where (may_equal z.critical) c.payload.result.now) c.self.view_is ∙ ap (positions_where (may_equal q.critical)) c.payload.ensures in
+    c.deref-path-items.ensures.value ∙ c.in_ok-paths.ensures ∙ ap (λ (z : GuardedTest). positions_where (may_equal z.critical) c.payload.result.now) c.self.view_is ∙ ap (positions_where (may_equal q.critical)) (c.payload.ensures ∙ ap payload c.event.ensures) in
     listed_position (may_equal q.critical) (payload o.event) c.path-item.result
     (subst (λ (ps : List (List Step)). IsIn c.path-item.result ps) all (item_is_in c.deref-path-items.result.now c.loop-path.path-index c.path-item.result c.loop-path-test.true c.path-item.is))
 
@@ -50,7 +50,7 @@ returns c =
     let q = c.args.self.now in
     let o = c.args.occurrence.now in
     let all : c.deref-path-items.result.now ≡ positions_where (may_equal q.critical) (payload o.event) =
-    c.deref-path-items.ensures.value ∙ c.in_ok-paths.ensures ∙ ap (λ (z : GuardedTest). positions_where (may_equal z.critical) c.payload.result.now) c.self.view_is ∙ ap (positions_where (may_equal q.critical)) c.payload.ensures in
+    c.deref-path-items.ensures.value ∙ c.in_ok-paths.ensures ∙ ap (λ (z : GuardedTest). positions_where (may_equal z.critical) c.payload.result.now) c.self.view_is ∙ ap (positions_where (may_equal q.critical)) (c.payload.ensures ∙ ap payload c.event.ensures) in
     let exact = told _ q c.self.inside.at.now o c.is_sent_before.result c.self.invariant.0 c.self.view_is c.is_sent_before.ensures in
     puts_other c.args.children.now.items c.loop-path.children.items (event_contracted q o c.deref-path-items.result.now all (exact.0 c.if-not-is_sent_before.false))
     (puts_last (Contracts q o) c.deref-path-items.result.now c.loop-path.path-index c.loop-path-test.false c.args.children.now.items c.loop-path.children.items c.loop-path.invariant)

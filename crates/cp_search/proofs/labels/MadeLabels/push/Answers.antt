@@ -1,29 +1,24 @@
-use Rattle.std.proofs.Common.{◌≡◌, ◌<◌, ◌∙◌, List, length, false, sym, subst}
-use Rattle.std.specs.Prelude.{IfSome}
-use Rattle.std.specs.Result.{is_err}
+use Rattle.std.proofs.Common.{◌≡◌, List, [], ◌∷◌, ◌++◌, ◌∙◌, sym, ap, subst}
 use Rattle.cp_search.specs.declared.made.Made.{Made}
-use Rattle.cp_search.specs.MadeLabels.{AddsFound}
-use Rattle.cp_search.proofs.Behind.{on_ok}
-use Rattle.cp_search.proofs.labels.MadeLabels.push.Goals.{Else-is_err}
+use Rattle.cp_search.specs.IndexedLabels.{Indexes}
+use Rattle.cp_search.specs.MadeLabels.{AreFound, AddsFound}
+use Rattle.cp_search.proofs.Behind.{adds_found}
+use Rattle.cp_search.proofs.labels.MadeLabels.push.Goals.{In_ok-push}
 use Rattle.cp_search.proofs.labels.MadeLabels.push.Goals as goal
 
-appended : (c : Else-is_err) → is_err c.append.result ≡ false
-appended c = sym c.is_err.ensures.value ∙ c.if-is_err.false
-
 -- the label is behind the others
-added : (c : Else-is_err) → AddsFound c.args.made c.self.inside.all.items c.append.new.all.items
-added c = on_ok c.append.result _ (appended c) c.append.ensures.all
+added : (c : In_ok-push) → AddsFound c.args.made c.args.self.now c.push.new.self.items
+added c =
+    let were : c.all.inside.all.items ≡ c.args.self.now = c.all.view_is ∙ c.replace.ensures.value in
+    adds_found c.args.self.now c.push.new.self.items c.args.made c.in_ok-made.field-0 (subst AreFound were c.all.invariant.1) c.requires.apart c.requires.parent c.in_ok-made.ensures
+    (c.in_ok-push.ensures.items ∙ ap (λ (ms : List Made). ms ++ (record c.args.made { seen_in = c.in_ok-made.field-0 }) ∷ []) were)
 
-pub append-requires : goal.append-requires
-append-requires c = record {
-  index = c.self.invariant.0;
-  found = c.self.invariant.1;
-  apart = c.requires.apart;
-  parent = subst (λ (ms : List Made). IfSome c.args.made.parent (λ p. p < length ms)) (sym c.self.view_is) c.requires.parent;
-}
-
-pub invariant_of-self-2 : goal.invariant_of-self-2
-invariant_of-self-2 c = (on_ok c.append.result _ (appended c) c.append.ensures.index, (added c).found)
+pub invariant_of-drop : goal.invariant_of-drop
+invariant_of-drop c = (
+  subst (Indexes c.add.new.self) (ap (λ (ms : List Made). ms ++ (record c.args.made { seen_in = c.in_ok-made.field-0 }) ∷ []) c.deref.ensures.value ∙ sym c.in_ok-push.ensures.items)
+      (c.in_ok-add.ensures (subst (Indexes c.all.inside.index) (sym c.deref.ensures.value) c.all.invariant.0)),
+  (added c).found,
+)
 
 pub returns : goal.returns
-returns c = record { pushed = subst (λ (ms : List Made). AddsFound c.args.made ms c.append.new.all.items) c.self.view_is (added c) }
+returns c = record { pushed = added (goal.at.returns c).In_ok-push }

@@ -1,0 +1,89 @@
+// A skeleton and its events, transmissions and pairs.
+ghost use Rattle.std.specs.Prelude.{◌≡◌, IfOk};
+ghost use Rattle.cp_skel.specs.Events.{events_of};
+ghost use Rattle.cp_derive.specs.Before.{ArePlacesBefore, transmissions_of};
+
+use crate::before::places_before;
+use crate::transmission::{Transmission, transmissions};
+use cp_skel::{LocatedEvent, Node, Skeleton, SortedPairs};
+use std::alloc::{AllocError, Global};
+use std::marker::Model;
+
+/// A skeleton, with what is gone through for one of its nodes after another: its events, its transmissions, and its pairs, sorted.
+pub(crate) struct Survey<'a> {
+    skeleton: &'a Skeleton,
+    events: Vec<LocatedEvent<'a>>,
+    transmissions: Vec<Transmission>,
+    sorted: SortedPairs<'a>,
+}
+
+// A holder drops it by one call, which leaves less to prove of the holder.
+impl<'a> Drop for Survey<'a> {
+    fn drop(self) {
+        let Survey {
+            skeleton: _,
+            events,
+            transmissions,
+            sorted,
+        } = self;
+    }
+}
+
+impl<'a> Model for Survey<'a> {
+    ghost use Rattle.cp_model.specs.Skeleton.{Skeleton as Plain};
+    ghost use Rattle.cp_skel.specs.Code.{coded_skeleton};
+    ghost use Rattle.cp_derive.specs.Before.{IsSurveyed};
+
+    ghost Value = { Plain };
+
+    ghost coded = { coded_skeleton };
+
+    ghost view = { λ s. s.skeleton.now };
+
+    ghost invariant = { λ s. IsSurveyed s.skeleton.now s.events.items s.transmissions.items s.sorted };
+}
+
+impl<'a> Survey<'a> {
+    /// Lists and sorts what the skeleton has.
+    pub(crate) fn new(alloc: Global, k: &'a Skeleton) -> Result<Survey<'a>, AllocError>
+        ensures { IfOk result (λ s. s ≡ k.now) }
+    {
+        let events = k.events(alloc)?;
+        let transmissions = transmissions(alloc, &events)?;
+        let sorted = SortedPairs::new(alloc, k.order().pairs())?;
+        Ok(Survey {
+            skeleton: k,
+            events,
+            transmissions,
+            sorted,
+        })
+    }
+
+    /// The skeleton.
+    pub(crate) fn skeleton(&self) -> &'a Skeleton
+        ensures { result.now ≡ self.now }
+    {
+        self.skeleton
+    }
+
+    /// The events, each with its node, by strand and then by index.
+    pub(crate) fn events(&self) -> &[LocatedEvent<'a>]
+        ensures { result.now ≡ events_of self.now }
+    {
+        &self.events
+    }
+
+    /// The transmissions of role strands.
+    pub(crate) fn transmissions(&self) -> &[Transmission]
+        ensures { result.now ≡ transmissions_of self.now }
+    {
+        &self.transmissions
+    }
+
+    /// The places, in the list of transmissions, of those at other nodes that reach this one.
+    pub(crate) fn places_before(&self, alloc: Global, node: Node) -> Result<Vec<usize>, AllocError>
+        ensures { IfOk result (λ ps. ArePlacesBefore self.now.pairs node (transmissions_of self.now) ps.items) }
+    {
+        places_before(alloc, &self.sorted, &self.transmissions, node)
+    }
+}

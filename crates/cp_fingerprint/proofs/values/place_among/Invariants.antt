@@ -1,0 +1,5 @@
+use Rattle.cp_fingerprint.proofs.ValuePlaces.{IsStillFound}
+use Rattle.cp_fingerprint.proofs.values.place_among.Given as goal
+
+abbrev pub invariant-loop-number : goal.invariant-loop-number
+invariant-loop-number l = IsStillFound l.value l.values l.number
