@@ -8,10 +8,11 @@ use Rattle.cp_model.specs.declared.strand.Event.TheVariants.{Send as send, Recei
 use Rattle.cp_model.specs.Bundle.{node_at}
 use Rattle.cp_model.specs.Skeleton.{instance, UniqueAt, Skeleton, IsOrderPair, IsOrigin, GivesAssumptions, IsSkeleton}
 use Rattle.cp_model.specs.declared.node.OrderPair.{OrderPair}
-use Rattle.cp_model.proofs.LawTerms.{atom_composed, carried_under}
+use Rattle.cp_model.proofs.LawTerms.{atom_composed}
 use Rattle.cp_model.proofs.LawAgreement.{agree_atom}
+use Rattle.cp_theory.proofs.Skeletons.{origin_along}
 use Rattle.cp_collapse.specs.Partitions.{place_in}
-use Rattle.cp_collapse.specs.Collapses.{unique_in, collapsed_pair, HasInstance, IsCollapsed, HasNoCycle}
+use Rattle.cp_collapse.specs.Collapses.{onto_blocks, collapsed_pair, HasInstance, IsCollapsed, HasNoCycle}
 use Rattle.cp_collapse.proofs.AssumptionImages.{assumptions_are}
 use Rattle.cp_model.proofs.UnderVariables.{applies_at}
 use Rattle.cp_collapse.proofs.Merged.{event_in}
@@ -33,21 +34,12 @@ module _ (k l : Skeleton) (p : List ℕ) (c : IsCollapsed k p l) where
       let q = h.0.0 in
       subst (IsOrderPair l) h.0.2 (pair_goes q (order_pairs q h.0.1) (subst (λ (d : OrderPair). d.earlier.strand ≢ d.later.strand) (sym h.0.2) h.1))
 
-  origin_goes : (u : UniqueAt) → IsOrigin k u → IsOrigin l (unique_in p c.unifier u)
-  origin_goes u o =
-      let g = c.instances u.origin.strand o.role o.height o.terms o.on_instance in
-      record {
-        role = o.role;
-        height = g.to_height;
-        terms = g.to_terms;
-        on_instance = g.on_instance;
-        sent = apply_to c.unifier o.sent;
-        transmission = event_in k l p c u.origin (send o.sent) o.transmission;
-        carried = carried_under c.unifier o.carried;
-      }
-
   merged_origins : ((u : UniqueAt) → IsIn u k.assumptions.uniquely_originating → IsOrigin k u) → (w : UniqueAt) → IsIn w l.assumptions.uniquely_originating → IsOrigin l w
-  merged_origins origins w inw = let h = ((assumptions_are k l p c).unique w).0 inw in subst (IsOrigin l) h.2 (origin_goes h.0 (origins h.0 h.1))
+  merged_origins origins w inw =
+      let h = ((assumptions_are k l p c).unique w).0 inw in
+      let u = h.0 in
+      let o = origins u h.1 in
+      subst (IsOrigin l) h.2 (origin_along k l (onto_blocks p c.unifier) u o (c.instances u.origin.strand o.role o.height o.terms o.on_instance) (event_in k l p c u.origin (send o.sent) o.transmission))
 
   -- What the merged strand's role gives, an instance of the block gave already.
   module _ (place : ℕ) (role : Role) (height : ℕ) (terms : List Binding) (at : item_at l.strands place ≡ Some (instance role height terms)) where

@@ -187,64 +187,60 @@ fewer b items o i at l =
     let m = choice_less (item_count i.kind b) o.choice (steps_left b (drop (o.done + 1) items) 0) l in
     omega (arith, e, g, m)
 
+-- Maps that together have fewer steps, and from which all can be found that can be found from the last, take its place.
+last_replaced : (a b : Skeleton) (items : List Item) (o : OpenMap) (old more : List OpenMap) → AreOpen a b items old → AreOpen a b items more →
+    ((f : SkeletonMap) → IsEmbedding a b f → IsWithin a b items f o → IsWithinSome a b items f more) → all_steps b items more < steps_of b items o → TakePlace a b items o old (old ++ more)
+last_replaced a b items o old more first second found l = record {
+  are_open = open_more a b items old more first second;
+  none_lost = λ f embeds w. elim (front_or_last a b items f o old w) as (λ _. IsWithinSome a b items f (old ++ more)) [
+    | inl p ↦ in_longer a b items f old more p
+    | inr p ↦ let s = found f embeds p in in_more a b items f old more s.place s.listed s.within
+  ];
+  fewer_steps =
+      let e = steps_append b items old (o ∷ []) in
+      let g = steps_append b items old more in
+      omega (arith, e, g, l);
+}
+
 module _ (a b : Skeleton) (items : List Item) (o : OpenMap) (old : List OpenMap) (i : Item) (at : item_at items o.done ≡ Some i) (l : o.choice < item_count i.kind b) (h : IsOpenMap a b items o) (are : AreOpen a b items old)
     (among : AreItemsOf a items) (order : IsOrdered a) (other : IsOrdered b) where
   -- Nothing is found by this choice.
   choice_fails : IsOfNoExtension (λ f. KeepsOrderApart a b f × TakesItem a b i o.choice f) o.given → TakePlace a b items o old (old ++ (tried o ∷ []))
-  choice_fails never = record {
-    are_open = open_more a b items old (tried o ∷ []) are (one_open a b items (tried o) (tried_open a b items o h));
-    none_lost = λ f embeds w. elim (front_or_last a b items f o old w) as (λ _. IsWithinSome a b items f (old ++ (tried o ∷ []))) [
-      | inl p ↦ in_longer a b items f old (tried o ∷ []) p
-      | inr p ↦ later f embeds p (this_or_later a b items o i at f p)
-    ];
-    fewer_steps =
-        let e = steps_append b items old (o ∷ []) in
-        let g = steps_append b items old (tried o ∷ []) in
-        let m = fewer b items o i at l in
-        omega (arith, e, g, m);
-  }
+  choice_fails never =
+      let m = fewer b items o i at l in
+      last_replaced a b items o old (tried o ∷ []) are (one_open a b items (tried o) (tried_open a b items o h))
+      (λ f embeds p. later f embeds p (this_or_later a b items o i at f p)) (omega (arith, m))
     where
-      later : (f : SkeletonMap) → IsEmbedding a b f → IsWithin a b items f o → TakesItem a b i o.choice f ⊎ IsWithin a b items f (tried o) → IsWithinSome a b items f (old ++ (tried o ∷ []))
+      later : (f : SkeletonMap) → IsEmbedding a b f → IsWithin a b items f o → TakesItem a b i o.choice f ⊎ IsWithin a b items f (tried o) → IsWithinSome a b items f (tried o ∷ [])
       later f embeds p (inl t) = absurd (never f p.0 (record { apart = embedding_apart a b f embeds; pairs = embedding_pairs a b f order other embeds }, t))
-      later f embeds p (inr q) = in_more a b items f old (tried o ∷ []) (tried o) here q
+      later f embeds p (inr q) = record { place = tried o; listed = here; within = q }
 
   -- This is found by it.
   choice_works : (q : PartialMap) → IsExtended (TakesItem a b i o.choice) o.given q → TakePlace a b items o old (old ++ (tried o ∷ found_next o q ∷ []))
-  choice_works q k = record {
-    are_open = open_more a b items old (tried o ∷ found_next o q ∷ []) are
-        (two_open a b items (tried o) (found_next o q) (tried_open a b items o h) (found_open a b items o i q at h k));
-    none_lost = λ f embeds w. elim (front_or_last a b items f o old w) as (λ _. IsWithinSome a b items f (old ++ (tried o ∷ found_next o q ∷ []))) [
-      | inl p ↦ in_longer a b items f old (tried o ∷ found_next o q ∷ []) p
-      | inr p ↦ later f embeds p (this_or_later a b items o i at f p)
-    ];
-    fewer_steps =
-        let e = steps_append b items old (o ∷ []) in
-        let g = steps_append b items old (tried o ∷ found_next o q ∷ []) in
-        let m = fewer b items o i at l in
-        omega (arith, e, g, m);
-  }
+  choice_works q k =
+      let m = fewer b items o i at l in
+      last_replaced a b items o old (tried o ∷ found_next o q ∷ []) are
+      (two_open a b items (tried o) (found_next o q) (tried_open a b items o h) (found_open a b items o i q at h k))
+      (λ f embeds p. later f embeds p (this_or_later a b items o i at f p)) (omega (arith, m))
     where
-      later : (f : SkeletonMap) → IsEmbedding a b f → IsWithin a b items f o → TakesItem a b i o.choice f ⊎ IsWithin a b items f (tried o) →
-          IsWithinSome a b items f (old ++ (tried o ∷ found_next o q ∷ []))
-      later f embeds p (inl t) =
-          in_more a b items f old (tried o ∷ found_next o q ∷ []) (found_next o q) (there here)
-          (k.general f p.0 t, takes_next a b f embeds (drop (o.done + 1) items) (λ j r. among.only j (in_rest items (o.done + 1) r)))
-      later f embeds p (inr r) = in_more a b items f old (tried o ∷ found_next o q ∷ []) (tried o) here r
+      later : (f : SkeletonMap) → IsEmbedding a b f → IsWithin a b items f o → TakesItem a b i o.choice f ⊎ IsWithin a b items f (tried o) → IsWithinSome a b items f (tried o ∷ found_next o q ∷ [])
+      later f embeds p (inl t) = record {
+        place = found_next o q;
+        listed = there here;
+        within = (k.general f p.0 t, takes_next a b f embeds (drop (o.done + 1) items) (λ j r. among.only j (in_rest items (o.done + 1) r)));
+      }
+      later f embeds p (inr r) = record { place = tried o; listed = here; within = r }
 
   -- The item is placed already: all maps that follow the partial one take some choice for it.
   pub choice_placed : IsPlaced a b o.given i → TakePlace a b items o old (old ++ (placed_map o ∷ []))
-  choice_placed placed = record {
-    are_open = open_more a b items old (placed_map o ∷ []) are (one_open a b items (placed_map o) (placed_open placed));
-    none_lost = λ f embeds w. elim (front_or_last a b items f o old w) as (λ _. IsWithinSome a b items f (old ++ (placed_map o ∷ []))) [
-      | inl p ↦ in_longer a b items f old (placed_map o ∷ []) p
-      | inr p ↦ in_more a b items f old (placed_map o ∷ []) (placed_map o) here (p.0, takes_next a b f embeds (drop (o.done + 1) items) (λ j r. among.only j (in_rest items (o.done + 1) r)))
-    ];
-    fewer_steps =
-        let e = steps_append b items old (o ∷ []) in
-        let g = steps_append b items old (placed_map o ∷ []) in
-        let m = fewer b items o i at l in
-        omega (arith, e, g, m);
-  }
+  choice_placed placed =
+      let m = fewer b items o i at l in
+      last_replaced a b items o old (placed_map o ∷ []) are (one_open a b items (placed_map o) (placed_open placed))
+      (λ f embeds p. record {
+        place = placed_map o;
+        listed = here;
+        within = (p.0, takes_next a b f embeds (drop (o.done + 1) items) (λ j r. among.only j (in_rest items (o.done + 1) r)));
+      }) (omega (arith, m))
     where
       placed_now : IsPlaced a b o.given i → (item : Item) → IsIn item (take o.done items) ⊎ IsIn item (i ∷ []) → IsPlaced a b o.given item
       placed_now placed item (inl p) = h.placed item p

@@ -14,7 +14,7 @@ use Rattle.cp_model.specs.Skeleton.{SkeletonStrand, instance, listener}
 use Rattle.cp_sexpr.specs.Syntax.{Form, symbol, string, number, list}
 use Rattle.cp_model.specs.Same.{same_text}
 use Rattle.cp_language.specs.declared.words.ItemHead.{ItemHead}
-use Rattle.cp_language.specs.declared.words.ItemHead.TheVariants.{Role as role_item, Non as non_item, PenetratorNon as penetrator_non_item, Unique as unique_item, Strand as strand_item, Listener as listener_item, Precedes as precedes_item, Comment as comment_item, OutOfProfile as item_out_of_profile, Unknown as no_item}
+use Rattle.cp_language.specs.declared.words.ItemHead.TheVariants.{Strand as strand_item, Listener as listener_item}
 use Rattle.cp_language.specs.Terms.{term_faults}
 use Rattle.cp_language.specs.Roles.{headed, text_of_symbol, item_or_none, items_behind}
 use Rattle.cp_language.specs.Problems.{protocol_named, role_named, is_known, role_name_faults, height_faults, number_of, maplets_faults_of, instance_faults, listener_faults, Strands, instance_by, strand_by, fresh_of, with_strand, strands_from}
@@ -34,14 +34,7 @@ AreSoundStrands roles full ss = (s : SkeletonStrand) → IsIn s ss → IsSoundSt
 abbrev pub IsFaultless : List Role → List Declaration → ItemHead → List Form → Type 0
 IsFaultless roles ds strand_item fs = (at : Place) × (instance_faults roles ds at fs ≡ [])
 IsFaultless roles ds listener_item fs = (at : Place) × (listener_faults ds at fs ≡ [])
-IsFaultless roles ds role_item fs = Unit {0}
-IsFaultless roles ds non_item fs = Unit {0}
-IsFaultless roles ds penetrator_non_item fs = Unit {0}
-IsFaultless roles ds unique_item fs = Unit {0}
-IsFaultless roles ds precedes_item fs = Unit {0}
-IsFaultless roles ds comment_item fs = Unit {0}
-IsFaultless roles ds item_out_of_profile fs = Unit {0}
-IsFaultless roles ds no_item fs = Unit {0}
+IsFaultless roles ds _ fs = Unit {0}
 
 abbrev pub AreFaultless : List Role → List Declaration → List Form → Type 0
 AreFaultless roles ds [] = Unit {0}
@@ -49,23 +42,20 @@ AreFaultless roles ds (f ∷ fs) = IsFaultless roles ds (item_or_none (headed f)
 
 -- ---- names and heights
 
--- the role that is found is one of them
-role_in_front : (r role : Role) (rs : List Role) (t : List ℕ) (b : Bool) → (if b then Some r else role_named rs t) ≡ Some role → (role_named rs t ≡ Some role → IsIn role rs) → IsIn role (r ∷ rs)
-role_in_front r role rs t true e later = let p : r ≡ role = cc in subst (λ (x : Role). IsIn x (r ∷ rs)) p here
-role_in_front r role rs t false e later = there (later e)
+-- What is found in front or behind is one of them.
+found_in_front : {A : Type 0} (x y : A) (xs : List A) (b : Bool) (behind : Option A) → (if b then Some x else behind) ≡ Some y → (behind ≡ Some y → IsIn y xs) → IsIn y (x ∷ xs)
+found_in_front x y xs true behind e later = let p : x ≡ y = cc in subst (λ z. IsIn z (x ∷ xs)) p here
+found_in_front x y xs false behind e later = there (later e)
 
+-- The role that is found is one of them.
 pub role_listed : (rs : List Role) (t : List ℕ) (role : Role) → role_named rs t ≡ Some role → IsIn role rs
 role_listed [] t role e = absurd (cc)
-role_listed (r ∷ rs) t role e = role_in_front r role rs t (same_text r.name t) e (role_listed rs t role)
-
-protocol_in_front : (p q : Protocol) (ps : List Protocol) (t : List ℕ) (b : Bool) → (if b then Some p else protocol_named ps t) ≡ Some q → (protocol_named ps t ≡ Some q → IsIn q ps) → IsIn q (p ∷ ps)
-protocol_in_front p q ps t true e later = let h : p ≡ q = cc in subst (λ (x : Protocol). IsIn x (p ∷ ps)) h here
-protocol_in_front p q ps t false e later = there (later e)
+role_listed (r ∷ rs) t role e = found_in_front r role rs (same_text r.name t) (role_named rs t) e (role_listed rs t role)
 
 -- The protocol that is found is one of those above.
 pub protocol_listed : (ps : List Protocol) (t : List ℕ) (q : Protocol) → protocol_named ps t ≡ Some q → IsIn q ps
 protocol_listed [] t q e = absurd (cc)
-protocol_listed (p ∷ ps) t q e = protocol_in_front p q ps t (same_text p.name t) e (protocol_listed ps t q)
+protocol_listed (p ∷ ps) t q e = found_in_front p q ps (same_text p.name t) (protocol_named ps t) e (protocol_listed ps t q)
 
 role_is_known : (roles : List Role) (f : Form) → role_name_faults roles f ≡ [] → is_known (role_named roles (text_of_symbol f)) ≡ true
 role_is_known roles (symbol at t) e = holds (is_known (role_named roles t)) at UnknownRole e
@@ -94,14 +84,7 @@ pub of_item : (roles : List Role) (ds : List Declaration) (next : ℕ) (fs : Lis
     P strand_item (strand_by roles ds next strand_item fs) → P listener_item (strand_by roles ds next listener_item fs) → ((k : ItemHead) → P k None) → (k : ItemHead) → P k (strand_by roles ds next k fs)
 of_item roles ds next fs P s l n strand_item = s
 of_item roles ds next fs P s l n listener_item = l
-of_item roles ds next fs P s l n role_item = n role_item
-of_item roles ds next fs P s l n non_item = n non_item
-of_item roles ds next fs P s l n penetrator_non_item = n penetrator_non_item
-of_item roles ds next fs P s l n unique_item = n unique_item
-of_item roles ds next fs P s l n precedes_item = n precedes_item
-of_item roles ds next fs P s l n comment_item = n comment_item
-of_item roles ds next fs P s l n item_out_of_profile = n item_out_of_profile
-of_item roles ds next fs P s l n no_item = n no_item
+of_item roles ds next fs P s l n k = n k
 
 abbrev IsSoundOption : List Role → List Declaration → Option (SkeletonStrand × List Declaration) → Type 0
 IsSoundOption roles full None = Unit {0}

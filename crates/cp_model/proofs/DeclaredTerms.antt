@@ -4,7 +4,7 @@ use Rattle.std.proofs.lemmas.Bool.{and_from, both_ways, eq-eqb}
 use Rattle.std.specs.Prelude.{Option}
 use Rattle.cp_lists.specs.Lists.{item_at, IsIn, here, there}
 use Rattle.cp_lists.proofs.Items.{map_of_item}
-use Rattle.cp_model.specs.Term.{Sort, text_sort, datum_sort, name_sort, skey_sort, akey_sort, Variable, SymmetricTerm, PairTerm, text_variable, datum_variable, name_variable, key_term, symmetric_term, asymmetric_term, Term, tag_term, atom_term, pair_term, enc_term, variable_term, Substitution, apply_to}
+use Rattle.cp_model.specs.Term.{Sort, text_sort, datum_sort, name_sort, skey_sort, akey_sort, Variable, SymmetricTerm, PairTerm, text_variable, datum_variable, name_variable, key_term, symmetric_term, asymmetric_term, Term, atom_term, variable_term, Substitution, apply_to}
 use Rattle.cp_model.specs.Identity.{unchanged}
 use Rattle.cp_model.specs.Bindings.{put_of_sort, put_term, as_substitution, bindings_by, bindings_from, bindings_of, bound_sort}
 use Rattle.cp_model.specs.Values.{text_in, datum_in, name_in, skey_in, akey_in, substitution_by}
@@ -93,41 +93,14 @@ bound_here (atom_term (name_variable k)) n r name_sort h = ap (λ (j : ℕ). ato
 bound_here (atom_term (key_term (symmetric_term k))) n r skey_sort h = ap (λ (j : SymmetricTerm). atom_term (key_term (symmetric_term j))) (put_here n k (r.skeys n))
 bound_here (atom_term (key_term (asymmetric_term flag k))) n r akey_sort h =
     ap (λ (j : Bool × PairTerm). atom_term (key_term (asymmetric_term j.0 j.1))) (put_here n (flag, k) (r.akeys n))
-bound_here (atom_term (text_variable k)) n r datum_sort h = h
-bound_here (atom_term (text_variable k)) n r name_sort h = h
-bound_here (atom_term (text_variable k)) n r skey_sort h = h
-bound_here (atom_term (text_variable k)) n r akey_sort h = h
-bound_here (atom_term (datum_variable k)) n r text_sort h = h
-bound_here (atom_term (datum_variable k)) n r name_sort h = h
-bound_here (atom_term (datum_variable k)) n r skey_sort h = h
-bound_here (atom_term (datum_variable k)) n r akey_sort h = h
-bound_here (atom_term (name_variable k)) n r text_sort h = h
-bound_here (atom_term (name_variable k)) n r datum_sort h = h
-bound_here (atom_term (name_variable k)) n r skey_sort h = h
-bound_here (atom_term (name_variable k)) n r akey_sort h = h
 bound_here (atom_term (key_term (symmetric_term k))) n r text_sort h = h
 bound_here (atom_term (key_term (symmetric_term k))) n r datum_sort h = h
 bound_here (atom_term (key_term (symmetric_term k))) n r name_sort h = h
-bound_here (atom_term (key_term (symmetric_term k))) n r akey_sort h = h
-bound_here (atom_term (key_term (asymmetric_term flag k))) n r text_sort h = h
-bound_here (atom_term (key_term (asymmetric_term flag k))) n r datum_sort h = h
-bound_here (atom_term (key_term (asymmetric_term flag k))) n r name_sort h = h
-bound_here (atom_term (key_term (asymmetric_term flag k))) n r skey_sort h = h
-bound_here (tag_term bytes) n r text_sort h = h
-bound_here (tag_term bytes) n r datum_sort h = h
-bound_here (tag_term bytes) n r name_sort h = h
-bound_here (tag_term bytes) n r skey_sort h = h
-bound_here (tag_term bytes) n r akey_sort h = h
-bound_here (pair_term a b) n r text_sort h = h
-bound_here (pair_term a b) n r datum_sort h = h
-bound_here (pair_term a b) n r name_sort h = h
-bound_here (pair_term a b) n r skey_sort h = h
-bound_here (pair_term a b) n r akey_sort h = h
-bound_here (enc_term a k) n r text_sort h = h
-bound_here (enc_term a k) n r datum_sort h = h
-bound_here (enc_term a k) n r name_sort h = h
-bound_here (enc_term a k) n r skey_sort h = h
-bound_here (enc_term a k) n r akey_sort h = h
+bound_here _ n r text_sort h = h
+bound_here _ n r datum_sort h = h
+bound_here _ n r name_sort h = h
+bound_here _ n r skey_sort h = h
+bound_here _ n r akey_sort h = h
 
 -- Without bindings a variable stays.
 left_alone : (sort : Sort) (n : ℕ) → apply_to unchanged (variable_term (record { sort = sort; number = n })) ≡ variable_term (record { sort = sort; number = n })

@@ -37,8 +37,8 @@ pub use changes_laws::{
 pub use cp_model::{Limits, Mark, Nodes, Numbers, Operation, Outcome};
 pub use cp_order::{Order, Predecessors, SortedPairs};
 pub use cp_strand::{
-    Atom, Declaration, Event, Instance, Protocol, Role, Strand, StrandShape, all_occur, applied,
-    applied_atom, has_atom, is_added, is_same_role, occurs, origin, prefix_of, value_of_variable,
+    Atom, Declaration, Event, Instance, Protocol, Role, Strand, StrandShape, applied, applied_atom,
+    has_atom, is_added, is_same_role, occurs, origin, prefix_of, value_of_variable,
 };
 pub use events::{ListedSkeleton, LocatedEvent};
 pub use from_problem::FromProblem;

@@ -22,7 +22,7 @@ pub use cp_model::Declaration;
 pub use events::{applied, applied_atom};
 pub use given::{Given, IndexedUnique, applying};
 pub use instance_terms::instance_of;
-pub use prefix_variables::{all_occur, is_added, occurs, prefix_of};
+pub use prefix_variables::{is_added, occurs, prefix_of};
 pub use protocol::{Event, Protocol, Role};
 pub use same::{Same, are_same, has};
 pub use same_role::is_same_role;

@@ -119,19 +119,6 @@ pub fn is_added(role: &Role, before: usize, height: usize, id: VarId, sort: Sort
     role.occurs_before(id, sort, height) && !role.occurs_before(id, sort, before)
 }
 
-/// Whether all variables of an atom occur in the events.
-pub fn all_occur(events: &[Event], atom: &Atom) -> bool
-    ensures { result ≡ has_variables (variables_of_trace events.now) (variables_of_atom atom.now) }
-{
-    match atom.as_term().shape() {
-        Shape::Variable(id, sort) => occurs(events, id, sort),
-        Shape::Inverse(id) => occurs(events, id, Sort::Akey),
-        Shape::Ltk(a, b) => occurs(events, a, Sort::Name) && occurs(events, b, Sort::Name),
-        Shape::Pubk(_, _, name) => occurs(events, name, Sort::Name),
-        Shape::Tag(_) | Shape::Pair(..) | Shape::Encryption(..) => unreachable!(),
-    }
-}
-
 /// Whether all variables of an atom occur in the first `height` events of a role.
 pub(crate) fn all_occur_before(role: &Role, atom: &Atom, height: usize) -> bool
     ensures { result ≡ has_variables (variables_of_prefix role.now height) (variables_of_atom atom.now) }

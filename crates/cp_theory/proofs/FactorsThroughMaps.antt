@@ -13,7 +13,7 @@ use Rattle.cp_model.specs.Problem.{variables_of_skeleton}
 use Rattle.cp_model.proofs.LawTerms.{value_after}
 use Rattle.cp_model.proofs.LawAgreement.{agree_value}
 use Rattle.cp_model.proofs.OccurringVariables.{in_terms}
-use Rattle.cp_theory.proofs.Under.{factors_then}
+use Rattle.cp_theory.proofs.Under.{covers_then}
 use Rattle.cp_theory.specs.NoneLeftOut.{GoesThrough, IsComplete, IsMapInRange}
 
 -- The standing of k that goes through a map of l factors through l's.
@@ -32,11 +32,4 @@ pub left_out_factors : (protocol : Protocol) (problem k : Skeleton) (ks : List S
     FactorsThrough problem f k h → Covers ks problem b f
 left_out_factors protocol problem k ks b f h in_range leaves is stands apart first =
     let r = leaves b h is stands apart in
-    record {
-      skeleton = r.skeleton;
-      listed = r.listed;
-      standing = r.standing;
-      stands = r.stands;
-      apart = r.apart;
-      factors = factors_then problem k r.skeleton f h r.standing first (through_factors k r.skeleton h r.standing r.along in_range r.through);
-    }
+    covers_then problem k r.skeleton ks b f h r.standing r.listed r.stands r.apart first (through_factors k r.skeleton h r.standing r.along in_range r.through)

@@ -14,7 +14,7 @@ use Rattle.cp_theory.specs.Normal.{IsCarriedAt, with_pairs, AddOnlyOriginPairs, 
 use Rattle.cp_theory.proofs.Origins.{carried_non_originating, two_origins, lost_origin, unique_value_originates}
 use Rattle.cp_theory.proofs.Pairs.{stands_with_pairs, no_cycle_with_pairs}
 use Rattle.cp_theory.proofs.HeardBefore.{heard_before}
-use Rattle.cp_theory.proofs.Under.{stands_under, apart_under, factors_under, factors_then}
+use Rattle.cp_theory.proofs.Under.{stands_under, apart_under, factors_under, factors_then, covers_then}
 
 pub itself_alone : (protocol : Protocol) (k : Skeleton) → LosesNoStanding protocol k (k ∷ [])
 itself_alone protocol k b h is stands apart = record { skeleton = k; listed = here; stands = stands; apart = apart; factors = record { strands = refl; values = refl } }
@@ -61,4 +61,4 @@ none_with_cycle protocol k pairs n sk add before b h is stands apart = absurd (n
 pub covered : (protocol : Protocol) (problem k : Skeleton) (ks : List Skeleton) (b : Bundle) (f h : Standing) → LosesNoStanding protocol k ks → IsBundle protocol b → StandsIn k b h → StandsApart k h → FactorsThrough problem f k h → Covers ks problem b f
 covered protocol problem k ks b f h none is stands apart factors =
     let r : StandsAmong ks k b h = none b h is stands apart in
-    record { skeleton = r.skeleton; listed = r.listed; standing = h; stands = r.stands; apart = r.apart; factors = factors_then problem k r.skeleton f h h factors r.factors }
+    covers_then problem k r.skeleton ks b f h h r.listed r.stands r.apart factors r.factors

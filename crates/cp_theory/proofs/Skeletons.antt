@@ -10,6 +10,8 @@ use Rattle.cp_model.specs.Bundle.{node_at}
 use Rattle.cp_model.specs.declared.node.Node.{Node}
 use Rattle.cp_model.specs.Skeleton.{instance, skeleton_trace_or_none, term_event_at, UniqueAt, Skeleton, Before, IsOrderPair, IsOrigin, GivesAssumptions, IsSkeleton}
 use Rattle.cp_model.specs.declared.node.OrderPair.{OrderPair}
+use Rattle.cp_model.specs.Homomorphism.{SkeletonMap, mapped, GoesToInstance}
+use Rattle.cp_model.specs.Stated.{unique_image}
 use Rattle.cp_lists.proofs.Members.{into_map, from_map}
 use Rattle.cp_lists.proofs.Items.{map_of_item}
 use Rattle.cp_model.proofs.LawTerms.{carried_under, atom_composed}
@@ -30,6 +32,12 @@ pair_under s k p o = record {
   reception = event_under s k p.later (recv o.received) o.reception;
   between_strands = o.between_strands;
 }
+
+-- Where the strand of a recorded origin goes to one of its role, and its event with it, the image is a recorded origin.
+pub origin_along : (k l : Skeleton) (f : SkeletonMap) (u : UniqueAt) (o : IsOrigin k u) → GoesToInstance l f u.origin.strand o.role o.height o.terms →
+    term_event_at l.strands (mapped f u.origin) ≡ Some (send (apply_to f.terms o.sent)) → IsOrigin l (unique_image f u)
+origin_along k l f u o g sent_there =
+    record { role = o.role; height = g.to_height; terms = g.to_terms; on_instance = g.on_instance; sent = apply_to f.terms o.sent; transmission = sent_there; carried = carried_under f.terms o.carried }
 
 pub origin_under : (s : Substitution) (k : Skeleton) (u : UniqueAt) → IsOrigin k u → IsOrigin (skeleton_under s k) (unique_under s u)
 origin_under s k u o = record {

@@ -12,7 +12,7 @@ use Rattle.cp_model.specs.Bundle.{node_at, event_at, KeepsNon, KeepsPenetratorNo
 use Rattle.cp_model.specs.declared.node.Node.{Node}
 use Rattle.cp_model.specs.Skeleton.{SkeletonStrand, instance, listener, skeleton_trace, skeleton_trace_or_none, term_event_at, UniqueAt, Skeleton, OrderStep, along_strand_of, along_pair, Before}
 use Rattle.cp_model.specs.Standing.{Standing, image_on, image_of, StandsOnRegular, StandsIn, StandsApart}
-use Rattle.cp_model.specs.Homomorphism.{FactorsThrough}
+use Rattle.cp_model.specs.Homomorphism.{FactorsThrough, Covers}
 use Rattle.cp_model.specs.Problem.{variables_of_strands, variables_of_atoms, variables_of_uniques, variables_of_assumptions}
 use Rattle.cp_lists.proofs.Members.{in_append_left, in_append_right, from_map}
 use Rattle.cp_lists.proofs.Items.{item_of_map}
@@ -196,3 +196,7 @@ factors_under s k h solution = record { strands = refl; values = values_under s 
 
 pub factors_then : (problem k l : Skeleton) (f h g : Standing) → FactorsThrough problem f k h → FactorsThrough k h l g → FactorsThrough problem f l g
 factors_then problem k l f h g first second = record { strands = first.strands ∙ second.strands; values = first.values ∙ second.values }
+
+-- Where the standing of a problem factors through that of k, and this one through that of a skeleton of the list, the list covers it.
+pub covers_then : (problem k l : Skeleton) (ks : List Skeleton) (b : Bundle) (f h g : Standing) → IsIn l ks → StandsIn l b g → StandsApart l g → FactorsThrough problem f k h → FactorsThrough k h l g → Covers ks problem b f
+covers_then problem k l ks b f h g listed stands apart first second = record { skeleton = l; listed = listed; standing = g; stands = stands; apart = apart; factors = factors_then problem k l f h g first second }

@@ -7,11 +7,9 @@ use Rattle.cp_skel.proofs.gathered.add_missing.Goals as goal
 pub loop-item-preserved : goal.loop-item-preserved
 loop-item-preserved g c =
     let n = c.loop-item.item-index in
-    let old = c.args.old.now in
     let given = c.args.given.now in
-    let v = c.item-item.result in
-    put-next g.T.Gathered.gathers (old ++ c.loop-item.more.items) (old ++ c.push_missing.new.more.items) (drop n given) (drop (n + 1) given) _ v _
-    (drop_read given n v c.loop-item-test.true c.item-item.is) (g.met.T.Gathered.same_clone v _ c.in_ok-clone.ensures.cases) c.in_ok-push_missing.ensures c.loop-item.invariant
+    put-next g.T.Gathered.gathers (c.args.old.now ++ c.loop-item.more.items) (c.args.old.now ++ c.push_missing.new.more.items) (drop n given) (drop (n + 1) given) _ c.item-item.result _
+    (drop_read given n c.item-item.result c.loop-item-test.true c.item-item.is) (g.met.T.Gathered.same_clone c.item-item.result _ c.in_ok-clone.ensures.cases) c.in_ok-push_missing.ensures c.loop-item.invariant
 
 pub returns : goal.returns
 returns g c =
