@@ -193,6 +193,37 @@ while IFS="$tab" read -r limit bound words; do
     counts "$limit" "$allowed" 4140 "command with eight strands: $words"
 done <commands.tsv
 
+# The input of $1 problems that `gen` prints: the protocol of generated_two and its two problems in turn.
+generated() {
+    awk -v count="$1" 'NR > 3 { problem[NR > 8] = problem[NR > 8] $0 "\n"; next } { print }
+        END { for (i = 0; i < count; i++) printf "%s", problem[i % 2] }' reports/generated_two/output.scm
+}
+
+# Commands that read nothing, whatever their input is.
+while read -r number count; do
+    run / gen "$number"
+    generated "$count" >"$dir/wanted"
+    judge "gen $number" 0 "$dir/wanted" ''
+done <<END
++3 3
+007 7
+500 500
+END
+mv "$dir/output" "$dir/input"
+run "$dir/input" analyse
+grep '^(status ' "$dir/output" | sort | uniq -c | sed 's/^ *//' >"$dir/last"
+mv "$dir/last" "$dir/output"
+cat >"$dir/wanted" <<END
+250 (status complete labels 5 expanded 4 shapes 1)
+250 (status complete labels 9 expanded 4 shapes 1)
+END
+judge 'gen 500, analysed' 0 "$dir/wanted" ''
+run reports/generated_one/output.scm analyse
+judge 'gen 1, analysed' 0 reports/nonces_agreed_analysed/output.scm ''
+echo '(bench 500 labels 3500 expanded 2000 shapes 500 complete 500)' >"$dir/wanted"
+run / bench +0500
+judge 'bench 500' 0 "$dir/wanted" ''
+
 # A text that three roles say, each of which has to hear another one first, which needs them again: each label that is
 # expanded has three children, no two labels are alike, and there is no end.
 {

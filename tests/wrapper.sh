@@ -240,6 +240,12 @@ input' ''
 run "$checkout/cpsa" --help
 judge 'no command, once there is a program' 2 '' "$usage"
 commands +
+for word in gen bench; do
+    for number in 1 500 +3 007; do
+        run "$checkout/cpsa" "$word" "$number"
+        judge "a command: $word $number" 3 "words: $word $number${newline}input" ''
+    done
+done
 builds 'no more' 0
 
 echo "$passed passed, $failed failed"

@@ -6,3 +6,4 @@ pub mod Trees
 mod CommandCases
 mod AnsweredReports
 pub mod Endings
+mod BenchTotals

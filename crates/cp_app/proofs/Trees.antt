@@ -24,8 +24,9 @@ use Rattle.cp_language.specs.Report.{variables_of_terms, variables_of_test, vari
 use Rattle.cp_language.specs.Input.{Entry, stated, input_of}
 use Rattle.cp_language.specs.StatedInput.{IsInput}
 use Rattle.cp_language.proofs.NoLocals.{from_but}
-use Rattle.cp_load.specs.Inputs.{entry_view}
+use Rattle.cp_load.specs.Inputs.{entry_view, input_entries}
 use Rattle.cp_load.specs.declared.input.Entry.{Entry as ProgramEntry}
+use Rattle.cp_load.specs.declared.input.Input.{Input}
 use Rattle.cp_model.proofs.OccurringVariables.{term_with}
 use Rattle.cp_theory.specs.Matches.{IsFreeIn}
 use Rattle.cp_tree.specs.Searched.{IsTreeOf}
@@ -172,13 +173,17 @@ entry_of [] p m = elim m [ ]
 entry_of (e ∷ es) p m = ⊎_elim (λ is. (e, here, is)) (λ q. let r = entry_of es p q in (r.0, there r.1, r.2)) (in_next (stated e) (filter_map stated es) p m)
 
 -- The problems of an input of which nothing is refused are analysable.
-pub analysable_problems : (fs : Forms) (es : List Entry) → IsInput fs (Ok es) → (p : Problem) → IsIn p (filter_map stated es) → IsAnalysable p
+analysable_problems : (fs : Forms) (es : List Entry) → IsInput fs (Ok es) → (p : Problem) → IsIn p (filter_map stated es) → IsAnalysable p
 analysable_problems fs es loaded p listed =
     let found = entry_of (input_of fs) p (rw loaded.1 at listed) in
     record {
       is_over = record { of_role = (wellformed.are_skeletons fs found.0 p loaded.0 found.1 found.2).of_role };
       own = wellformed.map_to_themselves fs found.0 p loaded.0 found.1 found.2;
     }
+
+pub analysable_entries : (fs : Forms) (input : Input) (es : List ProgramEntry) → es ≡ input.entries.items → IsInput fs (Ok (input_entries input)) → (p : Problem) → IsIn p (problems_of es) → IsAnalysable p
+analysable_entries fs input es is loaded =
+    subst (λ (os : List ProgramEntry). (p : Problem) → IsIn p (problems_of os) → IsAnalysable p) (sym is) (analysable_problems fs (input_entries input) loaded)
 
 -- ---- outcomes
 

@@ -12,8 +12,11 @@ use Rattle.cp_report.specs.ReadBack.{report_of}
 use Rattle.cp_report.specs.UpToNames.{IsReport}
 use Rattle.cp_words.specs.declared.command.Command.{Command}
 use Rattle.cp_words.specs.declared.command.CommandName.{CommandName}
-use Rattle.cp_words.specs.declared.command.CommandName.TheVariants.{Analyse, Shapes}
+use Rattle.cp_words.specs.declared.command.CommandName.TheVariants.{Analyse, Shapes, Gen, Bench}
+use Rattle.cp_generate.specs.Generated.{generated_forms}
 use Rattle.cp_app.specs.Headline.{HaveTrees, IsReported}
+use Rattle.cp_app.specs.Gen.{GenAnswers}
+use Rattle.cp_app.specs.Bench.{IsBenchmark}
 use Rattle.cp_app.specs.Searched.{AreSearched}
 use Rattle.cp_app.specs.ReadBack.{report_over, IsReadBackAs}
 
@@ -26,10 +29,17 @@ pub record IsReportedInDetail (name : CommandName) (printed_of : List Entry → 
   pub read_back : IsReadBackAs name text reported.report.forms reported.trees
   pub denoted : (fs : Forms) → IsReport fs (report_over reported.report.forms reported.trees) → HaveTrees (λ p t. IsTrueOf p.protocol p.skeleton limits t) (report_of fs).entries (report_of fs).trees
 
+-- The trees of the problems that are generated are those of the search.
+pub record IsBenchmarkInDetail (n : ℕ) (limits : Limits) (text : List ℕ) (status : Status) : Type 0 where
+  pub benchmark : IsBenchmark n limits text status
+  pub searched : AreSearched limits (generated_forms n) benchmark.trees
+
 -- Within these limits the commands of this name put this text for this input and end with this status.
 abbrev pub AnswersInDetailBy : CommandName → Limits → List ℕ → List ℕ → Status → Type 0
 AnswersInDetailBy Analyse = IsReportedInDetail Analyse report_text
 AnswersInDetailBy Shapes = IsReportedInDetail Shapes shapes_text
+AnswersInDetailBy (Gen n) = GenAnswers n
+AnswersInDetailBy (Bench n) = λ limits input text status. IsBenchmarkInDetail n limits text status
 
 -- The command puts this text for this input and ends with this status.
 abbrev pub AnswersInDetail : Command → List ℕ → List ℕ → Status → Type 0

@@ -1,6 +1,6 @@
--- The headline of `run`, top to bottom: what the command `analyse` accepts, refuses and answers. The other command is in
--- `Shapes.antt`; what the clauses of `run` say of any command, in `Commands.antt`, `Answered.antt` and `Endings.antt`; that the trees are those of
--- the search, and what is read back, in `Details.antt`.
+-- The headline of `run`, top to bottom: what the command `analyse` accepts, refuses and answers. The other commands are in
+-- `Shapes.antt`, `Gen.antt` and `Bench.antt`; what the clauses of `run` say of any command, in `Commands.antt`, `Answered.antt` and
+-- `Endings.antt`; that the trees are those of the search, and what is read back, in `Details.antt`.
 use Rattle.std.specs.Prelude.{◌≡◌, ◌≢◌, ℕ, ◌≤◌, List, [], length}
 use Rattle.std.specs.List.{AllZip, filter_map}
 use Rattle.cp_base.specs.declared.place.Refusal.{Refusal}

@@ -2,6 +2,8 @@ pub mod Headline
 pub mod Searched
 pub mod ReadBack
 pub mod Shapes
+pub mod Gen
+pub mod Bench
 pub mod Commands
 pub mod Details
 pub mod Answered

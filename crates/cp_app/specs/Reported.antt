@@ -11,16 +11,18 @@ use Rattle.cp_report.specs.ReadBack.{report_of}
 use Rattle.cp_report.specs.UpToNames.{IsReport}
 use Rattle.cp_words.specs.declared.command.Command.{Command}
 use Rattle.cp_words.specs.declared.command.CommandName.{CommandName}
-use Rattle.cp_words.specs.declared.command.CommandName.TheVariants.{Analyse, Shapes}
+use Rattle.cp_words.specs.declared.command.CommandName.TheVariants.{Analyse, Shapes, Gen, Bench}
 use Rattle.cp_app.specs.Headline.{HaveTrees, IsReportOf, SaysOutcomes}
 use Rattle.cp_app.specs.Searched.{AreSearched}
 use Rattle.cp_app.specs.ReadBack.{report_over, IsReadBackAs}
 
--- What a command prints of entries and trees: `analyse` the report, and `shapes` the report without the labels that are not
--- marked as shapes.
+-- What a command prints of entries and trees: `analyse` the report, `shapes` the report without the labels that are not marked as
+-- shapes, and the others none.
 abbrev pub text_by : CommandName → List Entry → List Tree → List ℕ
 text_by Analyse = report_text
 text_by Shapes = shapes_text
+text_by (Gen n) = λ entries trees. []
+text_by (Bench n) = λ entries trees. []
 
 -- At Done and Limit the source was read to its end, and what was put is what the command prints of a report of the whole input.
 pub record HasReported (command : Command) (input before : List ℕ) (left_new held_new : Option (List ℕ)) (status : Status) : Type 0 where

@@ -64,7 +64,7 @@ pub(crate) fn trees_of(
 }
 
 // Whether the outcome is complete.
-fn is_complete(outcome: Outcome) -> bool
+pub(crate) fn is_complete(outcome: Outcome) -> bool
     ensures { result ≡ is_complete outcome }
 {
     match outcome {

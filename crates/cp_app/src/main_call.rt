@@ -1,12 +1,12 @@
 // The top call.
-ghost use Rattle.std.specs.Prelude.{◌≡◌, ◌≢◌, ◌≤◌, ◌<◌, ◌++◌, ◌⊎◌, ◌↔◌, ℕ, List, [], length, map, string_bytes, true, false, None, Some, IfOk, IfErr, OnOk, OnErr};
+ghost use Rattle.std.specs.Prelude.{◌≡◌, ◌≢◌, ◌≤◌, ◌<◌, ◌++◌, ◌⊎◌, ◌↔◌, ℕ, List, [], length, map, string_bytes, true, false, None, Some, IfOk, IfErr, OnOk};
 ghost use Rattle.cp_app.specs.Headline.{most_bytes, IsAccepted};
 ghost use Rattle.cp_app.specs.Commands.{reads, Accepts, Answers};
 ghost use Rattle.cp_app.specs.Details.{AnswersInDetail};
 ghost use Rattle.cp_app.specs.Answered.{SaysWhole, WheneverGiven, HasAnswered, HasBrokenOff};
 ghost use Rattle.cp_app.specs.Endings.{IsRefusedFor, puts_nothing, status_line, HasRefused, WasTooLong, TookAtMost, HasLine};
 ghost use Rattle.cp_app.specs.Reported.{text_by};
-ghost use Rattle.cp_app.specs.Steps.{IsCauseFor, HasStopped, IsWholeReport, outcomes_status, HasPut, HasEnded, HasExecuted};
+ghost use Rattle.cp_app.specs.Steps.{IsCauseFor, HasStopped, IsWhole, HasEnded};
 ghost use Rattle.cp_app.specs.declared.stopped.Stopped.TheVariants as stopped;
 ghost use Rattle.cp_base.specs.Outside.{Rose};
 ghost use Rattle.cp_base.specs.declared.place.Refusal.{Refusal as RefusalData};
@@ -15,38 +15,22 @@ ghost use Rattle.cp_sexpr.specs.Syntax.{Forms};
 ghost use Rattle.cp_load.specs.Inputs.{input_entries};
 ghost use Rattle.cp_words.specs.declared.command.Command.{Command as CommandData};
 ghost use Rattle.cp_words.specs.CommandWords.{command_of};
+ghost use Rattle.cp_words.specs.declared.command.CommandName.TheVariants.{Bench};
 
 use crate::analysis::{are_complete, trees_of};
+use crate::answer::{Answer, outcomes_status, put_answer};
+use crate::bench::benchmark;
+use crate::generated::generated;
 use crate::input::read_all;
-use crate::output::{put_line, put_pieces};
+use crate::output::put_line;
 use crate::stopped::Stopped;
-use cp_base::{Failed, Sink, Source, Status};
+use cp_base::{Sink, Source, Status};
 use cp_load::{Input, load};
 use cp_print::{print_pieces, print_shape_pieces};
 use cp_sexpr::read;
 use cp_skel::Tree;
 use cp_words::{Command, CommandName, WordsError, read_command};
 use std::alloc::{AllocError, Global};
-
-// What is printed of a report, the byte offset at which each of its top forms ends, and whether every outcome in the report is
-// complete.
-#[derive(Drop)]
-struct Report {
-    text: Vec<u8>,
-    ends: Vec<usize>,
-    complete: bool,
-}
-
-// The status of a run whose report was put.
-fn outcomes_status(complete: bool) -> Status
-    ensures { result ≡ outcomes_status complete }
-{
-    if complete {
-        Status::Done
-    } else {
-        Status::Limit
-    }
-}
 
 // Appends what the command prints to `text`, and to `ends` the end of each of its top forms.
 fn print_by(
@@ -62,13 +46,15 @@ fn print_by(
     match name {
         CommandName::Analyse => print_pieces(alloc, input, trees, text, ends),
         CommandName::Shapes => print_shape_pieces(alloc, input, trees, text, ends),
+        CommandName::Gen(_) | CommandName::Bench(_) => Ok(()),
     }
 }
 
 // The report on an input, or the reason why there is none.
-fn report_of(alloc: Global, command: Command, input: &[u8]) -> Result<Report, Stopped>
+fn report_of(alloc: Global, command: Command, input: &[u8]) -> Result<Answer, Stopped>
+    requires reads { reads command.name ≡ true }
     requires short { length input.now ≤ most_bytes }
-    ensures report { IfOk result (λ report. IsWholeReport command input.now report.text.items report.complete) }
+    ensures report { IfOk result (λ report. IsWhole command input.now report.text.items report.complete) }
     ensures cause { IfErr result (IsCauseFor command input.now) }
 {
     let forms = read(alloc, input)?;
@@ -78,7 +64,7 @@ fn report_of(alloc: Global, command: Command, input: &[u8]) -> Result<Report, St
     let mut text = Vec::new(alloc);
     let mut ends = Vec::new(alloc);
     print_by(alloc, command.name, &loaded, &trees, &mut text, &mut ends)?;
-    Ok(Report {
+    Ok(Answer {
         text,
         ends,
         complete,
@@ -90,9 +76,10 @@ fn make_report<S: Source>(
     alloc: Global,
     command: Command,
     source: &mut S,
-) -> Result<Report, Stopped>
+) -> Result<Answer, Stopped>
+    requires reads { reads command.name ≡ true }
     ensures report { (input : List ℕ) → S.left source.old ≡ Some input
-        → IfOk result (λ report. IsWholeReport command input report.text.items report.complete × (S.left source.new ≡ Some [])) }
+        → IfOk result (λ report. IsWhole command input report.text.items report.complete × (S.left source.new ≡ Some [])) }
     ensures stopped { (input : List ℕ) → S.left source.old ≡ Some input
         → IfErr result (HasStopped command input (S.left source.new)) }
     ensures read_fault { IfErr result (λ cause. cause ≡ stopped.ReadFault
@@ -102,32 +89,47 @@ fn make_report<S: Source>(
     report_of(alloc, command, &input)
 }
 
-// Puts a report, one piece for each top form.
-fn put_report<O: Sink>(out: &mut O, report: &Report) -> Result<(), Failed>
-    ensures put { (before : List ℕ) → O.held out.old ≡ Some before
-        → HasPut before report.now.text.items (O.held out.new) result }
-    ensures failed { OnErr result (Rose (O.faults out.old) (O.faults out.new)) }
+// What the command puts, or the reason why it puts nothing.
+fn make_answer<S: Source>(
+    alloc: Global,
+    command: Command,
+    source: &mut S,
+) -> Result<Answer, Stopped>
+    requires few { (n : ℕ) → command.name ≡ Bench n → n ≤ 500 }
+    ensures answer { (input : List ℕ) → (reads command.name ≡ true → S.left source.old ≡ Some input)
+        → IfOk result (λ answer. IsWhole command input answer.text.items answer.complete × (reads command.name ≡ true → S.left source.new ≡ Some [])) }
+    ensures stopped { (input : List ℕ) → (reads command.name ≡ true → S.left source.old ≡ Some input)
+        → IfErr result (HasStopped command input (S.left source.new)) }
+    ensures read_fault { IfErr result (λ cause. cause ≡ stopped.ReadFault
+        → Rose (S.faults source.old) (S.faults source.new)) }
+    ensures reads_nothing { reads command.name ≡ false → source.new ≡ source.old }
 {
-    put_pieces(out, &report.text, &report.ends)
+    match command.name {
+        CommandName::Gen(n) => generated(alloc, n),
+        CommandName::Bench(n) => benchmark(alloc, n, command.limits),
+        CommandName::Analyse | CommandName::Shapes => make_report(alloc, command, source),
+    }
 }
 
-// Reads the source, analyses its bytes and puts what the command prints.
-fn analyse<S: Source, O: Sink>(
+// Puts what the command puts, after reading the source if it reads.
+fn answer<S: Source, O: Sink>(
     alloc: Global,
     command: Command,
     source: &mut S,
     out: &mut O,
 ) -> Status
-    ensures ended { (input : List ℕ) → S.left source.old ≡ Some input
+    requires few { (n : ℕ) → command.name ≡ Bench n → n ≤ 500 }
+    ensures ended { (input : List ℕ) → (reads command.name ≡ true → S.left source.old ≡ Some input)
         → HasEnded command input (S.left source.new) (O.held out.old) (O.held out.new) result }
     ensures not_usage { result ≢ Usage }
+    ensures reads_nothing { reads command.name ≡ false → source.new ≡ source.old }
     ensures read_fault { result ≡ ReadFault → Rose (S.faults source.old) (S.faults source.new) }
     ensures write_fault { result ≡ WriteFault → Rose (O.faults out.old) (O.faults out.new) }
     ensures nothing_put { puts_nothing result ≡ true → out.new ≡ out.old }
 {
-    match make_report(alloc, command, source) {
-        Ok(report) => match put_report(out, &report) {
-            Ok(()) => outcomes_status(report.complete),
+    match make_answer(alloc, command, source) {
+        Ok(answer) => match put_answer(out, &answer) {
+            Ok(()) => outcomes_status(answer.complete),
             Err(_) => Status::WriteFault,
         },
         Err(cause) => cause.status(),
@@ -141,16 +143,19 @@ fn execute<S: Source, O: Sink>(
     source: &mut S,
     out: &mut O,
 ) -> Status
-    ensures executed { (input : List ℕ) → S.left source.old ≡ Some input
-        → HasExecuted (command_of (map string_bytes words.now)) input (S.left source.new) (O.held out.old) (O.held out.new) result }
+    ensures executed { (command : CommandData) (input : List ℕ) → command_of (map string_bytes words.now) ≡ Some command
+        → (reads command.name ≡ true → S.left source.old ≡ Some input)
+        → HasEnded command input (S.left source.new) (O.held out.old) (O.held out.new) result }
     ensures usage { (result ≡ Usage) ↔ (command_of (map string_bytes words.now) ≡ None) }
     ensures usage_reads_nothing { result ≡ Usage → source.new ≡ source.old }
+    ensures reads_nothing { (command : CommandData) → command_of (map string_bytes words.now) ≡ Some command
+        → reads command.name ≡ false → source.new ≡ source.old }
     ensures read_fault { result ≡ ReadFault → Rose (S.faults source.old) (S.faults source.new) }
     ensures write_fault { result ≡ WriteFault → Rose (O.faults out.old) (O.faults out.new) }
     ensures nothing_put { puts_nothing result ≡ true → out.new ≡ out.old }
 {
     match read_command(alloc, words) {
-        Ok(command) => analyse(alloc, command, source, out),
+        Ok(command) => answer(alloc, command, source, out),
         Err(WordsError::Usage) => Status::Usage,
         Err(WordsError::Memory) => Status::Memory,
     }
@@ -161,19 +166,21 @@ fn execute<S: Source, O: Sink>(
 /// `words` starts with the program's name; the command follows. `analyse [--limit N] [--bound N]` reads the source to its end,
 /// but at most 1,048,577 bytes, searches for the shapes of each problem within these limits, builds the whole text of the report,
 /// and only then puts it on `out`. `shapes`, with the same options, does the same, but omits from the text each label that is not
-/// marked as a shape. The status says how the run ended:
+/// marked as a shape. `gen N` and `bench N` read nothing: `gen` puts a protocol and N problems, and `bench` analyses this text
+/// within the default limits and puts one line, with how many labels there are in all trees, how many were expanded, how many are
+/// shapes, and how many trees are complete. The status says how the run ended:
 ///
-/// - `Done`: the whole text was put, and every outcome in the report is complete;
+/// - `Done`: the whole text was put, and every outcome in it is complete;
 /// - `Limit`: the whole text was put, and some outcome is a limit;
 /// - `Usage`: exactly if the words are no command; nothing was read;
-/// - `TooLong`: exactly if the words are a command and the source held more than 1,048,576 bytes, unless the source fails or
-///   memory runs out;
-/// - `Refused`: exactly if the words are a command and the input, of at most 1,048,576 bytes, is not well formed, with the same
-///   exceptions; it gives the place and the code of the first fault;
+/// - `TooLong`: exactly if the words are a command that reads and the source held more than 1,048,576 bytes, unless the source
+///   fails or memory runs out;
+/// - `Refused`: exactly if the words are a command that reads and the input, of at most 1,048,576 bytes, is not well formed, with
+///   the same exceptions; it gives the place and the code of the first fault;
 /// - `ReadFault`, `WriteFault`: the source, or the sink for the output, failed;
 /// - `Memory`: memory ran out.
 ///
-/// The report covers the whole input, which is well formed and was read to its end: the forms in order, each problem followed by
+/// A report covers the whole input, which is well formed and was read to its end: the forms in order, each problem followed by
 /// its tree. Each label declares its problem's variables, and every variable that occurs in it. The tree is true of its problem:
 ///
 /// - each label denotes a skeleton over the protocol, carries a homomorphism from the problem and keeps what the problem itself
@@ -189,6 +196,8 @@ fn execute<S: Source, O: Sink>(
 /// the names of variables, the places of forms, and the pairs that generate an order. The same holds for the text that `analyse`
 /// puts, if that text can be read; it can if its numbers have at most nine digits and its lists are nested at most 200 deep. The
 /// trees that these forms denote are true of their problems too.
+///
+/// The trees that `bench` counts are true of their problems too, and made by the rules of the search.
 ///
 /// At `WriteFault` a proper prefix of such a text was put. At every other status except `Done` and `Limit`, nothing was put on
 /// `out`. Each status except `Done` and `Limit` has a line on the sink for errors, or a prefix of it if that sink fails. What is
@@ -219,6 +228,8 @@ pub fn run<S: Source, O: Sink, E: Sink>(
         → (S.left source.new ≡ Some []) × ((fs : Forms) × IsAccepted (Accepts command) input fs) }
     ensures reads_nothing { (command : CommandData) → command_of (map string_bytes words.now) ≡ Some command
         → reads command.name ≡ false → source.new ≡ source.old }
+    ensures reads_nothing_ends { (command : CommandData) → command_of (map string_bytes words.now) ≡ Some command
+        → reads command.name ≡ false → SaysWhole result ⊎ ((result ≡ WriteFault) ⊎ (result ≡ Memory)) }
 
     // Input that the command refuses, and no other, is refused, with the place and code that the command gives.
     ensures refused { (command : CommandData) (r : RefusalData) (input : List ℕ)

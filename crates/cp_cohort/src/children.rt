@@ -38,8 +38,7 @@ fn children_of(
     guarded_test.contract(alloc, &mut children)?;
     guarded_test.displace(alloc, &mut children)?;
     add(alloc, protocol, guarded_test, &mut children)?;
-    listen(alloc, guarded_test, &mut children)?;
-    Ok(children)
+    listen(alloc, guarded_test, &mut children).map(|_| children)
 }
 
 /// The cohort of a test under patterns that guard it: all children, in this order: contracted, displaced, with an added strand,

@@ -102,8 +102,7 @@ fn grown_to(
     ensures { IfOk result (λ l. (j : ℕ) → height ≡ suc j
         → HasGrown strand instance.now.role instance.now.height j k l) }
 {
-    grow(alloc, strand, instance, height, &mut k)?;
-    Ok(k)
+    grow(alloc, strand, instance, height, &mut k).map(|_| k)
 }
 
 /// The test's skeleton with the instance on this strand at least this high.

@@ -1,5 +1,4 @@
 -- What is given at a node of a skeleton by the transmissions that reach it.
-use Rattle.cp_skel.specs.Events.{LocatedEvent}
 use Rattle.std.proofs.Common.{ℕ, ◌+◌, ◌++◌, List, Option, Some, None, ◌≡◌, refl, sym, subst, ap, ◌∙◌}
 use Rattle.std.specs.Prelude.{◌↔◌, option_map}
 use Rattle.cp_skel.specs.Ordered.{IsOrdered}
@@ -72,9 +71,9 @@ derivable_at_places k l n ps qs ordered there_is before same e =
     (derivable_at_node k n qs ordered there_is (same_before k.pairs n (transmissions_of k) ps qs same before) (given_by k qs) refl)
 
 -- The places before a node, found in what a survey has.
-pub places_surveyed : (k l : Skeleton) (n : Node) (events : List LocatedEvent) (sent lent : List Transmission) (pairs : List OrderPair) (ps : List ℕ) → IsSurveyed k events sent pairs →
+pub places_surveyed : (k l : Skeleton) (n : Node) (sent lent : List Transmission) (pairs : List OrderPair) (ps : List ℕ) → IsSurveyed k sent pairs →
     k ≡ l → lent ≡ sent → ArePlacesBefore pairs n lent ps → ArePlacesBefore l.pairs n (transmissions_of l) ps
-places_surveyed k l n events sent lent pairs ps is e b h =
+places_surveyed k l n sent lent pairs ps is e b h =
     subst (λ (x : Skeleton). ArePlacesBefore x.pairs n (transmissions_of x) ps) e
     (subst (λ xs. ArePlacesBefore xs n (transmissions_of k) ps) is.along (subst (λ ts. ArePlacesBefore pairs n ts ps) (b ∙ is.transmissions) h))
 

@@ -1,5 +1,5 @@
 -- What is known of a node is known of it in a skeleton that differs in its table alone.
-use Rattle.std.proofs.Common.{List, inl, inr, sym, subst}
+use Rattle.std.proofs.Common.{List, inl, inr, refl, sym, subst}
 use Rattle.cp_model.specs.Term.{AtomTerm, Term}
 use Rattle.cp_model.specs.declared.variable.Declaration.{Declaration}
 use Rattle.cp_model.specs.declared.node.Node.{Node}
@@ -7,7 +7,6 @@ use Rattle.cp_model.specs.Skeleton.{Skeleton}
 use Rattle.cp_model.specs.Derivable.{IsSecret, IsOnInstance, DerivableAt, a_tag, an_atom, sent_before, paired, left_of, right_of, encrypted, decrypted}
 use Rattle.cp_theory.specs.Critical.{IsTest}
 use Rattle.cp_skel.specs.Tables.{DiffersInTable}
-use Rattle.cp_skel.specs.Events.{LocatedEvent}
 use Rattle.cp_skel.proofs.TableAlone.{tabled, was_before}
 use Rattle.cp_derive.specs.AtNode.{IsAtNode}
 use Rattle.cp_skel.specs.Preceding.{SkeletonNode}
@@ -40,13 +39,13 @@ module _ (k l : Skeleton) (differs : DiffersInTable k l) where
   test_in_table n c t = subst (λ (x : Skeleton). IsTest x n c) (sym differs) (test_tabled k l.variables n c t)
 
 -- A table can be put back.
-module _ (at : SkeletonNode) (events : List LocatedEvent) (known : Given) (is : IsAtNode at events known) where
-  node_tabled : (table : List Declaration) → IsAtNode (record { skeleton = tabled at.skeleton table; node = at.node }) events known
+module _ (at : SkeletonNode) (listed : Skeleton) (known : Given) (is : IsAtNode at listed known) where
+  node_tabled : (table : List Declaration) → IsAtNode (record { skeleton = tabled at.skeleton table; node = at.node }) (tabled at.skeleton table) known
   node_tabled table = record {
-    all = is.all;
+    same = refl;
     derivable =
         λ t. ((λ d. was_derivable (tabled at.skeleton table) at.skeleton.variables ((is.derivable t).0 d)), (λ d. (is.derivable t).1 (was_derivable at.skeleton table d)));
   }
 
-  pub node_in_table : (l : Skeleton) → DiffersInTable at.skeleton l → IsAtNode (record { skeleton = l; node = at.node }) events known
-  node_in_table l differs = subst (λ (x : Skeleton). IsAtNode (record { skeleton = x; node = at.node }) events known) (sym differs) (node_tabled l.variables)
+  pub node_in_table : (l : Skeleton) → DiffersInTable at.skeleton l → IsAtNode (record { skeleton = l; node = at.node }) l known
+  node_in_table l differs = subst (λ (x : Skeleton). IsAtNode (record { skeleton = x; node = at.node }) x known) (sym differs) (node_tabled l.variables)

@@ -3,15 +3,15 @@ use Rattle.std.specs.Prelude.{◌≡◌, ◌↔◌, List, true}
 use Rattle.cp_lists.specs.Lists.{IsIn}
 use Rattle.cp_model.specs.Term.{Term}
 use Rattle.cp_model.specs.declared.strand.Event.TheVariants.{Send as send}
-use Rattle.cp_model.specs.Skeleton.{Before}
+use Rattle.cp_model.specs.Skeleton.{Skeleton, Before}
 use Rattle.cp_model.specs.Derivable.{DerivableAt}
-use Rattle.cp_skel.specs.Events.{LocatedEvent, events_of}
+use Rattle.cp_skel.specs.Events.{LocatedEvent}
 use Rattle.cp_derive.specs.Given.{Given, IsDerivable}
 pub use Rattle.cp_skel.specs.Preceding.{SkeletonNode}
 
--- What is known of a node: the skeleton's events, and what is derivable there.
-pub record IsAtNode (at : SkeletonNode) (events : List LocatedEvent) (known : Given) : Type 0 where
-  pub all : events ≡ events_of at.skeleton
+-- What is known of a node: its skeleton, the events of which are listed, and what is derivable there.
+pub record IsAtNode (at : SkeletonNode) (listed : Skeleton) (known : Given) : Type 0 where
+  pub same : listed ≡ at.skeleton
   pub derivable : (t : Term) → IsDerivable known t ↔ DerivableAt at.skeleton at.node t
 
 -- A role strand sends the term at an event that is before the node.

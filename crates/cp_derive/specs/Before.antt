@@ -9,7 +9,7 @@ use Rattle.cp_model.specs.declared.node.OrderPair.{OrderPair}
 use Rattle.cp_model.specs.Order.{ReachesAlong}
 use Rattle.cp_derive.specs.Given.{Given}
 use Rattle.cp_skel.specs.Code.{coded_skeleton}
-use Rattle.cp_skel.specs.Events.{LocatedEvent, events_of}
+use Rattle.cp_skel.specs.Events.{events_of}
 use Rattle.cp_derive.specs.Transmissions.{Transmission, transmissions_among}
 use Rattle.cp_derive.specs.Assumed.{assumed_values}
 
@@ -39,9 +39,8 @@ transmissions_of k = transmissions_among (events_of k)
 abbrev pub given_by : Skeleton → List ℕ → Given
 given_by k places = record { sent = messages_at places (transmissions_of k); secrets = assumed_values k.assumptions }
 
--- These are the events of a skeleton, what its role strands send, and its pairs.
-pub record IsSurveyed (k : Skeleton) (events : List LocatedEvent) (sent : List Transmission) (pairs : List OrderPair) : Type 0 where
-  pub all : events ≡ events_of k
+-- These are what the role strands of a skeleton send, and its pairs.
+pub record IsSurveyed (k : Skeleton) (sent : List Transmission) (pairs : List OrderPair) : Type 0 where
   pub transmissions : sent ≡ transmissions_of k
   pub along : pairs ≡ k.pairs
 

@@ -16,7 +16,7 @@ use crate::before::sent_before;
 use crate::component::Critical;
 use crate::knowledge::Known;
 use crate::walk::critical_in;
-use cp_skel::{LocatedEvent, Node, Preceding, Skeleton};
+use cp_skel::{ListedSkeleton, LocatedEvent, Node, Preceding, Skeleton};
 use cp_term::Term;
 use std::alloc::{AllocError, Global};
 use std::marker::Model;
@@ -26,7 +26,7 @@ use std::marker::Model;
 #[derive(Drop)]
 pub struct AtNode<'a> {
     preceding: Preceding<'a>,
-    events: Vec<LocatedEvent<'a>>,
+    listed: ListedSkeleton<'a>,
     known: Known,
 }
 
@@ -40,23 +40,36 @@ impl<'a> Model for AtNode<'a> {
 
     ghost view = { λ a. a.preceding };
 
-    ghost invariant = { λ a. IsAtNode a.preceding a.events.items a.known };
+    ghost invariant = { λ a. IsAtNode a.preceding a.listed a.known };
 }
 
 impl<'a> AtNode<'a> {
-    /// Gathers what is known of a node. The node must exist.
+    /// Lists the events of a skeleton, and gathers what is known of a node. The node must exist.
     pub(crate) fn new(alloc: Global, k: &'a Skeleton, node: Node) -> Result<AtNode<'a>, AllocError>
         requires there { IsNodeOf k.now.strands node }
         ensures { IfOk result (λ at. at ≡ record { skeleton = k.now; node = node }) }
     {
-        let events = k.events(alloc)?;
+        let listed = ListedSkeleton::of(alloc, k)?;
+        AtNode::of(alloc, listed, node)
+    }
+
+    /// Gathers what is known of a node. The node must exist.
+    pub(crate) fn of(
+        alloc: Global,
+        listed: ListedSkeleton<'a>,
+        node: Node,
+    ) -> Result<AtNode<'a>, AllocError>
+        requires there { IsNodeOf listed.strands node }
+        ensures { IfOk result (λ at. at ≡ record { skeleton = listed.entry; node = node }) }
+    {
+        let k = listed.skeleton();
         let preceding = Preceding::of(alloc, k, node)?;
-        let sent = sent_before(alloc, &events, &preceding)?;
+        let sent = sent_before(alloc, listed.events(), &preceding)?;
         let secrets = assumed_values(alloc, k.assumptions())?;
         let known = Known::new(alloc, sent, secrets)?;
         Ok(AtNode {
             preceding,
-            events,
+            listed,
             known,
         })
     }
@@ -79,7 +92,7 @@ impl<'a> AtNode<'a> {
     pub fn events(&self) -> &[LocatedEvent<'a>]
         ensures { result.now ≡ events_of self.now.skeleton }
     {
-        &self.events
+        self.listed.events()
     }
 
     /// Whether another node is before this one in the skeleton's order.
@@ -115,13 +128,14 @@ impl<'a> AtNode<'a> {
     {
         let AtNode {
             preceding,
-            events,
+            listed,
             known,
         } = self;
         let preceding = preceding.in_table(k);
+        let listed = listed.in_table(k);
         AtNode {
             preceding,
-            events,
+            listed,
             known,
         }
     }
@@ -135,7 +149,7 @@ pub fn known(alloc: Global, k: &Skeleton, node: Node) -> Result<Known, AllocErro
 {
     let AtNode {
         preceding: _,
-        events: _,
+        listed: _,
         known,
     } = AtNode::new(alloc, k, node)?;
     Ok(known)

@@ -12,7 +12,7 @@ ghost use Rattle.cp_derive.specs.Unrealised.{IsRealisedAt};
 
 use crate::at_node::AtNode;
 use crate::walk::critical_in;
-use cp_skel::{Event, Node, Skeleton, Test};
+use cp_skel::{Event, ListedSkeleton, Node, Skeleton, Test};
 use cp_term::Term;
 use std::alloc::{AllocError, Global};
 use std::marker::Model;
@@ -105,20 +105,20 @@ impl<'a> AtTest<'a> {
 /// `None` exactly if the node is realised: there is no such node, it is no reception, or its message is derivable.
 pub fn test_at<'a>(
     alloc: Global,
-    k: &'a Skeleton,
+    k: &'a ListedSkeleton<'a>,
     node: Node,
 ) -> Result<Option<AtTest<'a>>, AllocError>
     ensures none { IfOk result (λ t. IsNone t ↔ IsRealisedAt k.now node) }
     ensures there { IfOk result (λ t. IfSome t (λ t. (t.skeleton ≡ k.now) × (t.node ≡ node))) }
     ensures first { IfOk result (λ t. IfSome t (λ t. (m : Plain) → term_event_at k.now.strands node ≡ Some (recv m) → (path : List PlainStep) × IsFirstUnderivable (DerivableAt k.now node) m path t.critical)) }
 {
-    let Some(strand) = k.strands().get(node.strand) else {
+    let Some(strand) = k.skeleton().strands().get(node.strand) else {
         return Ok(None);
     };
     let Some(Event::Receive(message)) = strand.event(alloc, node.index)? else {
         return Ok(None);
     };
-    let at = AtNode::new(alloc, k, node)?;
+    let at = AtNode::of(alloc, k.lent(), node)?;
     let Some(critical) = critical_in(alloc, at.known(), &message)? else {
         return Ok(None);
     };

@@ -24,5 +24,5 @@ pub use at_test::{AtTest, test_at};
 pub use component::Critical;
 pub use knowledge::{Known, buildable};
 pub use laws::{derivable_at_a_node, derivable_where_given};
-pub use receptions::unrealised;
+pub use receptions::{unrealised, unrealised_of};
 pub use walk::critical_in;

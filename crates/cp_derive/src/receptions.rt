@@ -7,7 +7,7 @@ ghost use Rattle.cp_derive.specs.Unrealised.{ListsUnrealised};
 use crate::knowledge::buildable;
 use crate::known_before::KnownBefore;
 use crate::survey::Survey;
-use cp_skel::{Event, LocatedEvent, Node, OrderPair, Skeleton};
+use cp_skel::{Event, ListedSkeleton, LocatedEvent, Node, OrderPair, Skeleton};
 use std::alloc::{AllocError, Global};
 
 /// The receptions among the events from `start` to `end` whose messages are not derivable there, in order, and what is known
@@ -100,6 +100,14 @@ fn unrealised_by_strand(alloc: Global, survey: &Survey<'_>) -> Result<Vec<Node>,
 
 /// The receptions, listeners' included, whose messages are not derivable there, by strand, then by index.
 pub fn unrealised(alloc: Global, k: &Skeleton) -> Result<Vec<Node>, AllocError>
+    ensures listed { IfOk result (λ nodes. ListsUnrealised k.now nodes.items) }
+{
+    let listed = ListedSkeleton::of(alloc, k)?;
+    unrealised_of(alloc, &listed)
+}
+
+/// The receptions of a skeleton whose events are listed, as [`unrealised`] lists them.
+pub fn unrealised_of(alloc: Global, k: &ListedSkeleton<'_>) -> Result<Vec<Node>, AllocError>
     ensures listed { IfOk result (λ nodes. ListsUnrealised k.now nodes.items) }
 {
     let survey = Survey::new(alloc, k)?;

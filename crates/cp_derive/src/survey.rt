@@ -5,14 +5,13 @@ ghost use Rattle.cp_derive.specs.Before.{ArePlacesBefore, transmissions_of};
 
 use crate::before::places_before;
 use crate::transmission::{Transmission, transmissions};
-use cp_skel::{LocatedEvent, Node, Skeleton, SortedPairs};
+use cp_skel::{ListedSkeleton, LocatedEvent, Node, Skeleton, SortedPairs};
 use std::alloc::{AllocError, Global};
 use std::marker::Model;
 
 /// A skeleton, with what is gone through for one of its nodes after another: its events, its transmissions, and its pairs, sorted.
 pub(crate) struct Survey<'a> {
-    skeleton: &'a Skeleton,
-    events: Vec<LocatedEvent<'a>>,
+    listed: &'a ListedSkeleton<'a>,
     transmissions: Vec<Transmission>,
     sorted: SortedPairs<'a>,
 }
@@ -21,8 +20,7 @@ pub(crate) struct Survey<'a> {
 impl<'a> Drop for Survey<'a> {
     fn drop(self) {
         let Survey {
-            skeleton: _,
-            events,
+            listed: _,
             transmissions,
             sorted,
         } = self;
@@ -38,22 +36,23 @@ impl<'a> Model for Survey<'a> {
 
     ghost coded = { coded_skeleton };
 
-    ghost view = { λ s. s.skeleton.now };
+    ghost view = { λ s. s.listed.now };
 
-    ghost invariant = { λ s. IsSurveyed s.skeleton.now s.events.items s.transmissions.items s.sorted };
+    ghost invariant = { λ s. IsSurveyed s.listed.now s.transmissions.items s.sorted };
 }
 
 impl<'a> Survey<'a> {
-    /// Lists and sorts what the skeleton has.
-    pub(crate) fn new(alloc: Global, k: &'a Skeleton) -> Result<Survey<'a>, AllocError>
-        ensures { IfOk result (λ s. s ≡ k.now) }
+    /// Lists the transmissions of the skeleton, and sorts its pairs.
+    pub(crate) fn new(
+        alloc: Global,
+        listed: &'a ListedSkeleton<'a>,
+    ) -> Result<Survey<'a>, AllocError>
+        ensures { IfOk result (λ s. s ≡ listed.now) }
     {
-        let events = k.events(alloc)?;
-        let transmissions = transmissions(alloc, &events)?;
-        let sorted = SortedPairs::new(alloc, k.order().pairs())?;
+        let transmissions = transmissions(alloc, listed.events())?;
+        let sorted = SortedPairs::new(alloc, listed.skeleton().order().pairs())?;
         Ok(Survey {
-            skeleton: k,
-            events,
+            listed,
             transmissions,
             sorted,
         })
@@ -63,14 +62,14 @@ impl<'a> Survey<'a> {
     pub(crate) fn skeleton(&self) -> &'a Skeleton
         ensures { result.now ≡ self.now }
     {
-        self.skeleton
+        self.listed.skeleton()
     }
 
     /// The events, each with its node, by strand and then by index.
     pub(crate) fn events(&self) -> &[LocatedEvent<'a>]
         ensures { result.now ≡ events_of self.now }
     {
-        &self.events
+        self.listed.events()
     }
 
     /// The transmissions of role strands.

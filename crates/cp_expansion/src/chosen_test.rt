@@ -5,7 +5,7 @@ ghost use Rattle.cp_expansion.specs.ChosenNode.{listens_at, chosen};
 ghost use Rattle.cp_expansion.specs.ChosenTest.{IsTestOf};
 
 use cp_derive::{AtTest, test_at};
-use cp_skel::{Node, Skeleton, StrandShape};
+use cp_skel::{ListedSkeleton, Node, Skeleton, StrandShape};
 use std::alloc::{AllocError, Global};
 
 /// Whether the node is on a listener.
@@ -40,7 +40,7 @@ fn chosen(k: &Skeleton, nodes: &[Node]) -> Option<Node>
 /// first component of the message received there that is not derivable. `None` exactly if no reception is unrealised.
 pub(crate) fn test_of<'a>(
     alloc: Global,
-    k: &'a Skeleton,
+    k: &'a ListedSkeleton<'a>,
     unrealised: &[Node],
 ) -> Result<Option<AtTest<'a>>, AllocError>
     requires listed { ListsUnrealised k.now unrealised.now }
@@ -48,7 +48,7 @@ pub(crate) fn test_of<'a>(
     ensures test { IfOk result (λ t. IfSome t (λ t. IsTestOf k.now t.node t.critical)) }
     ensures none { IfOk result (λ t. IsNone t ↔ (unrealised.now ≡ [])) }
 {
-    let Some(node) = chosen(k, unrealised) else {
+    let Some(node) = chosen(k.skeleton(), unrealised) else {
         return Ok(None);
     };
     test_at(alloc, k, node)

@@ -18,7 +18,7 @@ use crate::widening_child::first_widening;
 use cp_cohort::{Child, cohort_at};
 use cp_derive::AtTest;
 use cp_escape::{escape_at, widening_keeps_guards};
-use cp_skel::{Node, Protocol, Skeleton, Test};
+use cp_skel::{ListedSkeleton, Node, Protocol, Skeleton, Test};
 use cp_term::Pattern;
 use std::alloc::{AllocError, Global};
 
@@ -88,11 +88,12 @@ fn expand_test(
 /// fewer than 32, the first child with an added strand that gives a pattern adds it, and the children are made anew. `None`
 /// exactly if no reception is unrealised.
 ///
-/// The skeleton must be one over the protocol, with declared variables, and `unrealised` its unrealised receptions.
+/// The skeleton must be one over the protocol, with declared variables, and `unrealised` its unrealised receptions. Its test, the
+/// escape set and the children all use the events as they are listed.
 pub fn expand(
     alloc: Global,
     protocol: &Protocol,
-    k: &Skeleton,
+    k: &ListedSkeleton<'_>,
     unrealised: &[Node],
 ) -> Result<Option<(Test, Expansion)>, AllocError>
     requires skeleton { IsSkeleton protocol.now k.now }

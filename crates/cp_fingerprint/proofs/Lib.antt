@@ -1,5 +1,10 @@
+mod FoundInTurn
+mod GrownHeights
 mod PlaceShares
 mod PlaceWeights
+mod RolesByPlace
+mod SkeletonHeights
+mod SortedLists
 mod SumsBeside
 mod ValuePlaces
 pub mod Listed
@@ -9,3 +14,7 @@ pub mod SharedMore
 pub mod SignatureData
 pub mod Signatures
 pub mod StrandSums
+pub mod ChainPlaces
+pub mod ChainRounds
+pub mod ChainWeights
+pub mod HeaviestChains

@@ -9,7 +9,7 @@ abbrev pub AllOf : {A : Type 0} → (A → Type 0) → List A → Type 0
 AllOf {A} fact xs = (x : A) → IsIn x xs → fact x
 
 module _ {A : Type 0} (fact : A → Type 0) where
-  one_or_rest : (x : A) (xs : List A) → fact x → AllOf fact xs → AllOf fact (x ∷ xs)
+  pub one_or_rest : (x : A) (xs : List A) → fact x → AllOf fact xs → AllOf fact (x ∷ xs)
   one_or_rest x xs h k y here = h
   one_or_rest x xs h k y (there m) = k y m
 

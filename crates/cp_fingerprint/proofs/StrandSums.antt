@@ -1,7 +1,7 @@
 -- Sums over lists: of numbers that go apart to numbers that are no less, the sum is no more.
-use Rattle.std.proofs.Common.{◌≡◌, ◌≢◌, ℕ, zero, suc, ◌+◌, ◌≤◌, List, [], ◌∷◌, ◌++◌, map, refl, ap, ◌∙◌, arith, ◌⊎◌, inl, inr}
+use Rattle.std.proofs.Common.{◌≡◌, ◌≢◌, ℕ, zero, suc, ◌+◌, ◌≤◌, List, [], ◌∷◌, ◌++◌, map, refl, ap, ap₂, ◌∙◌, arith, ◌⊎◌, inl, inr}
 use Rattle.std.specs.Prelude.{Some}
-use Rattle.cp_lists.specs.Lists.{item_at}
+use Rattle.cp_lists.specs.Lists.{item_at, IsIn, here, there}
 
 abbrev pub total : List ℕ → ℕ
 total [] = 0
@@ -18,6 +18,29 @@ sum_append w (x ∷ xs) ys = let h : sum_of w (xs ++ ys) ≡ sum_of w xs + sum_o
 pub total_map : {A : Type 0} (w : A → ℕ) (xs : List A) → total (map w xs) ≡ sum_of w xs
 total_map w [] = refl
 total_map w (x ∷ xs) = ap (λ (n : ℕ). w x + n) (total_map w xs)
+
+pub sum_map : {A B : Type 0} (w : B → ℕ) (f : A → B) (xs : List A) → sum_of w (map f xs) ≡ sum_of (λ x. w (f x)) xs
+sum_map w f [] = refl
+sum_map w f (x ∷ xs) = ap (λ (n : ℕ). w (f x) + n) (sum_map w f xs)
+
+pub sum_same : {A : Type 0} (u w : A → ℕ) (xs : List A) → ((x : A) → IsIn x xs → u x ≡ w x) → sum_of u xs ≡ sum_of w xs
+sum_same u w [] h = refl
+sum_same u w (x ∷ xs) h = ap₂ (λ (m n : ℕ). m + n) (h x here) (sum_same u w xs (λ y p. h y (there p)))
+
+pub sum_no_more : {A : Type 0} (u w : A → ℕ) (xs : List A) → ((x : A) → IsIn x xs → u x ≤ w x) → sum_of u xs ≤ sum_of w xs
+sum_no_more u w [] h = omega arith
+sum_no_more u w (x ∷ xs) h = let one = h x here in let rest = sum_no_more u w xs (λ y p. h y (there p)) in omega (arith, one, rest)
+
+pub sum_zero : {A : Type 0} (u : A → ℕ) (xs : List A) → ((x : A) → IsIn x xs → u x ≡ 0) → sum_of u xs ≡ 0
+sum_zero u [] h = refl
+sum_zero u (x ∷ xs) h = let one = h x here in let rest = sum_zero u xs (λ y p. h y (there p)) in omega (arith, one, rest)
+
+pub sum_both : {A : Type 0} (u v w : A → ℕ) (xs : List A) → ((x : A) → u x ≡ v x + w x) → sum_of u xs ≡ sum_of v xs + sum_of w xs
+sum_both u v w [] h = refl
+sum_both u v w (x ∷ xs) h =
+    let one = h x in
+    let rest : sum_of u xs ≡ sum_of v xs + sum_of w xs = sum_both u v w xs h in
+    omega (arith, one, rest)
 
 -- ---- a list with 0 in the place of one of its numbers
 

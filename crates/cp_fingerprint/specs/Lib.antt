@@ -1,10 +1,15 @@
 pub mod Signatures
+pub mod Fingerprints
 pub mod FirstPlaces
-pub mod Heights
+pub mod InTurn
 pub mod Isomorphic
 pub mod PartitionNumber
 pub mod Partition
+pub mod RolePlaces
 pub mod SharedValues
 pub mod Slots
+pub mod Sorted
 pub mod Values
 pub mod Weights
+pub mod Chains
+pub mod ChainTable

@@ -5,22 +5,24 @@ ghost use Rattle.cp_model.specs.Skeleton as model;
 ghost use Rattle.cp_fingerprint.specs.Signatures.{signature_of, MayEmbed};
 ghost use Rattle.cp_fingerprint.specs.Isomorphic.{IsIsomorphic};
 
-use crate::heights::{RoleHeight, have_no_more, heights_of};
+use crate::chains::chains_of;
+use crate::fingerprints::{fingerprint, may_embed};
 use crate::partition::Partition;
 use crate::shared_values::bucket_key_of;
+use crate::sorted_heights::Fingerprint;
 use cp_skel::Skeleton;
 use std::alloc::{AllocError, Global};
 use std::marker::Model;
 
-/// What an embedding must respect of a skeleton: the partition of its problem's strands; the number of its strands of each role
-/// and height; and its bucket key, a number for how its role strands share values, which no embedding makes smaller. It counts
-/// what each strand shares by itself, so it tells most skeletons apart at once. Listeners are not counted, since two of them may
-/// map to one.
+/// What an embedding must respect of a skeleton: its fingerprint; the partition of its problem's strands; and two numbers that no
+/// embedding makes smaller. The bucket key counts what each role strand shares by itself, so it tells most skeletons apart at once;
+/// the other is for their orders, the sum of the weights of the heaviest chains of nodes that lead to the nodes of role strands.
 #[derive(Drop)]
 pub struct Signature {
+    fingerprint: Fingerprint,
     partition: Partition,
-    heights: Vec<RoleHeight>,
     bucket_key: usize,
+    chains: usize,
 }
 
 impl Model for Signature {
@@ -30,7 +32,7 @@ impl Model for Signature {
 
     ghost coded = { coded_signature };
 
-    ghost view = { λ f. record { partition = f.partition; heights = f.heights.items; bucket_key = f.bucket_key } };
+    ghost view = { λ f. record { fingerprint = f.fingerprint; partition = f.partition; bucket_key = f.bucket_key; chains = f.chains } };
 }
 
 impl Signature {
@@ -39,9 +41,10 @@ impl Signature {
         ensures exact { IfOk result (λ f. f ≡ signature_of k.now) }
     {
         Ok(Signature {
+            fingerprint: fingerprint(alloc, k)?,
             partition: Partition::of(alloc, k)?,
-            heights: heights_of(alloc, k.strands())?,
             bucket_key: bucket_key_of(alloc, k)?,
+            chains: chains_of(alloc, k)?,
         })
     }
 
@@ -57,13 +60,16 @@ impl Signature {
         ensures exact { IsTrue result ↔ MayEmbed self.now other.now }
         ensures kept { (a b : model.Skeleton) → signature_of a ≡ self.now → signature_of b ≡ other.now → Embeds a b → IsTrue result }
     {
+        if !may_embed(&self.fingerprint, &other.fingerprint) {
+            return false;
+        }
         if self.bucket_key > other.bucket_key {
             return false;
         }
-        if !self.partition.may_embed(&other.partition) {
+        if self.chains > other.chains {
             return false;
         }
-        have_no_more(&self.heights, &other.heights)
+        self.partition.may_embed(&other.partition)
     }
 
     /// Fast test: false only if no skeleton with this signature is isomorphic to one with the other. True if each may embed in
@@ -73,6 +79,9 @@ impl Signature {
         ensures kept { (a b : model.Skeleton) → signature_of a ≡ self.now → signature_of b ≡ other.now → IsIsomorphic a b → IsTrue result }
     {
         if self.bucket_key != other.bucket_key {
+            return false;
+        }
+        if self.chains != other.chains {
             return false;
         }
         self.may_embed(other) && other.may_embed(self)

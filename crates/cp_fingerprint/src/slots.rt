@@ -18,19 +18,6 @@ pub struct Slot {
     value: Term,
 }
 
-impl Model for Slot {
-    ghost use Rattle.std.specs.Prelude.{◌≡◌};
-    ghost use Rattle.cp_fingerprint.specs.Slots.{Slot as Plain, coded_slot, slot_key};
-
-    ghost Value = { Plain };
-
-    ghost coded = { coded_slot };
-
-    ghost view = { λ s. record { weight = s.weight; value = s.value } };
-
-    ghost invariant = { λ s. s.key ≡ slot_key s.value };
-}
-
 /// The number of a variable, or of the first variable of another atom; 0 for any other value.
 pub fn key_of(value: &Term) -> usize
     ensures { result ≡ slot_key value.now }
@@ -42,6 +29,19 @@ pub fn key_of(value: &Term) -> usize
         Shape::Pubk(_, _, a) => a.number(),
         Shape::Tag(_) | Shape::Pair(..) | Shape::Encryption(..) => 0,
     }
+}
+
+impl Model for Slot {
+    ghost use Rattle.std.specs.Prelude.{◌≡◌};
+    ghost use Rattle.cp_fingerprint.specs.Slots.{Slot as Plain, coded_slot, slot_key};
+
+    ghost Value = { Plain };
+
+    ghost coded = { coded_slot };
+
+    ghost view = { λ s. record { weight = s.weight; value = s.value } };
+
+    ghost invariant = { λ s. s.key ≡ slot_key s.value };
 }
 
 impl Slot {

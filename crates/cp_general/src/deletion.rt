@@ -46,8 +46,7 @@ fn try_deletion(alloc: Global, k: &Skeleton, strand: usize) -> Result<Option<Ske
         return Ok(None);
     }
     let left = without_strand(alloc, k, strand)?;
-    let fit = is_fit(alloc, &left)?;
-    Ok(fit.then_some(left))
+    is_fit(alloc, &left).map(|fit| fit.then_some(left))
 }
 
 /// The step that deletes a strand: of all strands whose deletion leaves a fit skeleton, the one with the highest number. The

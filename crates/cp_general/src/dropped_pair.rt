@@ -83,9 +83,9 @@ fn some_is_in_neither(first: &[OrderPair], second: &[OrderPair], pairs: &[OrderP
 pub(crate) fn some_may_drop(alloc: Global, k: &Skeleton) -> Result<bool, AllocError>
     ensures { IfOk result (λ some. IsTrue some ↔ HasFreePair k.now) }
 {
-    let added = added_pairs(alloc, k)?;
-    let some = some_is_in_neither(k.from_problem().pairs(), &added, k.order().pairs());
-    Ok(some)
+    let own = k.from_problem().pairs();
+    let pairs = k.order().pairs();
+    added_pairs(alloc, k).map(|added| some_is_in_neither(own, &added, pairs))
 }
 
 /// The pairs except this one.
@@ -119,8 +119,7 @@ fn may_drop(
     if is_among(added, pair) {
         return Ok(false);
     }
-    let covered = is_covered(alloc, k.order().pairs(), pair)?;
-    Ok(!covered)
+    is_covered(alloc, k.order().pairs(), pair).map(|covered| !covered)
 }
 
 /// The skeleton's order without this pair, if the rest still has the order that the problem states.
@@ -131,8 +130,7 @@ fn order_without(alloc: Global, k: &Skeleton, pair: OrderPair) -> Result<Option<
 {
     let pairs = others(alloc, k.order().pairs(), pair)?;
     let order = Order::of(pairs);
-    let keeps = all_lead(alloc, order.pairs(), k.from_problem().pairs())?;
-    Ok(keeps.then_some(order))
+    all_lead(alloc, order.pairs(), k.from_problem().pairs()).map(|keeps| keeps.then_some(order))
 }
 
 /// Whether the message received at this reception is derivable there.
@@ -140,8 +138,7 @@ fn is_derived(alloc: Global, k: &Skeleton, node: Node) -> Result<bool, AllocErro
     requires { IsNodeOf k.now.strands node }
     ensures { IfOk result (λ derived. (t : Term) → term_event_at k.now.strands node ≡ Some (recv t) → IsTrue derived ↔ DerivableAt k.now node t) }
 {
-    let found = critical(alloc, k, node)?;
-    Ok(found.is_none())
+    critical(alloc, k, node).map(|found| found.is_none())
 }
 
 /// The skeleton with another order, if the message received at this reception is derivable there. The skeleton must be sound with

@@ -12,8 +12,7 @@ use std::alloc::{AllocError, Global};
 fn is_realised(alloc: Global, k: &Skeleton) -> Result<bool, AllocError>
     ensures { IfOk result (λ realised. IsTrue realised ↔ AllDerivable k.now) }
 {
-    let nodes = unrealised(alloc, k)?;
-    Ok(nodes.is_empty())
+    unrealised(alloc, k).map(|nodes| nodes.is_empty())
 }
 
 /// Whether the skeleton is normal, and all its receptions are derivable.

@@ -1,4 +1,5 @@
-//! Maps between skeletons: embeddings, and isomorphism. Every call that returns `AllocError` fails only when memory runs out.
+//! Maps between skeletons: embeddings, and isomorphism; and fingerprints, which tell at once that there is none. Every call that
+//! returns `AllocError` fails only when memory runs out.
 #![tactic(auto)]
 
 mod broken;
@@ -17,5 +18,6 @@ mod sharing_strands;
 mod strand_map;
 mod strand_matches;
 
+pub use cp_fingerprint::{Fingerprint, RoleHeight, fingerprint, fingerprints_are_kept, may_embed};
 pub use embeddings::{embed, isomorphic};
 pub use strand_map::Map;

@@ -45,20 +45,19 @@ fn are_two(children: &[Child]) -> bool {
         && matches!(second.operation, Operation::AddedListener(1))
 }
 
-/// Whether these are the children of the test of the whole message that the first strand receives.
-fn has_two(alloc: Global, problem: &Problem) -> Result<bool, Fail> {
-    let received = node(0, 1);
-    match message_at(alloc, &problem.skeleton, received)? {
-        Some(message) => Ok(are_two(&children(alloc, problem, received, &message)?)),
+/// The message at the node, which must be there.
+fn message_of(alloc: Global, k: &Skeleton, node: Node) -> Result<Term, Fail> {
+    match message_at(alloc, k, node)? {
+        Some(message) => Ok(message),
         None => Err(Fail::new("no such node")),
     }
 }
 
-#[test]
-fn first_of_the_initiator(rt: HostRuntime) -> Result<(), Fail> {
-    let problem = problem_of(rt.alloc(), NEEDHAM_SCHROEDER, ALONE)?;
-    assert!(rt; has_two(rt.alloc(), &problem)?);
-    Ok(())
+/// Whether these are the children of the test of the whole message that the first strand receives.
+fn has_two(alloc: Global, problem: &Problem) -> Result<bool, Fail> {
+    let received = node(0, 1);
+    let message = message_of(alloc, &problem.skeleton, received)?;
+    Ok(are_two(&children(alloc, problem, received, &message)?))
 }
 
 /// The escape set of the test of the term at the node.
@@ -85,10 +84,15 @@ fn is_only(patterns: &[Pattern], term: &Term) -> bool {
 /// Whether the nonce, where it is heard, is protected by the message that the first strand sends, and by it alone.
 fn is_protected(alloc: Global, k: &Skeleton) -> Result<bool, Fail> {
     let nonce = text(alloc, 2)?;
-    match message_at(alloc, k, node(0, 0))? {
-        Some(message) => Ok(is_only(&patterns(alloc, k, node(1, 0), &nonce)?, &message)),
-        None => Err(Fail::new("no such node")),
-    }
+    let message = message_of(alloc, k, node(0, 0))?;
+    Ok(is_only(&patterns(alloc, k, node(1, 0), &nonce)?, &message))
+}
+
+#[test]
+fn first_of_the_initiator(rt: HostRuntime) -> Result<(), Fail> {
+    let problem = problem_of(rt.alloc(), NEEDHAM_SCHROEDER, ALONE)?;
+    assert!(rt; has_two(rt.alloc(), &problem)?);
+    Ok(())
 }
 
 #[test]

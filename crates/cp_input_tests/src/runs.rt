@@ -86,10 +86,14 @@ const ANALYSE: &[&str] = &["cpsa", "analyse"];
 
 const SHAPES: &[&str] = &["cpsa", "shapes"];
 
+const GEN_ONE: &[&str] = &["cpsa", "gen", "1"];
+
+const GEN_THREE: &[&str] = &["cpsa", "gen", "3"];
+
 const UNREADABLE: &[&str] = &["cpsa", "analyse", "--limit", "x"];
 
 // Words, the calls at which the source fails, the room of the sink and the calls at which it fails, the status, and how many
-// forms are put. All is read in call 0, and call 1 comes to the end.
+// forms are put. A command that reads takes all in call 0, and comes to the end in call 1.
 type Row = (
     &'static [&'static str],
     &'static [u64],
@@ -114,6 +118,9 @@ const ROWS: &[Row] = &[
     (ANALYSE, &[], 10_000, &[7], Status::WriteFault, 7),
     (ANALYSE, &[], 10_000, &[8], Status::Done, 8),
     (SHAPES, &[], 10_000, &[1], Status::WriteFault, 1),
+    (GEN_ONE, &[0, 1, 2], 10_000, &[], Status::Done, 2),
+    (GEN_THREE, &[], 10_000, &[1], Status::WriteFault, 1),
+    (GEN_THREE, &[], 10_000, &[2], Status::WriteFault, 2),
     (UNREADABLE, &[0], 10_000, &[0], Status::Usage, 0),
     (&[], &[0], 10_000, &[0], Status::Usage, 0),
 ];

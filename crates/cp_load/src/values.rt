@@ -53,8 +53,7 @@ fn own_atoms(
 {
     let atoms = atoms_of(alloc, declared, kind, body)?;
     let mut once = Vec::new(alloc);
-    add_atoms(&mut once, &atoms)?;
-    Ok(once)
+    add_atoms(&mut once, &atoms).map(|_| once)
 }
 
 /// The unique values that these items state, with their origins on the strands, each once.
@@ -69,8 +68,7 @@ fn own_uniques(
 {
     let values = atoms_of(alloc, declared, Kind::Unique, body)?;
     let mut uniques = Vec::new(alloc);
-    add_own_uniques(strands, &values, &mut uniques)?;
-    Ok(uniques)
+    add_own_uniques(strands, &values, &mut uniques).map(|_| uniques)
 }
 
 /// The assumptions that these items of a problem state.

@@ -34,8 +34,7 @@ fn occurring(alloc: Global, label: &Label) -> Result<Vec<Variable>, AllocError>
     let mut variables = Vec::with_capacity(alloc, ROOM)?;
     add_events(&used, &mut variables)?;
     add_test_variables(&label.test, &mut variables)?;
-    add_patterns(alloc, label.escape.as_slice(), &mut variables)?;
-    Ok(variables)
+    add_patterns(alloc, label.escape.as_slice(), &mut variables).map(|_| variables)
 }
 
 /// A label's variables by number: how each is declared, whether it occurs, and its name.

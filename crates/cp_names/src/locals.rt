@@ -14,8 +14,7 @@ fn variables_of(alloc: Global, pattern: &Pattern) -> Result<Vec<Variable>, Alloc
     ensures { IfOk result (λ variables. variables.items ≡ variables_of pattern.now.term) }
 {
     let mut variables = Vec::new(alloc);
-    add_term(pattern.term(), &mut variables)?;
-    Ok(variables)
+    add_term(pattern.term(), &mut variables).map(|_| variables)
 }
 
 /// Appends the variables, except the locals.

@@ -15,4 +15,6 @@ mod strands;
 mod terms;
 mod variable_names;
 
-pub use report::{print, print_pieces, print_shape_pieces, print_shapes};
+pub use report::{
+    expanded_count, print, print_pieces, print_shape_pieces, print_shapes, shape_count,
+};

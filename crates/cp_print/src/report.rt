@@ -76,7 +76,7 @@ fn put_labels(
 }
 
 /// How many of the labels were expanded.
-fn expanded_count(labels: &[Label]) -> usize
+pub fn expanded_count(labels: &[Label]) -> usize
     ensures { result ≡ expanded_count labels.now }
 {
     let mut count = 0;
@@ -89,7 +89,7 @@ fn expanded_count(labels: &[Label]) -> usize
 }
 
 /// How many of the labels are shapes.
-fn shape_count(labels: &[Label]) -> usize
+pub fn shape_count(labels: &[Label]) -> usize
     ensures { result ≡ shape_count labels.now }
 {
     let mut count = 0;

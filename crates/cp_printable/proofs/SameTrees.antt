@@ -1,5 +1,5 @@
 -- A tree that is the same as one that is true of a problem is true of it.
-use Rattle.std.proofs.Common.{◌≡◌, ◌⊎◌, inl, inr, ℕ, ◌+◌, ◌≤◌, ◌<◌, List, [], ◌∷◌, length, Option, Some, None, refl, sym, ap, ap₂, ◌∙◌, subst}
+use Rattle.std.proofs.Common.{◌≡◌, ◌⊎◌, inl, inr, ℕ, ◌≤◌, ◌<◌, List, [], ◌∷◌, length, Option, Some, None, refl, sym, ap, ◌∙◌, subst}
 use Rattle.cp_lists.specs.Lists.{item_at, IsIn, here, there}
 use Rattle.cp_lists.proofs.Items.{place_of, at_place}
 use Rattle.cp_lists.proofs.Members.{in_append_left, in_append_right, head_or_behind}
@@ -14,7 +14,7 @@ use Rattle.cp_model.specs.PointOfView.{StatesItself}
 use Rattle.cp_model.specs.Skeleton.{Skeleton, IsSkeleton}
 use Rattle.cp_model.specs.Standing.{Standing, StandsIn, StandsApart}
 use Rattle.cp_model.specs.Homomorphism.{Embeds, FactorsThrough, Covers}
-use Rattle.cp_model.specs.Tree.{Test, Label, Tree, is_expanded, expanded_count, if_shape, shapes_of, if_left, skeletons_left, IsOpen, ReachedSteps, ReachedStrands, IsLabelOf, IsTrueOf}
+use Rattle.cp_model.specs.Tree.{Test, Label, Tree, if_shape, shapes_of, if_left, skeletons_left, IsOpen, ReachedSteps, ReachedStrands, IsLabelOf, IsTrueOf}
 use Rattle.cp_model.specs.declared.tree.Mark.{Mark}
 use Rattle.cp_model.specs.declared.tree.Mark.TheVariants.{Shape as shape, Dead as dead, Seen as seen, InstanceOf as instance_of, LimitSteps as limit_steps, LimitStrands as limit_strands}
 use Rattle.cp_model.specs.declared.tree.Limits.{Limits}
@@ -23,6 +23,7 @@ use Rattle.cp_model.proofs.LawEmbeddings.{embeds_then}
 use Rattle.cp_language.specs.Report.{variables_of_terms, variables_of_test, variables_of_patterns, occurring}
 use Rattle.cp_report.specs.UpToNames.{renaming, IsSameTest, IsSameLabel, IsSameTree}
 use Rattle.cp_report.proofs.SkeletonFits.{paired_length}
+use Rattle.cp_report.proofs.TreeFits.{expanded_same}
 use Rattle.cp_printable.specs.TrueTrees.{HasOrderPairs}
 use Rattle.cp_printable.proofs.SameStrands.{paired_from}
 use Rattle.cp_printable.proofs.SameMaps.{with_terms, from, same_is_skeleton, forth_embedding, back_embedding}
@@ -64,20 +65,6 @@ test_none s None None p e = refl
 test_none s None (Some t) p e = absurd p
 test_none s (Some t) None p e = refl
 test_none s (Some t) (Some u) p e = absurd (cc)
-
--- Both labels are expanded, or neither is.
-same_expanded : (s : Substitution) (a b : Option Test) → IsSameTest s a b → is_expanded a ≡ is_expanded b
-same_expanded s None None p = refl
-same_expanded s None (Some t) p = absurd p
-same_expanded s (Some t) None p = absurd p
-same_expanded s (Some t) (Some u) p = refl
-
--- Both trees have equally many expanded labels.
-same_count : (ls ms : List Label) → ArePaired IsSameLabel ls ms → expanded_count ls ≡ expanded_count ms
-same_count [] [] p = refl
-same_count [] (m ∷ ms) p = absurd p
-same_count (l ∷ ls) [] p = absurd p
-same_count (l ∷ ls) (m ∷ ms) p = ap₂ ◌+◌ (same_expanded (renaming p.0.number) l.test m.test p.0.test) (same_count ls ms p.1)
 
 -- ---- the skeletons of labels with some marks
 
@@ -203,7 +190,7 @@ module _ (protocol : Protocol) (problem : Skeleton) (variables : List Declaratio
   steps_too r =
       let o = still_open r.label r.left in
       record {
-        expanded = sym (same_count t.labels u.labels same.labels) ∙ r.expanded;
+        expanded = sym (expanded_same t.labels u.labels same.labels) ∙ r.expanded;
         label = o.0;
         left = o.2;
         unexpanded = test_none (renaming o.1.number) r.label.test o.0.test o.1.test r.unexpanded;

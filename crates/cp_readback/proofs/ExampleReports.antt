@@ -11,8 +11,6 @@ use Rattle.cp_model.specs.Senders.{ArePaired}
 use Rattle.cp_model.specs.Skeleton.{Skeleton}
 use Rattle.cp_model.specs.Same.{same_text}
 use Rattle.cp_model.specs.Tree.{Label}
-use Rattle.cp_model.specs.declared.tree.Outcome.TheVariants.{Complete as complete}
-use Rattle.cp_language.specs.Problems.{Problem}
 use Rattle.cp_report.specs.FittingTrees.{TreeFits, problems_in}
 use Rattle.cp_report.specs.ReadBack.{misfits, report_of}
 use Rattle.cp_readback.specs.AcceptedLabels.{HasAllStated, IsWholeLabel, HasWholeLabels, IsCompleteLabel, HasCompleteLabels}
@@ -51,15 +49,15 @@ has_key problem k non no_penetrator_non no_unique no_pairs = record {
   pairs = λ q one apart. let j : IsIn one.item [] = subst (IsIn one.item) no_pairs one.listed in elim j [ ];
 }
 
--- A tree of one label has whole labels if it is whole.
-single_whole : (p : Problem) (l : Label) → IsWholeLabel p l → HasWholeLabels p (record { labels = l ∷ []; outcome = complete })
-single_whole p l whole m i = of_each (IsWholeLabel p) whole (λ j. elim j [ ]) i
+-- What holds of one label holds of each label of a tree that has no other.
+of_single : (P : Label → Type 0) (l : Label) → P l → (m : Label) → IsIn m (l ∷ []) → P m
+of_single P l one m i = of_each P one (λ j. elim j [ ]) i
 
 -- The label of the first has the problem's variable and its assumption.
 pub listed_whole : ArePaired HasWholeLabels (problems_in (report_of listed_report).entries) (report_of listed_report).trees
 unfolding digits
 listed_whole = (
-  single_whole _ _ (record {
+  of_single (IsWholeLabel _) _ (record {
     later = [];
     variables = refl;
     few = omega arith;
@@ -68,15 +66,11 @@ listed_whole = (
   tt,
 )
 
--- A tree of one label has complete labels if it is complete.
-single_complete : (p : Problem) (l : Label) → IsCompleteLabel p l → HasCompleteLabels p (record { labels = l ∷ []; outcome = complete })
-single_complete p l whole m i = of_each (IsCompleteLabel p) whole (λ j. elim j [ ]) i
-
 -- The label of the second has the problem's assumption.
 pub renamed_complete : ArePaired HasCompleteLabels (problems_in (report_of renamed_report).entries) (report_of renamed_report).trees
 unfolding digits
 renamed_complete = (
-  single_complete _ _ (record {
+  of_single (IsCompleteLabel _) _ (record {
     few = omega arith;
     stated = has_key _ _ key_there refl refl refl;
   }),

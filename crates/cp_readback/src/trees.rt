@@ -73,7 +73,7 @@ fn family_if_whole<'a>(
 {
     match behind {
         [] => Ok(None),
-        [_, ..] => Ok(Some(family_of(alloc, labels)?)),
+        [_, ..] => family_of(alloc, labels).map(Some),
     }
 }
 
@@ -134,9 +134,8 @@ pub(crate) fn tree_of(
 {
     let (labels, ending) = split_at_labels(behind);
     let names = problem_variables(alloc, problem)?;
-    let stated = labels_stated(alloc, problem, &names, labels)?;
     let outcome = outcome_in(ending);
-    Ok(Tree {
+    labels_stated(alloc, problem, &names, labels).map(|stated| Tree {
         labels: Labels::of(stated),
         outcome,
     })

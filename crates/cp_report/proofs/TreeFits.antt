@@ -113,7 +113,8 @@ same_expanded f None (Some u) h = absurd h
 same_expanded f (Some t) None h = absurd h
 same_expanded f (Some t) (Some u) h = refl
 
-expanded_same : (ls ms : List Label) → ArePaired IsSameLabel ls ms → expanded_count ls ≡ expanded_count ms
+-- Trees that are the same have equally many expanded labels.
+pub expanded_same : (ls ms : List Label) → ArePaired IsSameLabel ls ms → expanded_count ls ≡ expanded_count ms
 expanded_same [] [] h = refl
 expanded_same [] (m ∷ ms) h = absurd h
 expanded_same (l ∷ ls) [] h = absurd h

@@ -18,7 +18,9 @@ fn copy_operation(operation: &Operation) -> Result<Operation, AllocError>
         Operation::Displaced(node) => Ok(Operation::Displaced(*node)),
         Operation::AddedStrand(strand) => Ok(Operation::AddedStrand(*strand)),
         Operation::AddedListener(strand) => Ok(Operation::AddedListener(*strand)),
-        Operation::Collapsed(partition) => Ok(Operation::Collapsed(partition.copy()?)),
+        Operation::Collapsed(partition) => partition
+            .copy()
+            .map(|partition| Operation::Collapsed(partition)),
         Operation::Generalised => Ok(Operation::Generalised),
     }
 }

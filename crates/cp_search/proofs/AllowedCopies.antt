@@ -1,7 +1,7 @@
--- The first label that is isomorphic to a skeleton.
-use Rattle.std.proofs.Common.{◌≡◌, ◌≢◌, ◌∙◌, inl, inr, ℕ, ◌+◌, ◌<◌, ◌≤◌, length, map, drop, get_or, Option, Some, None, Bool, true, false, arith, List, [], ◌∷◌, sym, ap, subst, ⊎_elim}
+-- The first label in which a new one may be seen.
+use Rattle.std.proofs.Common.{◌≡◌, ◌∙◌, ℕ, ◌+◌, ◌<◌, ◌≤◌, length, map, drop, get_or, Option, Some, IfSome, Bool, true, false, arith, List, ◌∷◌, sym, ap, subst, ⊎_elim}
 use Rattle.std.proofs.lemmas.List.{get_or_default}
-use Rattle.cp_lists.specs.Lists.{item_at, IsIn, here, one_step, more_steps}
+use Rattle.cp_lists.specs.Lists.{item_at, IsIn, here}
 use Rattle.cp_lists.proofs.Items.{item_below, place_of, at_place}
 use Rattle.cp_lists.proofs.Members.{drop_read, in_rest, next_or_rest, none_left}
 use Rattle.cp_model.specs.Skeleton.{Skeleton}
@@ -11,12 +11,11 @@ use Rattle.cp_fingerprint.proofs.SignatureData.{embedded_may_embed}
 use Rattle.cp_model.proofs.CarriedParts.{not_both}
 use Rattle.cp_search.specs.declared.made.Made.{Made}
 use Rattle.cp_shapes.specs.Shapes.{FindsLeast}
-use Rattle.cp_search.specs.Flags.{IsFlagged}
 use Rattle.cp_search.specs.LabelsByNumber.{with_key}
+use Rattle.cp_search.specs.Reachability.{ReachesLabel}
 use Rattle.cp_search.proofs.LabelsByNumber.{there_listed, listed_there, AreAscending, are_ascending, ascending_from}
-use Rattle.cp_search.specs.MadeLabels.{made_link, AreFound, AreReaching, MayBeSeenIn, MayBeSeen, IsSeenIn}
-use Rattle.cp_search.proofs.Links.{finds_alike}
-use Rattle.cp_tree.specs.Made.{IsEdge, Reaches}
+use Rattle.cp_search.specs.MadeLabels.{made_link, AreFound, MayBeSeen, IsSeenIn}
+use Rattle.cp_tree.specs.Made.{Reaches}
 
 -- Isomorphic skeletons have the same number.
 same_number : (a b : Skeleton) → IsIsomorphic a b → (signature_of a).bucket_key ≡ (signature_of b).bucket_key
@@ -30,12 +29,12 @@ same_number a b h = by (signature_of a) (signature_of b) (embedded_may_embed a b
 
 -- ---- labels that are listed with the number
 
-abbrev pub IsAmongLater : List Made → List Bool → Skeleton → List ℕ → ℕ → Type 0
-IsAmongLater ms flags k ns i = (n : ℕ) → MayBeSeenIn ms flags k n → IsIn n (drop i ns)
+abbrev pub IsAmongLater : List Made → Option ℕ → Skeleton → List ℕ → ℕ → Type 0
+IsAmongLater ms parent k ns i = (n : ℕ) → MayBeSeen ms parent k n → IsIn n (drop i ns)
 
-module _ (ms : List Made) (flags : List Bool) (k : Skeleton) where
+module _ (ms : List Made) (parent : Option ℕ) (k : Skeleton) where
   -- Each copy is listed.
-  pub copies_listed : (signature_data : SignatureData) → signature_data ≡ signature_of k → ((m : Made) → IsIn m ms → m.signature ≡ signature_of m.skeleton) → (ns : List ℕ) → ns ≡ with_key signature_data.bucket_key 0 ms → IsAmongLater ms flags k ns 0
+  pub copies_listed : (signature_data : SignatureData) → signature_data ≡ signature_of k → ((m : Made) → IsIn m ms → m.signature ≡ signature_of m.skeleton) → (ns : List ℕ) → ns ≡ with_key signature_data.bucket_key 0 ms → IsAmongLater ms parent k ns 0
   copies_listed signature_data their signatures ns are n h =
       let own : h.other.signature ≡ signature_of h.other.skeleton = signatures h.other (at_place ms n h.other h.at) in
       let number : h.other.signature.bucket_key ≡ signature_data.bucket_key =
@@ -54,8 +53,8 @@ module _ (ms : List Made) (flags : List Bool) (k : Skeleton) where
       opened = drop_read ns i number l is
 
       -- Where this one is no copy, each copy is behind it.
-      pub copies_behind : (MayBeSeenIn ms flags k number → ⊥) → IsAmongLater ms flags k ns i → IsAmongLater ms flags k ns (i + 1)
-      copies_behind other later n h = ⊎_elim (λ (same : number ≡ n). absurd (other (subst (MayBeSeenIn ms flags k) (sym same) h))) (λ m. m) (next_or_rest ns i n number l is (later n h))
+      pub copies_behind : (MayBeSeen ms parent k number → ⊥) → IsAmongLater ms parent k ns i → IsAmongLater ms parent k ns (i + 1)
+      copies_behind other later n h = ⊎_elim (λ (same : number ≡ n). absurd (other (subst (MayBeSeen ms parent k) (sym same) h))) (λ m. m) (next_or_rest ns i n number l is (later n h))
 
       -- The label is there, and no copy is below it.
       pub label_there : (bucket_key : ℕ) → ns ≡ with_key bucket_key 0 ms → number < length ms
@@ -63,22 +62,22 @@ module _ (ms : List Made) (flags : List Bool) (k : Skeleton) where
           let m = listed_there bucket_key ms number (subst (λ (xs : List ℕ). IsIn number xs) are (in_rest ns i (subst (λ (xs : List ℕ). IsIn number xs) (sym opened) here))) in
           item_below ms number m.0 m.1
 
-      pub none_below : (bucket_key : ℕ) → ns ≡ with_key bucket_key 0 ms → IsAmongLater ms flags k ns i → (n : ℕ) → n < number → MayBeSeenIn ms flags k n → ⊥
+      pub none_below : (bucket_key : ℕ) → ns ≡ with_key bucket_key 0 ms → IsAmongLater ms parent k ns i → (n : ℕ) → n < number → MayBeSeen ms parent k n → ⊥
       none_below bucket_key are later n less h =
           let m = subst (λ (xs : List ℕ). IsIn n xs) opened (later n h) in
           let least : number ≤ n = ascending_from ns i number (drop (i + 1) ns) (subst AreAscending (sym are) (are_ascending bucket_key 0 ms)) opened n m in
           omega (arith, less, least)
 
-    pub none_left_over : length ns ≤ i → IsAmongLater ms flags k ns i → (n : ℕ) → MayBeSeenIn ms flags k n → ⊥
+    pub none_left_over : length ns ≤ i → IsAmongLater ms parent k ns i → (n : ℕ) → MayBeSeen ms parent k n → ⊥
     none_left_over done later n h = none_left ns i n done (later n h)
 
 -- ---- the next label
 
-module _ (ms : List Made) (i : ℕ) (other : Made) (at : item_at ms i ≡ Some other) (flags : List Bool) (k : Skeleton) where
-  pub copy_here : (IsFlagged flags i → ⊥) → IsIsomorphic other.skeleton k → MayBeSeenIn ms flags k i
+module _ (ms : List Made) (i : ℕ) (other : Made) (at : item_at ms i ≡ Some other) (parent : Option ℕ) (k : Skeleton) where
+  pub copy_here : ((p : ℕ) → parent ≡ Some p → Reaches (map made_link ms) i p → ⊥) → IsIsomorphic other.skeleton k → MayBeSeen ms parent k i
   copy_here allowed h = record { other = other; at = at; allowed = allowed; isomorphic = h }
 
-  pub no_copy_here : (IsIsomorphic other.skeleton k → ⊥) → MayBeSeenIn ms flags k i → ⊥
+  pub no_copy_here : (IsIsomorphic other.skeleton k → ⊥) → MayBeSeen ms parent k i → ⊥
   no_copy_here other_one h =
       let this : item_at ms i ≡ Some h.other = h.at in
       let same : h.other ≡ other = cc in
@@ -86,70 +85,21 @@ module _ (ms : List Made) (i : ℕ) (other : Made) (at : item_at ms i ≡ Some o
 
   -- One with another signature is no copy.
   pub kept_apart : (signatures : (m : Made) → IsIn m ms → m.signature ≡ signature_of m.skeleton) (signature_data : SignatureData) (flag : Bool) → signature_data ≡ signature_of k → flag ≡ false →
-      ((a b : Skeleton) → signature_of a ≡ other.signature → signature_of b ≡ signature_data → IsIsomorphic a b → flag ≡ true) → MayBeSeenIn ms flags k i → ⊥
+      ((a b : Skeleton) → signature_of a ≡ other.signature → signature_of b ≡ signature_data → IsIsomorphic a b → flag ≡ true) → MayBeSeen ms parent k i → ⊥
   kept_apart signatures signature_data flag e q kept h =
       no_copy_here (λ same. not_both q (kept other.skeleton k (sym (signatures other (at_place ms i other at))) (sym e) same)) h
 
-pub flagged_no_copy : (ms : List Made) (flags : List Bool) (k : Skeleton) (i : ℕ) → IsFlagged flags i → MayBeSeenIn ms flags k i → ⊥
-flagged_no_copy ms flags k i flagged h = h.allowed flagged
+-- One from which the parent can be reached is no copy, and one from which it cannot is allowed.
+pub reached_no_copy : (ms : List Made) (parent : Option ℕ) (k : Skeleton) (i : ℕ) → (p : ℕ) × (parent ≡ Some p) × ReachesLabel ms i p → MayBeSeen ms parent k i → ⊥
+reached_no_copy ms parent k i reached h = h.allowed reached.0 reached.1 reached.2.2
+
+pub is_allowed : (ms : List Made) (parent : Option ℕ) (i : ℕ) → i < length ms → IfSome parent (λ p. p < length ms) → ((p : ℕ) × (parent ≡ Some p) × ReachesLabel ms i p → ⊥) → (p : ℕ) → parent ≡ Some p → Reaches (map made_link ms) i p → ⊥
+is_allowed ms parent i below within none p e reaches = none (p, e, (below, subst (λ (o : Option ℕ). IfSome o (λ q. q < length ms)) e within, reaches))
 
 -- ---- in which label one is seen
 
 pub signatures_of : (ms : List Made) → AreFound ms → (m : Made) → IsIn m ms → m.signature ≡ signature_of m.skeleton
 signatures_of ms found m listed = let at = place_of listed in (found.each at.0 m at.1).signature
-
-pub nothing_flagged : (n : ℕ) → IsFlagged [] n → ⊥
-nothing_flagged n flagged = cc
-
-module _ (ms : List Made) (k : Skeleton) (parent : Option ℕ) where
-  -- Where no label is isomorphic, one is seen in none.
-  pub seen_nowhere : FindsLeast (MayBeSeenIn ms [] k) None → FindsLeast (MayBeSeen ms parent k) None
-  seen_nowhere least n h = least n (record { other = h.other; at = h.at; allowed = nothing_flagged n; isomorphic = h.isomorphic })
-
-  -- One that is made from none may be seen in any.
-  pub seen_in_any : parent ≡ None → (found : Option ℕ) → FindsLeast (MayBeSeenIn ms [] k) found → FindsLeast (MayBeSeen ms parent k) found
-  seen_in_any none = finds_alike (MayBeSeenIn ms [] k) (MayBeSeen ms parent k)
-      (λ n h. record { other = h.other; at = h.at; allowed = λ p e reaches. absurd (cc); isomorphic = h.isomorphic })
-      (λ n h. record { other = h.other; at = h.at; allowed = nothing_flagged n; isomorphic = h.isomorphic })
-
-  -- One that is made from label p may be seen in those that are not flagged, where those are that lead to p.
-  pub seen_in_others : (p : ℕ) → parent ≡ Some p → (flags : List Bool) → AreReaching ms p flags → (found : Option ℕ) → FindsLeast (MayBeSeenIn ms flags k) found → FindsLeast (MayBeSeen ms parent k) found
-  seen_in_others p from flags right = finds_alike (MayBeSeenIn ms flags k) (MayBeSeen ms parent k) there back
-    where
-      there : (n : ℕ) → MayBeSeenIn ms flags k n → MayBeSeen ms parent k n
-      there n h = record {
-        other = h.other;
-        at = h.at;
-        allowed = λ q e reaches. let same : q ≡ p = cc in h.allowed ((right n).1 (item_below ms n h.other h.at, subst (λ (m : ℕ). Reaches (map made_link ms) n m) same reaches));
-        isomorphic = h.isomorphic;
-      }
-
-      back : (n : ℕ) → MayBeSeen ms parent k n → MayBeSeenIn ms flags k n
-      back n h = record { other = h.other; at = h.at; allowed = λ flagged. h.allowed p from ((right n).0 flagged).1; isomorphic = h.isomorphic }
-
-  -- If the first that is isomorphic is not flagged, it is the one.
-  pub seen_in_first : (p : ℕ) → parent ≡ Some p → (flags : List Bool) → AreReaching ms p flags → (n : ℕ) → (IsFlagged flags n → ⊥) → FindsLeast (MayBeSeenIn ms [] k) (Some n) → FindsLeast (MayBeSeen ms parent k) (Some n)
-  seen_in_first p from flags right n free first = seen_in_others p from flags right (Some n) (record {
-    holds = record { other = first.holds.other; at = first.holds.at; allowed = free; isomorphic = first.holds.isomorphic };
-    least = λ m l h. first.least m l (record { other = h.other; at = h.at; allowed = nothing_flagged m; isomorphic = h.isomorphic });
-  })
-
-  -- So it is where no edge goes from it, and it is not the label from which the other is made.
-  pub seen_at_end : (p : ℕ) → parent ≡ Some p → (n : ℕ) → n ≢ p → ((j : ℕ) → IsEdge (map made_link ms) n j → ⊥) → FindsLeast (MayBeSeenIn ms [] k) (Some n) → FindsLeast (MayBeSeen ms parent k) (Some n)
-  seen_at_end p from n other none first = record {
-    holds = record {
-      other = first.holds.other;
-      at = first.holds.at;
-      allowed = λ q e. let same : p ≡ q = cc in never q (λ is. other (is ∙ sym same));
-      isomorphic = first.holds.isomorphic;
-    };
-    least = λ m l h. first.least m l (record { other = h.other; at = h.at; allowed = nothing_flagged m; isomorphic = h.isomorphic });
-  }
-    where
-      never : (q : ℕ) → (n ≡ q → ⊥) → Reaches (map made_link ms) n q → ⊥
-      never q apart (inl same) = apart same
-      never q apart (inr (one_step e)) = none q e
-      never q apart (inr (more_steps {y = y} e steps)) = none y e
 
 -- In which label one that lives is seen.
 pub seen_living : (ms : List Made) (m : Made) → m.dead ≡ false → (seen : Option ℕ) → FindsLeast (MayBeSeen ms m.parent m.skeleton) seen → IsSeenIn ms m seen

@@ -128,25 +128,31 @@ module _ (ms : List Made) (x : Made) where
 
 -- ---- what is found of one label more
 
--- What is found of a label is true with the label in which it is seen.
-pub found_with : (old : List Made) (x : Made) (seen : Option ℕ) → IsFoundApart x → IsSeenIn old x seen
-    → IsFound (map made_link (old ++ (record x { seen_in = seen }) ∷ [])) (length old) (record x { seen_in = seen })
-found_with old x seen apart h = record {
+-- What is found of a label is true, also in which label it is seen.
+found_with : (old : List Made) (x : Made) → IsFoundApart x → IsSeenIn old x x.seen_in → IsFound (map made_link (old ++ x ∷ [])) (length old) x
+found_with old x apart h = record {
   signature = apart.signature;
   dead_none = apart.dead_none;
   dead_unseen = h.dead;
   listed = apart.listed;
-  seen = λ lives. points_to_first old (record x { seen_in = seen }) seen (h.living lives);
+  seen = λ lives. points_to_first old x x.seen_in (h.living lives);
   general = apart.general;
 }
 
--- The label is put behind others with the one in which it is seen.
-pub adds_found : (old new : List Made) (x : Made) (seen : Option ℕ) → AreFound old → IsFoundApart x → IfSome x.parent (λ p. p < length old) → IsSeenIn old x seen → new ≡ old ++ (record x { seen_in = seen }) ∷ [] → AddsFound x old new
-adds_found old new x seen found apart later h behind = record {
-  seen_in = seen;
-  behind = behind;
-  found = subst AreFound (sym behind) (all_found old (record x { seen_in = seen }) found (found_with old x seen apart h) later);
-}
+-- The label is put behind others.
+pub adds_found : (old new : List Made) (x : Made) → AreFound old → IsFoundApart x → IfSome x.parent (λ p. p < length old) → IsSeenIn old x x.seen_in → new ≡ old ++ x ∷ [] → AddsFound x old new
+adds_found old new x found apart later h behind = record { behind = behind; found = subst AreFound (sym behind) (all_found old x found (found_with old x apart h) later) }
+
+-- With the label in which it is seen and the key of its record, no more is to be found of it.
+module _ (x : Made) (seen waiting : Option ℕ) where
+  abbrev pub placed : Made
+  placed = record x { seen_in = seen; waiting = waiting }
+
+  pub apart_placed : IsFoundApart x → IsFoundApart placed
+  apart_placed a = record { signature = a.signature; dead_none = a.dead_none; listed = a.listed; general = a.general }
+
+  pub seen_placed : (ms : List Made) → IsSeenIn ms x seen → IsSeenIn ms placed seen
+  seen_placed ms h = record { dead = h.dead; living = h.living }
 
 -- What is found of one that may live.
 pub apart_of_living : (x : Made) → x.signature ≡ signature_of x.skeleton → x.dead ≡ false → ListsUnrealised x.skeleton x.unrealised → (x.general ≡ true → IsMaximallyGeneral x.skeleton) → IsFoundApart x

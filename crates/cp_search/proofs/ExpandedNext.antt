@@ -1,5 +1,5 @@
 -- The next label is resolved by its expansion.
-use Rattle.std.proofs.Common.{◌≡◌, ◌≢◌, ℕ, ◌+◌, List, [], ◌∷◌, ◌++◌, length, map, false, Some, sym, ap, subst, ◌∙◌, refl}
+use Rattle.std.proofs.Common.{◌≡◌, ℕ, ◌+◌, List, [], ◌∷◌, ◌++◌, length, map, false, Option, Some, sym, ap, subst, ◌∙◌, refl}
 use Rattle.std.specs.Prelude.{nat_lt}
 use Rattle.cp_lists.specs.Lists.{item_at, IsIn}
 use Rattle.cp_lists.proofs.Members.{into_map, from_map}
@@ -17,18 +17,23 @@ use Rattle.cp_expansion.specs.Expansion.{Expansion, IsExpansionOf}
 use Rattle.cp_tree.specs.Made as plain
 use Rattle.cp_tree.specs.Sound.{IsSoundMade, ExpandsSoundly}
 use Rattle.cp_tree.specs.declared.rules.Rule.{Rule}
-use Rattle.cp_tree.specs.declared.rules.Rule.TheVariants.{Tested as tested}
+use Rattle.cp_tree.specs.declared.rules.Rule.TheVariants.{Realised as realised, Tested as tested}
 use Rattle.cp_tree.specs.Rules.{rule_of}
 use Rattle.cp_tree.specs.Resolves.{IsTested, ResolvesBy}
+use Rattle.cp_search.specs.declared.label_search.Search.{Search}
 use Rattle.cp_search.specs.declared.made.Made.{Made}
+use Rattle.cp_search.specs.declared.waiting.Queue.{Queue}
+use Rattle.cp_search.specs.declared.waiting.Waiting.{Waiting}
 use Rattle.cp_search.specs.declared.resolved.Resolved.{Resolved}
 use Rattle.cp_search.specs.declared.resolved.Resolved.TheVariants as settled
 use Rattle.cp_search.specs.declared.resolved.Expanded.{Expanded}
 use Rattle.cp_search.specs.MadeLabels.{made_view, AreFound, AddMade}
-use Rattle.cp_search.specs.ResolvedLabels.{facts_of, expanded_label, IsOpenMark, AreSoundMade, ExpandsLabel, IsSearched}
+use Rattle.cp_search.specs.ResolvedLabels.{facts_of, expanded_label, IsOpenMark, AreSoundMade, ExpandsLabel, IsNextToExpand, IsSearched}
+use Rattle.cp_search.specs.WaitingRecords.{Waits, AreKept, TakesRecord}
 use Rattle.cp_search.proofs.OneMoreResolved.{numbers_of_map}
+use Rattle.cp_search.proofs.ResolvedLeaves.{same_label}
 use Rattle.cp_search.proofs.ResolvedNext.{resolved_next}
-use Rattle.cp_search.proofs.RuleKept.{of_tested}
+use Rattle.cp_search.proofs.RuleKept.{of_realised, of_tested}
 use Rattle.cp_search.proofs.SoundBehind.{sound_behind}
 
 same_expanded : (e f : Expanded) → settled.Expanded e ≡ settled.Expanded f → e ≡ f
@@ -70,12 +75,38 @@ expanded_pushed protocol limits roots old new ss i n e label r at is same x then
     let next = expanded_next protocol limits roots old new ss n e label r at is (subst (λ (k : ℕ). ExpandsLabel protocol k old new e) same x) in
     subst (λ (k : ℕ). IsSearched protocol limits roots new then k) (sym counted) (subst (λ (xs : List Resolved). IsSearched protocol limits roots new xs (n + 1)) (sym pushed) next)
 
--- A label that is to be expanded lives, and has unrealised receptions.
-pub found_to_expand : (limits : Limits) (i j n : ℕ) (ms : List Made) → (label m : Made) → item_at ms j ≡ Some label → i ≡ j → rule_of limits n (facts_of label) ≡ tested → item_at ms i ≡ Some m → (m.dead ≡ false) × (m.unrealised ≢ [])
-found_to_expand limits i j n ms label m at same is au =
-    let one : Some label ≡ Some m = sym at ∙ (ap (item_at ms) (sym same) ∙ au) in
-    let same : label ≡ m = cc in
-    subst (λ (x : Made). (x.dead ≡ false) × (x.unrealised ≢ [])) same (of_tested label.dead label.seen_in label.unrealised (nat_lt limits.strands (length label.skeleton.strands)) (nat_lt n limits.steps) is)
+-- A label that is to be expanded waits.
+pub tested_waits : (limits : Limits) (n : ℕ) (m : Made) → rule_of limits n (facts_of m) ≡ tested → Waits m
+tested_waits limits n m is =
+    let facts = of_tested m.dead m.seen_in m.unrealised (nat_lt limits.strands (length m.skeleton.strands)) (nat_lt n limits.steps) is in
+    record { lives = facts.0; new = facts.1; unrealised = facts.2 }
+
+-- A realised label does not.
+pub realised_rests : (limits : Limits) (n : ℕ) (m : Made) → realised ≡ rule_of limits n (facts_of m) → Waits m → ⊥
+realised_rests limits n m is waits = waits.unrealised (of_realised m.dead m.seen_in m.unrealised (nat_lt limits.strands (length m.skeleton.strands)) (nat_lt n limits.steps) is).1
+
+-- The next label is to be expanded, and its record was taken out.
+pub next_to_expand : (limits : Limits) (s : Search) (after : Queue) (i : ℕ) (m : Made) (found : Option Waiting) → i ≡ length s.settled.items → item_at s.queue.made i ≡ Some m → rule_of limits s.expanded (facts_of m) ≡ tested
+    → AreKept (length s.settled.items) s.queue → after.made ≡ s.queue.made → (AreKept i s.queue → TakesRecord i s.queue after found) → (w : Waiting) × (found ≡ Some w) × IsNextToExpand limits (record s { queue = after }) w
+next_to_expand limits s after i m found place at is kept made take =
+    let n = length s.settled.items in
+    let taken : TakesRecord n s.queue after found = subst (λ (k : ℕ). TakesRecord k s.queue after found) place (take (subst (λ (k : ℕ). AreKept k s.queue) (sym place) kept)) in
+    let first : item_at s.queue.made n ≡ Some m = ap (item_at s.queue.made) (sym place) ∙ at in
+    let own = taken.own m first (tested_waits limits s.expanded m is) in (
+      own.0,
+      own.1,
+      record {
+        label = m;
+        at = ap (λ (ms : List Made). item_at ms n) made ∙ first;
+        expands = is;
+        own = own.2;
+        others = taken.others;
+      },
+    )
+
+-- The label of this number is the one that is to be expanded.
+pub found_to_expand : (i j : ℕ) (ms : List Made) (label m : Made) → item_at ms j ≡ Some label → i ≡ j → item_at ms i ≡ Some m → label ≡ m
+found_to_expand i j ms label m at same au = same_label ms i label m (ap (item_at ms) same ∙ at) au
 
 -- What is made of the children of an expansion is sound where all labels before are.
 pub children_sound : (protocol : Protocol) (i : ℕ) (old new : List Made) (label : Made) (e : Expansion) → AddMade (map (plain.made_of_child i) e.children) old new → AreSoundMade protocol old → item_at old i ≡ Some label → label.dead ≡ false → IsUnrealised label.skeleton

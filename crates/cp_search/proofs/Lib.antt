@@ -17,10 +17,12 @@ pub mod StillToCome
 pub mod WaitingLabels
 pub mod LabelGeneralised
 pub mod LabelsByNumber
-pub mod SpreadFlags
-pub mod LinkEdges
+pub mod ReachedLabels
+pub mod JoinedRows
+pub mod KeptReachability
 pub mod Links
 pub mod LabelExpanded
 pub mod MadeTrees
 mod SoundBehind
 pub mod SameSkeletons
+pub mod KeptRecords

@@ -15,10 +15,10 @@ use Rattle.cp_search.specs.TreeLabels.{labels_with, AreCandidateMarks}
 use Rattle.cp_search.specs.ResolvedLabels.{HasSearched}
 use Rattle.cp_search.proofs.FoundTrees.{is_tree}
 
-pub if_made : {E : Type 0} (protocol : Protocol) (variables : List Declaration) (limits : Limits) (roots : List Root) (s : Search) → HasSearched protocol limits (map made_of_root roots) s → length s.settled.items ≡ length s.made
+pub if_made : {E : Type 0} (protocol : Protocol) (variables : List Declaration) (limits : Limits) (roots : List Root) (s : Search) → HasSearched protocol limits (map made_of_root roots) s → length s.settled.items ≡ length s.queue.made
     → ((root : Root) → IsIn root roots → root.skeleton.variables ≡ variables) → (is : Tree → Type 0) → ((t : Tree) → IsTreeFrom protocol variables limits roots t → is t) → (r : Result Tree E)
-    → IfOk r (λ t. (marks : List Mark) × AreCandidateMarks (open_from 0 s.made s.settled.items) marks × (t.labels ≡ labels_with s.made s.settled.items marks)) → IfOk r (λ t. HasOutcome t.labels t.outcome)
+    → IfOk r (λ t. (marks : List Mark) × AreCandidateMarks (open_from 0 s.queue.made s.settled.items) marks × (t.labels ≡ labels_with s.queue.made s.settled.items marks)) → IfOk r (λ t. HasOutcome t.labels t.outcome)
     → IfOk r (λ t. is t)
 if_made protocol variables limits roots s searched all named is law (Ok t) labels outcome =
-    law t (is_tree protocol limits roots s.made s.settled.items s.expanded searched all labels.0 labels.1 variables named t labels.2 outcome)
+    law t (is_tree protocol limits roots s.queue.made s.settled.items s.expanded searched all labels.0 labels.1 variables named t labels.2 outcome)
 if_made protocol variables limits roots s searched all named is law (Err e) labels outcome = tt

@@ -74,12 +74,12 @@ of_realised false None (n ∷ ns) false false e = absurd (cc)
 some_listed : (n : Node) (ns : List Node) → n ∷ ns ≢ []
 some_listed n ns e = cc
 
-pub of_tested : (d : Bool) (copy : Option ℕ) (nodes : List Node) (above left : Bool) → rule_by d copy nodes above left ≡ tested → (d ≡ false) × (nodes ≢ [])
+pub of_tested : (d : Bool) (copy : Option ℕ) (nodes : List Node) (above left : Bool) → rule_by d copy nodes above left ≡ tested → (d ≡ false) × (copy ≡ None) × (nodes ≢ [])
 of_tested true copy nodes above left e = absurd (cc)
 of_tested false (Some k) nodes above left e = absurd (cc)
 of_tested false None [] above left e = absurd (cc)
 of_tested false None (n ∷ ns) true left e = absurd (cc)
-of_tested false None (n ∷ ns) false true e = (refl, some_listed n ns)
+of_tested false None (n ∷ ns) false true e = (refl, refl, some_listed n ns)
 of_tested false None (n ∷ ns) false false e = absurd (cc)
 
 -- ---- what it keeps

@@ -1,9 +1,9 @@
-pub mod Flags
-pub mod Graph
 pub mod MadeLabels
 pub mod ResolvedLabels
 pub mod LabelsByNumber
+pub mod Reachability
 pub mod IndexedLabels
 pub mod GeneralLabels
 pub mod Candidates
 pub mod TreeLabels
+pub mod WaitingRecords

@@ -1,6 +1,6 @@
 -- What the program finds of each label as it makes it.
-use Rattle.std.specs.Prelude.{◌≡◌, ◌⊎◌, ◌↔◌, ◌<◌, ◌≤◌, ℕ, List, [], ◌∷◌, ◌++◌, length, map, Bool, true, false, Option, Some, None}
-use Rattle.cp_lists.specs.Lists.{item_at, IsIn}
+use Rattle.std.specs.Prelude.{◌≡◌, ◌<◌, ℕ, List, [], ◌∷◌, ◌++◌, map, Bool, true, false, Option, Some, None}
+use Rattle.cp_lists.specs.Lists.{item_at}
 use Rattle.cp_model.specs.Strand.{Protocol}
 use Rattle.cp_model.specs.Skeleton.{Skeleton, IsSkeleton}
 use Rattle.cp_model.specs.PointOfView.{HasDeclaredVariables}
@@ -10,9 +10,7 @@ use Rattle.cp_fingerprint.specs.Signatures.{signature_of}
 use Rattle.cp_tree.specs.Made as plain
 use Rattle.cp_tree.specs.Made.{LabelLink, Reaches, MayPointTo}
 use Rattle.cp_search.specs.declared.made.Made.{Made}
-use Rattle.cp_search.specs.declared.graph.Edge.{Edge}
 use Rattle.cp_shapes.specs.Shapes.{FindsLeast}
-use Rattle.cp_search.specs.Flags.{IsFlagged}
 use Rattle.cp_general.specs.Generalisation.{IsMaximallyGeneral}
 
 abbrev pub made_view : Made → plain.Made
@@ -27,25 +25,6 @@ untabled w = record w { skeleton = record w.skeleton { variables = [] } }
 
 abbrev pub made_untabled : Made → LabelLink
 made_untabled m = untabled (made_link m)
-
--- The edge is one to this label from the one from which it was made, or from it to the one in which it is seen.
-abbrev pub IsEdgeOfMade : ℕ → Made → Edge → Type 0
-IsEdgeOfMade i m e = ((m.parent ≡ Some e.from) × (Some i ≡ Some e.to)) ⊎ ((Some i ≡ Some e.from) × (m.seen_in ≡ Some e.to))
-
--- The edge is one of some label.
-pub record IsEdgeOfSome (ms : List Made) (e : Edge) : Type 0 where
-  pub number : ℕ
-  pub label : Made
-  pub at : item_at ms number ≡ Some label
-  pub own : IsEdgeOfMade number label e
-
--- These are the edges of the labels, and no others.
-abbrev pub AreEdgesOf : List Made → List Edge → Type 0
-AreEdgesOf ms edges = (e : Edge) → IsIn e edges ↔ IsEdgeOfSome ms e
-
--- No label is made from one above this number.
-abbrev pub AreParentsWithin : List Made → ℕ → Type 0
-AreParentsWithin ms n = (i p : ℕ) (m : Made) → item_at ms i ≡ Some m → m.parent ≡ Some p → p ≤ n
 
 -- What is found of label i is true, where labels have these links: of one that is dead from the start no unrealised receptions
 -- are listed, and it is seen nowhere; any other is seen in the least label to which it may point; and no step of generalising
@@ -74,17 +53,6 @@ pub record AreFound (ms : List Made) : Type 0 where
   pub each : (i : ℕ) (m : Made) → item_at ms i ≡ Some m → IsFound (map made_link ms) i m
   pub later : IsMadeLater ms
 
--- The flags are of the labels from which label p can be reached.
-abbrev pub AreReaching : List Made → ℕ → List Bool → Type 0
-AreReaching ms p flags = (n : ℕ) → IsFlagged flags n ↔ ((n < length ms) × Reaches (map made_link ms) n p)
-
--- Label n is not flagged, and is isomorphic to the skeleton.
-pub record MayBeSeenIn (ms : List Made) (flags : List Bool) (k : Skeleton) (n : ℕ) : Type 0 where
-  pub other : Made
-  pub at : item_at ms n ≡ Some other
-  pub allowed : IsFlagged flags n → ⊥
-  pub isomorphic : IsIsomorphic other.skeleton k
-
 -- A label that is made from this one, or from none, with this skeleton may be seen in label n: that is isomorphic, and its parent
 -- cannot be reached from there.
 pub record MayBeSeen (ms : List Made) (parent : Option ℕ) (k : Skeleton) (n : ℕ) : Type 0 where
@@ -98,11 +66,16 @@ pub record IsSeenIn (ms : List Made) (m : Made) (seen_in : Option ℕ) : Type 0 
   pub dead : m.dead ≡ true → seen_in ≡ None
   pub living : m.dead ≡ false → FindsLeast (MayBeSeen ms m.parent m.skeleton) seen_in
 
--- The label was put behind the others, with the one in which it is seen, and what is found of each is true.
+-- The label was put behind the others, and what is found of each is true.
 pub record AddsFound (m : Made) (old new : List Made) : Type 0 where
-  pub seen_in : Option ℕ
-  pub behind : new ≡ old ++ (record m { seen_in = seen_in }) ∷ []
+  pub behind : new ≡ old ++ m ∷ []
   pub found : AreFound new
+
+-- The same of the label with the one in which it is seen and the key of its record.
+pub record AddsFoundIn (m : Made) (old new : List Made) : Type 0 where
+  pub seen_in : Option ℕ
+  pub waiting : Option ℕ
+  pub adds : AddsFound (record m { seen_in = seen_in; waiting = waiting }) old new
 
 -- One label more was made, and what is found of it is true.
 pub record AddsMade (m : plain.Made) (old new : List Made) : Type 0 where

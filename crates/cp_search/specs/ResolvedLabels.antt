@@ -1,5 +1,5 @@
 -- What has become of labels, as the program keeps it.
-use Rattle.std.specs.Prelude.{◌≡◌, ◌≤◌, ℕ, List, [], ◌∷◌, ◌++◌, length, map, take, Option, Some, None}
+use Rattle.std.specs.Prelude.{◌≡◌, ◌≤◌, ℕ, ◌+◌, List, [], ◌∷◌, ◌++◌, length, map, take, Option, Some, None}
 use Rattle.cp_lists.specs.Lists.{item_at, IsIn}
 use Rattle.cp_model.specs.Strand.{Protocol}
 use Rattle.cp_model.specs.declared.variable.Declaration.{Declaration}
@@ -24,7 +24,9 @@ use Rattle.cp_search.specs.declared.resolved.Resolved.{Resolved}
 use Rattle.cp_search.specs.declared.resolved.Resolved.TheVariants as settled
 use Rattle.cp_search.specs.declared.resolved.Expanded.{Expanded}
 use Rattle.cp_search.specs.declared.label_search.Search.{Search}
+use Rattle.cp_search.specs.declared.waiting.Waiting.{Waiting}
 use Rattle.cp_search.specs.MadeLabels.{made_view, made_link, untabled, made_untabled, AreFound, AddMade}
+use Rattle.cp_search.specs.WaitingRecords.{IsRecordOf, AreKept}
 
 -- The label that was made so and is a leaf, with this mark; that of one that may be a shape is still open.
 abbrev pub leaf_label : Made → Option Mark → Label
@@ -59,11 +61,13 @@ facts_of m = record { dead = m.dead; copy = m.seen_in; unrealised = m.unrealised
 abbrev pub IsOpenMark : ℕ → Option Mark → Type 0
 IsOpenMark i mark = mark ≡ None
 
--- The next label is to be expanded.
-pub record IsNextToExpand (limits : Limits) (s : Search) : Type 0 where
+-- The next label is to be expanded, and this is its record, which was taken out.
+pub record IsNextToExpand (limits : Limits) (s : Search) (w : Waiting) : Type 0 where
   pub label : Made
-  pub at : item_at s.made (length s.settled.items) ≡ Some label
+  pub at : item_at s.queue.made (length s.settled.items) ≡ Some label
   pub expands : rule_of limits s.expanded (facts_of label) ≡ tested
+  pub own : IsRecordOf (length s.settled.items) label w
+  pub others : AreKept (length s.settled.items + 1) s.queue
 
 -- This is true for one problem, which is a skeleton over the protocol.
 pub record ForOneProblem (protocol : Protocol) (Says : Skeleton → Type 0) : Type 0 where
@@ -113,4 +117,4 @@ pub record IsSearched (protocol : Protocol) (limits : Limits) (roots : List plai
 
 -- The same of a search.
 abbrev pub HasSearched : Protocol → Limits → List plain.Made → Search → Type 0
-HasSearched protocol limits roots s = IsSearched protocol limits roots s.made s.settled.items s.expanded
+HasSearched protocol limits roots s = IsSearched protocol limits roots s.queue.made s.settled.items s.expanded

@@ -3,21 +3,23 @@ ghost use Rattle.std.specs.Prelude.{◌≡◌, ◌<◌, length, map, IfOk, OnOk}
 ghost use Rattle.cp_model.specs.Problem.{numbers_from};
 ghost use Rattle.cp_tree.specs.Made.{made_of_child};
 ghost use Rattle.cp_search.specs.MadeLabels.{AddsMade, AddMade};
+ghost use Rattle.cp_search.specs.WaitingRecords.{KeepsRecords};
 
-use crate::labels::MadeLabels;
 use crate::new_labels::make;
+use crate::waiting::Queue;
 use cp_cohort::Child;
 use std::alloc::{AllocError, Global};
 
 /// Appends the label of one child, with its assumptions listed in report order.
 fn make_child(
     alloc: Global,
-    made: &mut MadeLabels,
+    queue: &mut Queue,
     parent: usize,
     child: Child,
 ) -> Result<(), AllocError>
-    requires parent { parent < length made.old }
-    ensures { OnOk result (AddsMade (made_of_child parent child) made.old made.new) }
+    requires parent { parent < length queue.old.made }
+    ensures made { OnOk result (AddsMade (made_of_child parent child) queue.old.made queue.new.made) }
+    ensures kept { OnOk result (KeepsRecords queue.old queue.new) }
 {
     let Child {
         mut skeleton,
@@ -25,25 +27,26 @@ fn make_child(
         path: _,
     } = child;
     skeleton.list_assumptions(alloc)?;
-    make(alloc, made, Some(parent), operation, skeleton, false)
+    make(alloc, queue, Some(parent), operation, skeleton, false)
 }
 
 /// Appends the labels of the children of a label's test, in order, each with its assumptions listed in report order. Returns
 /// their numbers.
 pub(crate) fn make_children(
     alloc: Global,
-    made: &mut MadeLabels,
+    queue: &mut Queue,
     parent: usize,
     children: Vec<Child>,
 ) -> Result<Vec<usize>, AllocError>
-    requires parent { parent < length made.old }
-    ensures made { OnOk result (AddMade (map (made_of_child parent) children.items) made.old made.new) }
-    ensures numbers { IfOk result (λ numbers. numbers.items ≡ numbers_from (length made.old) children.items) }
+    requires parent { parent < length queue.old.made }
+    ensures made { OnOk result (AddMade (map (made_of_child parent) children.items) queue.old.made queue.new.made) }
+    ensures numbers { IfOk result (λ numbers. numbers.items ≡ numbers_from (length queue.old.made) children.items) }
+    ensures kept { OnOk result (KeepsRecords queue.old queue.new) }
 {
-    made.are_found();
-    let first = made.len();
+    queue.made.are_found();
+    let first = queue.made.len();
     for child in children {
-        make_child(alloc, made, parent, child)?;
+        make_child(alloc, queue, parent, child)?;
     }
-    (first..made.len()).collect(alloc)
+    (first..queue.made.len()).collect(alloc)
 }

@@ -1,10 +1,11 @@
 // Resolves realised labels.
-ghost use Rattle.std.specs.Prelude.{◌<◌, length, IfOk};
+ghost use Rattle.std.specs.Prelude.{◌<◌, length, IfOk, OnOk};
 ghost use Rattle.cp_search.specs.GeneralLabels.{ResolvesRealised};
+ghost use Rattle.cp_search.specs.WaitingRecords.{KeepsRecords};
 
-use crate::labels::MadeLabels;
 use crate::new_labels::make;
 use crate::resolved::Resolved;
+use crate::waiting::Queue;
 use cp_general::generalised;
 use cp_skel::Operation;
 use cp_tree::generalised_labels_are_sound;
@@ -14,25 +15,26 @@ use std::alloc::{AllocError, Global};
 /// generalises to that; otherwise it is a leaf whose mark is open.
 pub(crate) fn resolve_realised(
     alloc: Global,
-    made: &mut MadeLabels,
+    queue: &mut Queue,
     number: usize,
 ) -> Result<Resolved, AllocError>
-    requires there { number < length made.old }
-    ensures { IfOk result (ResolvesRealised number made.old made.new) }
+    requires there { number < length queue.old.made }
+    ensures resolved { IfOk result (ResolvesRealised number queue.old.made queue.new.made) }
+    ensures kept { OnOk result (KeepsRecords queue.old queue.new) }
 {
     generalised_labels_are_sound();
-    made.are_found();
-    let label = made.label(number);
+    queue.made.are_found();
+    let label = queue.made.label(number);
     if label.general {
         return Ok(Resolved::Leaf(None));
     }
     let Some(skeleton) = generalised(alloc, &label.skeleton)? else {
         return Ok(Resolved::Leaf(None));
     };
-    let child = made.len();
+    let child = queue.made.len();
     make(
         alloc,
-        made,
+        queue,
         Some(number),
         Operation::Generalised,
         skeleton,

@@ -1,5 +1,5 @@
 // Resolves labels one after another.
-ghost use Rattle.std.specs.Prelude.{◌≡◌, ◌≢◌, ◌<◌, ◌≤◌, ◌+◌, List, [], length, map, true, false, IfOk, OnOk, Some};
+ghost use Rattle.std.specs.Prelude.{◌≡◌, ◌≢◌, ◌<◌, ◌≤◌, ◌+◌, List, [], length, map, false, IfOk, OnOk, IfSome, IfNone, Some};
 ghost use Rattle.cp_lists.specs.Lists.{item_at};
 ghost use Rattle.cp_model.specs.Problem.{numbers_from};
 ghost use Rattle.cp_model.specs.Strand.{Protocol as PlainProtocol};
@@ -7,27 +7,30 @@ ghost use Rattle.cp_tree.specs.Made as plain;
 ghost use Rattle.cp_tree.specs.Made.{made_of_root};
 ghost use Rattle.cp_tree.specs.Rules.{rule_of};
 ghost use Rattle.cp_search.specs.declared.made.Made as program;
+ghost use Rattle.cp_search.specs.declared.resolved.Resolved.TheVariants.{Leaf as leaf_as};
 ghost use Rattle.cp_search.specs.MadeLabels.{AddMade};
+ghost use Rattle.cp_skel.specs.Events.{events_of};
 ghost use Rattle.cp_search.specs.ResolvedLabels.{facts_of, IsNextToExpand, ExpandsLabel, HasSearched, AreSoundMade, AreSoundRoots};
+ghost use Rattle.cp_search.specs.WaitingRecords.{AreKept, NoneWaits, KeepsRecords};
 
 use crate::children::make_children;
 use crate::general_labels::resolve_realised;
-use crate::labels::MadeLabels;
 use crate::made::Made;
 use crate::resolved::{Expanded, Resolved};
 use crate::roots::make_roots;
+use crate::waiting::{Queue, Waiting};
 use cp_expansion::{Expansion, expand};
 use cp_roots::Root;
-use cp_skel::{Limits, Mark, Numbers, Protocol, Test};
+use cp_skel::{Limits, ListedSkeleton, LocatedEvent, Mark, Numbers, Protocol, Test};
 use cp_term::Patterns;
 use cp_tree::{Rule, expansions_are_sound};
 use std::alloc::{AllocError, Global};
 
-/// The state of a search: the labels that were made, how the first of them were resolved, and the number of labels expanded so
-/// far.
+/// The state of a search: the labels that were made, with what is kept of those that wait, how the first of them were resolved,
+/// and the number of labels expanded so far.
 #[derive(Drop)]
 pub(crate) struct Search {
-    pub made: MadeLabels,
+    pub queue: Queue,
     pub settled: Vec<Resolved>,
     pub expanded: usize,
 }
@@ -54,42 +57,60 @@ fn rule_of(label: &Made, limits: Limits, expanded: usize) -> Rule
     Rule::Tested
 }
 
-/// Resolves labels up to the next one that is to be expanded. Returns whether there is one.
-fn resolve_leaves(alloc: Global, limits: Limits, search: &mut Search) -> Result<bool, AllocError>
+/// Resolves a label as a leaf with this mark, and lets its record go, if it waits.
+fn resolve_leaf(queue: &mut Queue, number: usize, mark: Mark) -> Resolved
+    requires there { number < length queue.old.made }
+    ensures leaf { result ≡ leaf_as (Some mark) }
+    ensures made { queue.new.made ≡ queue.old.made }
+    ensures others { AreKept number queue.old → AreKept (number + 1) queue.new }
+{
+    queue.take(number);
+    Resolved::Leaf(Some(mark))
+}
+
+/// Resolves labels up to the next one that is to be expanded, and returns the record of that one, if there is one.
+fn resolve_leaves(
+    alloc: Global,
+    limits: Limits,
+    search: &mut Search,
+) -> Result<Option<Waiting>, AllocError>
+    requires kept { AreKept (length search.old.settled.items) search.old.queue }
     ensures searched { OnOk result ((protocol : PlainProtocol) (made : List plain.Made) → HasSearched protocol limits made search.old → HasSearched protocol limits made search.new) }
-    ensures next { IfOk result (λ some. some ≡ true → IsNextToExpand limits search.new) }
-    ensures all { IfOk result (λ some. some ≡ false → length search.old.settled.items ≤ length search.old.made → length search.new.settled.items ≡ length search.new.made) }
+    ensures next { IfOk result (λ found. IfSome found (IsNextToExpand limits search.new)) }
+    ensures all { IfOk result (λ found. IfNone found (length search.old.settled.items ≤ length search.old.queue.made → length search.new.settled.items ≡ length search.new.queue.made)) }
+    ensures kept { IfOk result (λ found. IfNone found (AreKept (length search.new.settled.items) search.new.queue)) }
     ensures expanded { search.new.expanded ≡ search.old.expanded }
 {
-    while search.settled.len() < search.made.len() {
+    while search.settled.len() < search.queue.made.len() {
         let next = search.settled.len();
-        let settled = match rule_of(search.made.label(next), limits, search.expanded) {
-            Rule::Leaf(mark) => Resolved::Leaf(Some(mark)),
-            Rule::Realised => resolve_realised(alloc, &mut search.made, next)?,
-            Rule::Tested => return Ok(true),
+        let settled = match rule_of(search.queue.made.label(next), limits, search.expanded) {
+            Rule::Leaf(mark) => resolve_leaf(&mut search.queue, next, mark),
+            Rule::Realised => resolve_realised(alloc, &mut search.queue, next)?,
+            Rule::Tested => return Ok(search.queue.take(next)),
         };
         search.settled.push(settled)?;
     }
-    Ok(false)
+    Ok(None)
 }
 
 /// Appends the labels of the expansion's children, and returns the expanded label.
 fn expand_to(
     alloc: Global,
-    made: &mut MadeLabels,
+    queue: &mut Queue,
     number: usize,
     test: Test,
     expansion: Expansion,
 ) -> Result<Expanded, AllocError>
-    requires there { number < length made.old }
-    ensures { IfOk result (λ e. AddMade (map (plain.made_of_child number) expansion.children.items) made.old made.new × (e.children ≡ numbers_from (length made.old) expansion.children.items) × (e.skeleton ≡ expansion.skeleton) × (e.test ≡ test) × (e.patterns ≡ expansion.patterns.items)) }
+    requires there { number < length queue.old.made }
+    ensures kept { OnOk result (KeepsRecords queue.old queue.new) }
+    ensures made { IfOk result (λ e. AddMade (map (plain.made_of_child number) expansion.children.items) queue.old.made queue.new.made × (e.children ≡ numbers_from (length queue.old.made) expansion.children.items) × (e.skeleton ≡ expansion.skeleton) × (e.test ≡ test) × (e.patterns ≡ expansion.patterns.items)) }
 {
     let Expansion {
         skeleton,
         patterns,
         children,
     } = expansion;
-    let children = make_children(alloc, made, number, children)?;
+    let children = make_children(alloc, queue, number, children)?;
     Ok(Expanded {
         skeleton,
         test,
@@ -98,48 +119,53 @@ fn expand_to(
     })
 }
 
-/// Expands a label: finds its test and appends the labels of that test's children.
+/// Expands a label, of which these are the events: finds its test and appends the labels of that test's children.
 fn expand_label(
     alloc: Global,
     protocol: &Protocol,
-    made: &mut MadeLabels,
+    queue: &mut Queue,
     number: usize,
+    events: &[LocatedEvent<'_>],
 ) -> Result<Expanded, AllocError>
-    requires there { number < length made.old }
-    requires sound { AreSoundMade protocol.now made.old }
-    requires unrealised { (m : program.Made) → item_at made.old number ≡ Some m → (m.dead ≡ false) × (m.unrealised ≢ []) }
-    ensures { IfOk result (ExpandsLabel protocol.now number made.old made.new) }
+    requires there { number < length queue.old.made }
+    requires sound { AreSoundMade protocol.now queue.old.made }
+    requires unrealised { (m : program.Made) → item_at queue.old.made number ≡ Some m → (m.dead ≡ false) × (m.unrealised ≢ []) }
+    requires events { (m : program.Made) → item_at queue.old.made number ≡ Some m → events.now ≡ events_of m.skeleton }
+    ensures kept { OnOk result (KeepsRecords queue.old queue.new) }
+    ensures expanded { IfOk result (ExpandsLabel protocol.now number queue.old.made queue.new.made) }
 {
     expansions_are_sound();
     protocol.is_sound();
-    made.are_found();
-    let label = made.label(number);
+    queue.made.are_found();
+    let label = queue.made.label(number);
     let Some((test, expansion)) = expand(
         alloc,
         protocol,
-        &label.skeleton,
+        &ListedSkeleton::with_events(&label.skeleton, events),
         label.unrealised.as_slice(),
     )?
     else {
         unreachable!()
     };
-    expand_to(alloc, made, number, test, expansion)
+    expand_to(alloc, queue, number, test, expansion)
 }
 
-/// Expands the next label.
+/// Expands the next label, of which this is the record.
 fn expand_next(
     alloc: Global,
     protocol: &Protocol,
     limits: Limits,
     search: &mut Search,
+    waiting: Waiting,
 ) -> Result<(), AllocError>
-    requires next { IsNextToExpand limits search.old }
-    requires sound { AreSoundMade protocol.now search.old.made }
+    requires next { IsNextToExpand limits search.old waiting }
+    requires sound { AreSoundMade protocol.now search.old.queue.made }
+    ensures kept { OnOk result (AreKept (length search.new.settled.items) search.new.queue) }
     ensures searched { OnOk result ((made : List plain.Made) → HasSearched protocol.now limits made search.old → HasSearched protocol.now limits made search.new) }
     ensures expanded { OnOk result (search.new.expanded ≡ search.old.expanded + 1) }
 {
-    let number = search.settled.len();
-    let expanded = expand_label(alloc, protocol, &mut search.made, number)?;
+    let number = waiting.label;
+    let expanded = expand_label(alloc, protocol, &mut search.queue, number, &waiting.events)?;
     search.settled.push(Resolved::Expanded(expanded))?;
     search.expanded += 1;
     Ok(())
@@ -154,16 +180,17 @@ pub(crate) fn search_from(
 ) -> Result<Search, AllocError>
     requires sound { AreSoundRoots protocol.now roots.items }
     ensures searched { IfOk result (HasSearched protocol.now limits (map made_of_root roots.items)) }
-    ensures all { IfOk result (λ s. length s.settled.items ≡ length s.made) }
+    ensures all { IfOk result (λ s. length s.settled.items ≡ length s.queue.made) }
+    ensures none_left { IfOk result (λ s. NoneWaits s.queue) }
 {
-    let made = make_roots(alloc, roots)?;
+    let queue = make_roots(alloc, roots)?;
     let mut search = Search {
-        made,
+        queue,
         settled: Vec::new(alloc),
         expanded: 0,
     };
-    while resolve_leaves(alloc, limits, &mut search)? {
-        expand_next(alloc, protocol, limits, &mut search)?;
+    while let Some(waiting) = resolve_leaves(alloc, limits, &mut search)? {
+        expand_next(alloc, protocol, limits, &mut search, waiting)?;
     }
     Ok(search)
 }

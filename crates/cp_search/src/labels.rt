@@ -1,15 +1,14 @@
 // The labels made so far.
-ghost use Rattle.std.specs.Prelude.{◌≡◌, ◌↔◌, ◌<◌, [], length, Some, IsTrue, IfSome, IfOk, OnOk};
+ghost use Rattle.std.specs.Prelude.{◌≡◌, ◌<◌, [], length, Some, IfSome, IfOk, OnOk};
 ghost use Rattle.cp_lists.specs.Lists.{item_at};
 ghost use Rattle.cp_fingerprint.specs.Signatures.{signature_of};
 ghost use Rattle.cp_shapes.specs.Shapes.{FindsLeast};
-ghost use Rattle.cp_search.specs.Flags.{IsFlagged};
-ghost use Rattle.cp_search.specs.MadeLabels.{AreFound, IsFoundApart, IsSeenIn, MayBeSeenIn, AddsFound};
+ghost use Rattle.cp_search.specs.MadeLabels.{AreFound, IsFoundApart, IsSeenIn, MayBeSeen, AddsFound};
 
 use crate::copy_index::CopyIndex;
-use crate::graph::leading_to;
 use crate::isomorphism::are_isomorphic;
 use crate::made::Made;
+use crate::reachability::Reachability;
 use std::alloc::{AllocError, Global};
 use std::marker::Model;
 use std::mem;
@@ -19,6 +18,7 @@ use std::mem;
 pub(crate) struct MadeLabels {
     all: Vec<Made>,
     index: CopyIndex,
+    reachability: Reachability,
 }
 
 impl Model for MadeLabels {
@@ -35,18 +35,9 @@ impl Model for MadeLabels {
 
     ghost use Rattle.cp_search.specs.MadeLabels.{AreFound};
     ghost use Rattle.cp_search.specs.IndexedLabels.{Indexes};
+    ghost use Rattle.cp_search.specs.Reachability.{IsReachability};
 
-    ghost invariant = { λ l. Indexes l.index l.all.items × AreFound l.all.items };
-}
-
-/// Whether the number is flagged.
-fn is_flagged(flags: &[bool], number: usize) -> bool
-    ensures { IsTrue result ↔ IsFlagged flags.now number }
-{
-    match flags.get(number) {
-        Some(flag) => *flag,
-        None => false,
-    }
+    ghost invariant = { λ l. Indexes l.index l.all.items × AreFound l.all.items × IsReachability l.reachability l.all.items };
 }
 
 impl MadeLabels {
@@ -57,6 +48,7 @@ impl MadeLabels {
         MadeLabels {
             all: Vec::new(alloc),
             index: CopyIndex::new(alloc),
+            reachability: Reachability::new(alloc),
         }
     }
 
@@ -89,20 +81,16 @@ impl MadeLabels {
         &self.all[number]
     }
 
-    /// The first label that is isomorphic to the new one and not flagged. Only labels whose signatures have the same bucket key are
-    /// compared.
-    fn first_copy(
-        &self,
-        alloc: Global,
-        made: &Made,
-        forbidden: &[bool],
-    ) -> Result<Option<usize>, AllocError>
+    /// The first label that is isomorphic to the new one and from which its parent cannot be reached. Only labels whose signatures
+    /// have the same bucket key are compared.
+    fn first_copy(&self, alloc: Global, made: &Made) -> Result<Option<usize>, AllocError>
         requires signature { made.now.signature ≡ signature_of made.now.skeleton }
-        ensures { IfOk result (FindsLeast (MayBeSeenIn self.now forbidden.now made.now.skeleton)) }
+        requires parent { IfSome made.now.parent (λ p. p < length self.now) }
+        ensures { IfOk result (FindsLeast (MayBeSeen self.now made.now.parent made.now.skeleton)) }
     {
         let numbers = self.index.with_key(made.signature.bucket_key());
         for number in numbers {
-            if is_flagged(forbidden, *number) {
+            if self.reachability.leads(*number, made.parent) {
                 continue;
             }
             let other = self.label(*number);
@@ -116,10 +104,9 @@ impl MadeLabels {
         Ok(None)
     }
 
-    /// The label in which a new one is seen: none if it is dead, and otherwise the first that is isomorphic to it and from which its
-    /// parent cannot be reached. Reachability is computed only if some label is isomorphic that is the parent itself or may have
-    /// an outgoing edge: one above all parents that is seen in none has no edge.
-    fn seen_in(&self, alloc: Global, made: &Made) -> Result<Option<usize>, AllocError>
+    /// The label in which a new one is seen: none if it is dead, and otherwise the first that is isomorphic to it and from which
+    /// its parent cannot be reached.
+    pub(crate) fn seen_in(&self, alloc: Global, made: &Made) -> Result<Option<usize>, AllocError>
         requires signature { made.now.signature ≡ signature_of made.now.skeleton }
         requires parent { IfSome made.now.parent (λ p. p < length self.now) }
         ensures { IfOk result (IsSeenIn self.now made.now) }
@@ -127,38 +114,33 @@ impl MadeLabels {
         if made.dead {
             return Ok(None);
         }
-        let Some(copy) = self.first_copy(alloc, made, &[])? else {
-            return Ok(None);
-        };
-        let Some(parent) = made.parent else {
-            return Ok(Some(copy));
-        };
-        if copy != parent && copy > self.index.latest_parent && self.label(copy).seen_in.is_none() {
-            return Ok(Some(copy));
-        }
-        let leading = leading_to(alloc, self.len(), &self.index.edges, parent)?;
-        if !is_flagged(&leading, copy) {
-            return Ok(Some(copy));
-        }
-        self.first_copy(alloc, made, &leading)
+        self.first_copy(alloc, made)
     }
 
-    /// Appends a label, of which all is found but in which label it is seen: that is found now. After an error the labels are of no
-    /// use.
-    pub(crate) fn push(&mut self, alloc: Global, mut made: Made) -> Result<(), AllocError>
+    /// Appends a label, of which all is found. After an error the labels are of no use.
+    pub(crate) fn push(&mut self, alloc: Global, made: Made) -> Result<(), AllocError>
         requires apart { IsFoundApart made }
         requires parent { IfSome made.parent (λ p. p < length self.old) }
+        requires seen { IsSeenIn self.old made made.seen_in }
         ensures pushed { OnOk result (AddsFound made self.old self.new) }
     {
-        made.seen_in = self.seen_in(alloc, &made)?;
-        let MadeLabels { mut all, mut index } = mem::replace(self, MadeLabels::new(alloc));
+        let MadeLabels {
+            mut all,
+            mut index,
+            mut reachability,
+        } = mem::replace(self, MadeLabels::new(alloc));
         index.add(alloc, &all, &made)?;
+        reachability.add(alloc, &all, &made)?;
         all.push(made)?;
-        *self = MadeLabels { all, index };
+        *self = MadeLabels {
+            all,
+            index,
+            reachability,
+        };
         Ok(())
     }
 
-    /// The labels, in their order, without the index.
+    /// The labels, in their order, and nothing else.
     pub(crate) fn into_all(self) -> Vec<Made>
         ensures { result.items ≡ self }
     {

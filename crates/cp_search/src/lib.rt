@@ -6,15 +6,16 @@ mod candidates;
 mod children;
 mod copy_index;
 mod general_labels;
-mod graph;
 mod isomorphism;
 mod label_search;
 mod labels;
 mod made;
 mod new_labels;
+mod reachability;
 mod resolved;
 mod resolved_tree;
 mod roots;
 mod trees;
+mod waiting;
 
 pub use trees::search;

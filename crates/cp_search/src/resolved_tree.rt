@@ -15,6 +15,7 @@ use crate::candidates::candidate_marks;
 use crate::label_search::Search;
 use crate::made::Made;
 use crate::resolved::{Expanded, Resolved};
+use crate::waiting::Queue;
 use cp_skel::{Label, Labels, Mark, Numbers, Outcome, Tree};
 use cp_term::Patterns;
 use std::alloc::{AllocError, Global};
@@ -178,12 +179,13 @@ fn outcome_of(labels: &[Label]) -> Outcome
 
 /// The tree of a search that has resolved all labels.
 pub(crate) fn tree_of(alloc: Global, search: Search) -> Result<Tree, AllocError>
-    requires all { length search.settled.items ≡ length search.made }
-    requires tables { AreExpandedOf search.made search.settled.items }
-    ensures labels { IfOk result (λ t. (marks : List PlainMark) × AreCandidateMarks (open_from 0 search.made search.settled.items) marks × (t.labels ≡ labels_with search.made search.settled.items marks)) }
+    requires all { length search.settled.items ≡ length search.queue.made }
+    requires tables { AreExpandedOf search.queue.made search.settled.items }
+    ensures labels { IfOk result (λ t. (marks : List PlainMark) × AreCandidateMarks (open_from 0 search.queue.made search.settled.items) marks × (t.labels ≡ labels_with search.queue.made search.settled.items marks)) }
     ensures outcome { IfOk result (λ t. HasOutcome t.labels t.outcome) }
 {
-    let Search { made, settled, .. } = search;
+    let Search { queue, settled, .. } = search;
+    let Queue { made, .. } = queue;
     let marks = candidate_marks(alloc, made.all(), &settled)?;
     let all = labels(alloc, made.into_all(), settled, marks)?;
     let outcome = outcome_of(&all);

@@ -2,15 +2,17 @@
 ghost use Rattle.std.specs.Prelude.{[], map, IfOk, OnOk};
 ghost use Rattle.cp_tree.specs.Made.{made_of_root};
 ghost use Rattle.cp_search.specs.MadeLabels.{AddsMade, AddMade};
+ghost use Rattle.cp_search.specs.WaitingRecords.{AreKept, KeepsRecords};
 
-use crate::labels::MadeLabels;
 use crate::new_labels::{make, make_dead};
+use crate::waiting::Queue;
 use cp_roots::Root;
 use std::alloc::{AllocError, Global};
 
 /// Appends the label of a root.
-fn make_root(alloc: Global, made: &mut MadeLabels, root: Root) -> Result<(), AllocError>
-    ensures { OnOk result (AddsMade (made_of_root root) made.old made.new) }
+fn make_root(alloc: Global, queue: &mut Queue, root: Root) -> Result<(), AllocError>
+    ensures made { OnOk result (AddsMade (made_of_root root) queue.old.made queue.new.made) }
+    ensures kept { OnOk result (KeepsRecords queue.old queue.new) }
 {
     let Root {
         operation,
@@ -18,18 +20,19 @@ fn make_root(alloc: Global, made: &mut MadeLabels, root: Root) -> Result<(), All
         dead,
     } = root;
     if dead {
-        return make_dead(alloc, made, operation, skeleton);
+        return make_dead(alloc, queue, operation, skeleton);
     }
-    make(alloc, made, None, operation, skeleton, false)
+    make(alloc, queue, None, operation, skeleton, false)
 }
 
 /// Makes the labels of the roots, in their order.
-pub(crate) fn make_roots(alloc: Global, roots: Vec<Root>) -> Result<MadeLabels, AllocError>
-    ensures { IfOk result (λ ms. AddMade (map made_of_root roots.items) [] ms) }
+pub(crate) fn make_roots(alloc: Global, roots: Vec<Root>) -> Result<Queue, AllocError>
+    ensures made { IfOk result (λ q. AddMade (map made_of_root roots.items) [] q.made) }
+    ensures kept { IfOk result (AreKept 0) }
 {
-    let mut made = MadeLabels::new(alloc);
+    let mut queue = Queue::new(alloc);
     for root in roots {
-        make_root(alloc, &mut made, root)?;
+        make_root(alloc, &mut queue, root)?;
     }
-    Ok(made)
+    Ok(queue)
 }

@@ -11,5 +11,6 @@ pub mod Kinds
 pub mod InOrder
 pub mod Events
 pub mod LentEvents
+pub mod EventLists
 pub mod Tables
 pub mod Preceding

@@ -2,7 +2,9 @@
 ghost use Rattle.std.specs.Prelude.{◌≡◌, ◌++◌, length, IfOk, OnOk};
 ghost use Rattle.cp_model.specs.Skeleton.{skeleton_trace};
 ghost use Rattle.cp_skel.specs.Events.{is_role_strand, located_events_on, events_of};
+ghost use Rattle.cp_skel.specs.EventLists.{events_in};
 ghost use Rattle.cp_skel.specs.LentEvents.{lent_event};
+ghost use Rattle.cp_skel.specs.Tables.{DiffersInTable};
 
 use crate::skeleton::{Node, Skeleton};
 use cp_strand::{Event, Strand, StrandShape};
@@ -172,13 +174,42 @@ impl Skeleton {
         }
         Ok(occurrences)
     }
+
+    /// The events as [`Skeleton::events`] lists them, in a list that does not borrow from the skeleton.
+    pub fn own_events(&self, alloc: Global) -> Result<Vec<LocatedEvent<'static>>, AllocError>
+        ensures listed { IfOk result (λ os. os.items ≡ events_of self.now) }
+    {
+        let mut made = Vec::with_capacity(alloc, total_count(self.strands()))?;
+        let strands = self.strands();
+        for (number, strand) in strands.iter().enumerate() {
+            add_made(alloc, number, is_role_strand(strand), strand, &mut made)?;
+        }
+        Ok(made)
+    }
+}
+
+/// A list of events that is its holder's own, or that is lent to it.
+#[derive(Drop)]
+enum EventList<'a> {
+    Owned(Vec<LocatedEvent<'a>>),
+    Borrowed(&'a [LocatedEvent<'a>]),
+}
+
+/// The events in the list.
+fn events_in<'s, 'a>(list: &'s EventList<'a>) -> &'s [LocatedEvent<'a>]
+    ensures { result.now ≡ events_in list.now }
+{
+    match list {
+        EventList::Owned(events) => events,
+        EventList::Borrowed(events) => events,
+    }
 }
 
 /// A skeleton with its events, listed once.
 #[derive(Drop)]
 pub struct ListedSkeleton<'a> {
     skeleton: &'a Skeleton,
-    events: Vec<LocatedEvent<'a>>,
+    events: EventList<'a>,
 }
 
 impl<'a> Model for ListedSkeleton<'a> {
@@ -191,10 +222,11 @@ impl<'a> Model for ListedSkeleton<'a> {
 
     ghost use Rattle.std.specs.Prelude.{◌≡◌};
     ghost use Rattle.cp_skel.specs.Events.{events_of};
+    ghost use Rattle.cp_skel.specs.EventLists.{events_in};
 
     ghost view = { λ l. l.skeleton.now };
 
-    ghost invariant = { λ l. l.events.items ≡ events_of l.skeleton.now };
+    ghost invariant = { λ l. events_in l.events ≡ events_of l.skeleton.now };
 }
 
 impl<'a> ListedSkeleton<'a> {
@@ -203,7 +235,43 @@ impl<'a> ListedSkeleton<'a> {
         ensures { IfOk result (λ l. l ≡ skeleton.now) }
     {
         let events = skeleton.events(alloc)?;
-        Ok(ListedSkeleton { skeleton, events })
+        Ok(ListedSkeleton {
+            skeleton,
+            events: EventList::Owned(events),
+        })
+    }
+
+    /// The skeleton with its events, which are lent.
+    pub fn with_events(skeleton: &'a Skeleton, events: &'a [LocatedEvent<'a>]) -> ListedSkeleton<'a>
+        requires events { events.now ≡ events_of skeleton.now }
+        ensures { result ≡ skeleton.now }
+    {
+        ListedSkeleton {
+            skeleton,
+            events: EventList::Borrowed(events),
+        }
+    }
+
+    /// The same, with the events lent.
+    pub fn lent(&self) -> ListedSkeleton<'_>
+        ensures { result ≡ self.now }
+    {
+        ListedSkeleton::with_events(self.skeleton, self.events())
+    }
+
+    /// A skeleton that differs from this one in its table of variables alone, with the same events.
+    pub fn in_table(self, k: &'a Skeleton) -> ListedSkeleton<'a>
+        requires table { DiffersInTable self k.now }
+        ensures { result ≡ k.now }
+    {
+        let ListedSkeleton {
+            skeleton: _,
+            events,
+        } = self;
+        ListedSkeleton {
+            skeleton: k,
+            events,
+        }
     }
 
     /// The skeleton.
@@ -217,6 +285,6 @@ impl<'a> ListedSkeleton<'a> {
     pub fn events(&self) -> &[LocatedEvent<'a>]
         ensures { result.now ≡ events_of self.now }
     {
-        &self.events
+        events_in(&self.events)
     }
 }

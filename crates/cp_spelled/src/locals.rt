@@ -125,8 +125,7 @@ pub fn locals_in(alloc: Global, form: &Form) -> Result<Vec<LocalAt>, AllocError>
     ensures { IfOk result (λ v. v.items ≡ locals_in (view form.now)) }
 {
     let mut found = Vec::new(alloc);
-    add_locals(form, &mut found)?;
-    Ok(found)
+    add_locals(form, &mut found).map(|_| found)
 }
 
 /// Locals in order, no two with the same number. Each is found by its number.
@@ -143,9 +142,9 @@ impl Model for Locals {
 
     ghost Value = { List Plain };
 
-    ghost view = { λ l. l.locals.items };
-
     ghost invariant = { λ l. AreLocalsOf l.locals.items l.table };
+
+    ghost view = { λ l. l.locals.items };
 }
 
 impl Locals {

@@ -24,8 +24,7 @@ fn given_by(alloc: Global, strands: &[Strand]) -> Result<Assumptions, AllocError
     ensures { IfOk result (λ a. a ≡ with_given strands.now no_assumptions) }
 {
     let mut given = Assumptions::new(Vec::new(alloc), Vec::new(alloc), Vec::new(alloc));
-    add_given(alloc, strands, &mut given)?;
-    Ok(given)
+    add_given(alloc, strands, &mut given).map(|_| given)
 }
 
 /// Notes where the order, the assumptions and the map among the items of a label form do not fit. The form stands at

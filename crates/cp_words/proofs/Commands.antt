@@ -1,5 +1,5 @@
 -- The words of a command are read as the command that they are.
-use Rattle.std.proofs.Common.{◌≡◌, ◌∙◌, ◌&&◌, ℕ, List, [], ◌∷◌, ◌++◌, Bool, true, false, Option, Some, None, refl, sym, subst, ap, ap₂, codes, nat_le, if◌then◌else◌, option_and_then, option_map}
+use Rattle.std.proofs.Common.{◌≡◌, ◌∙◌, ◌&&◌, ℕ, ◌≤◌, List, [], ◌∷◌, ◌++◌, Bool, true, false, Option, Some, None, refl, sym, subst, ap, ap₂, codes, nat_le, if◌then◌else◌, option_and_then, option_map}
 use Rattle.std.proofs.lemmas.List.{append-nil}
 use Rattle.std.specs.Str.{bytes_eq}
 use Rattle.clap.specs.Words.{Text}
@@ -8,13 +8,14 @@ use Rattle.clap.specs.Walk.{nothing_held}
 use Rattle.cp_model.specs.declared.tree.Limits.{Limits}
 use Rattle.cp_words.specs.declared.command.Command.{Command}
 use Rattle.cp_words.specs.declared.accepted.Setting.{Setting}
-use Rattle.cp_words.specs.CommandWords.{parsed_number, first_setting, limits_of, limits_set, limits_behind_both, limits_behind, limits_by, name_text, command_named, command_with, command_of}
+use Rattle.cp_words.specs.CommandWords.{parsed_number, first_setting, limits_of, limits_set, limits_behind_both, limits_behind, limits_by, name_text, command_named, command_with, number_alone, command_of}
 use Rattle.cp_words.specs.Parsed.{IsParsedAs}
 use Rattle.cp_words.specs.declared.command.CommandName.{CommandName}
-use Rattle.cp_words.specs.declared.command.CommandName.TheVariants.{Analyse, Shapes}
+use Rattle.cp_words.specs.declared.command.CommandName.TheVariants.{Analyse, Shapes, Bench}
 use Rattle.cp_words.proofs.Options.{Named, limit_named, bound_named, rule_named}
 use Rattle.cp_words.proofs.Steps.{Reads, Adds, reads_both, rows_with}
 use Rattle.cp_words.proofs.Spelled.{IsSpelled, setting_by, name_is, spelled_first}
+use Rattle.cp_words.proofs.NumberWords.{numbered_parsed, few_over}
 use Rattle.cp_words.proofs.ParsedWords.{adds_front, parsed_by, none_alone, limit_alone, bound_alone, limit_first, bound_first, first_fits, bound_fits, limit_fits}
 
 limits_are : (a b : ℕ) (l : Limits) → limits_of a b ≡ Some l → (a ≡ l.steps) × (b ≡ l.strands)
@@ -24,7 +25,7 @@ limits_are a b l e = go (nat_le a 100000 && (nat_le 1 b && nat_le b 32)) e
     go false f = absurd (cc)
     go true f = let same : ◌≡◌ {A = Limits} (record { steps = a; strands = b }) l = cc in (ap (λ (x : Limits). x.steps) same, ap (λ (x : Limits). x.strands) same)
 
-module _ (c : CommandName) where
+module _ (c : CommandName) (named : command_named (name_text c) ≡ Some c) where
   -- Behind its name the parser reads these words as the command with these limits.
   abbrev IsParsed : Text → List Text → Limits → Type 0
   IsParsed program words l = IsParsedAs (program ∷ name_text c ∷ words) (record { name = c; limits = l })
@@ -38,7 +39,7 @@ module _ (c : CommandName) where
   parsed_none : (program : Text) (l : Limits) → limits_of 2000 8 ≡ Some l → IsParsed program [] l
   parsed_none program l set =
       let are = limits_are 2000 8 l set in
-      parsed_by c program [] [] l (codes "2000") (codes "8") reads_none none_alone (ap Some are.0) (ap Some are.1)
+      parsed_by c named program [] [] l (codes "2000") (codes "8") reads_none none_alone (ap Some are.0) (ap Some are.1)
 
   -- ---- one option
 
@@ -51,10 +52,10 @@ module _ (c : CommandName) where
       → IsParsed program words l
   one_by program words limit_named text k l r number set =
       let are = limits_are k 8 l set in
-      parsed_by c program words _ l text (codes "8") r (limit_alone text) (number ∙ ap Some are.0) (ap Some are.1)
+      parsed_by c named program words _ l text (codes "8") r (limit_alone text) (number ∙ ap Some are.0) (ap Some are.1)
   one_by program words bound_named text k l r number set =
       let are = limits_are 2000 k l set in
-      parsed_by c program words _ l (codes "2000") text r (bound_alone text) (ap Some are.0) (number ∙ ap Some are.1)
+      parsed_by c named program words _ l (codes "2000") text r (bound_alone text) (ap Some are.0) (number ∙ ap Some are.1)
 
   parsed_one : (program : Text) (words : List Text) (s : Setting) (l : Limits) → IsSpelled words s [] → limits_set s None ≡ Some l → IsParsed program words l
   parsed_one program words s l is set = one_by program words is.which is.text is.number l (reads_one words s is) is.reads (ap (λ x. limits_set x None) (sym is.same) ∙ set)
@@ -79,10 +80,10 @@ module _ (c : CommandName) where
   two_by program words bound_named bound_named n m k j l reads number other set = absurd (cc)
   two_by program words limit_named bound_named n m k j l reads number other set =
       let are = limits_are k j l set in
-      parsed_by c program words _ l n m (reads (bound_fits n m)) (limit_first n m) (number ∙ ap Some are.0) (other ∙ ap Some are.1)
+      parsed_by c named program words _ l n m (reads (bound_fits n m)) (limit_first n m) (number ∙ ap Some are.0) (other ∙ ap Some are.1)
   two_by program words bound_named limit_named n m k j l reads number other set =
       let are = limits_are j k l set in
-      parsed_by c program words _ l m n (reads (limit_fits m n)) (bound_first m n) (other ∙ ap Some are.0) (number ∙ ap Some are.1)
+      parsed_by c named program words _ l m n (reads (limit_fits m n)) (bound_first m n) (other ∙ ap Some are.0) (number ∙ ap Some are.1)
 
   parsed_two : (program : Text) (words rest : List Text) (s t : Setting) (l : Limits) → IsSpelled words s rest → IsSpelled rest t [] → limits_set s (Some t) ≡ Some l → IsParsed program words l
   parsed_two program words rest s t l is other set =
@@ -109,11 +110,11 @@ module _ (c : CommandName) where
 
 -- ---- the command
 
-with_limits : (program : Text) (options : List Text) (c : CommandName) (d : Command) (o : Option Limits) → limits_by options ≡ o → option_map (λ l. record { name = c; limits = l }) o ≡ Some d → IsParsedAs (program ∷ name_text c ∷ options) d
-with_limits program options c d None is e = absurd (cc)
-with_limits program options c d (Some l) is e =
+with_limits : (program : Text) (options : List Text) (c : CommandName) → command_named (name_text c) ≡ Some c → (d : Command) (o : Option Limits) → limits_by options ≡ o → option_map (λ l. record { name = c; limits = l }) o ≡ Some d → IsParsedAs (program ∷ name_text c ∷ options) d
+with_limits program options c named d None is e = absurd (cc)
+with_limits program options c named d (Some l) is e =
     let same : ◌≡◌ {A = Command} (record { name = c; limits = l }) d = cc in
-    subst (IsParsedAs (program ∷ name_text c ∷ options)) same (behind_name c program l options is)
+    subst (IsParsedAs (program ∷ name_text c ∷ options)) same (behind_name c named program l options is)
 
 named_is : (word : Text) (c : CommandName) → command_named word ≡ Some c → word ≡ name_text c
 named_is word c e = go (bytes_eq word (codes "analyse")) (bytes_eq word (codes "shapes")) refl refl e
@@ -127,8 +128,31 @@ named_is word c e = go (bytes_eq word (codes "analyse")) (bytes_eq word (codes "
 pub command_parsed : (words : List Text) (d : Command) → command_of words ≡ Some d → IsParsedAs words d
 command_parsed [] d e = absurd (cc)
 command_parsed (program ∷ []) d e = absurd (cc)
-command_parsed (program ∷ name ∷ options) d e = go (command_named name) refl e
+command_parsed (program ∷ name ∷ words) d e = go (command_named name) refl e
   where
-    go : (o : Option CommandName) → command_named name ≡ o → option_and_then (command_with options) o ≡ Some d → IsParsedAs (program ∷ name ∷ options) d
-    go None p f = absurd (cc)
-    go (Some c) p f = subst (λ w. IsParsedAs (program ∷ w ∷ options) d) (sym (named_is name c p)) (with_limits program options c d (limits_by options) refl f)
+    go : (o : Option CommandName) → command_named name ≡ o → command_with o name (limits_by words) (number_alone words) ≡ Some d → IsParsedAs (program ∷ name ∷ words) d
+    go None p f = numbered_parsed program name words d f
+    go (Some c) p f =
+        let is = named_is name c p in
+        subst (λ w. IsParsedAs (program ∷ w ∷ words) d) (sym is) (with_limits program words c (subst (λ w. command_named w ≡ Some c) is p) d (limits_by words) refl f)
+
+-- ---- how many problems
+
+-- a command with options has none
+has_no_number : (word : Text) (c : CommandName) → command_named word ≡ Some c → (n : ℕ) → c ≡ Bench n → ⊥
+has_no_number word c e n is =
+    let bad : None ≡ Some (Bench n) = subst (λ x. command_named (name_text x) ≡ Some x) is (subst (λ w. command_named w ≡ Some c) (named_is word c e) e) in cc
+
+name_of : (c : CommandName) (d : Command) (o : Option Limits) → option_map (λ l. record { name = c; limits = l }) o ≡ Some d → c ≡ d.name
+name_of c d None e = absurd (cc)
+name_of c d (Some l) e = let same : ◌≡◌ {A = Command} (record { name = c; limits = l }) d = cc in ap (λ (x : Command). x.name) same
+
+-- there are at most 500
+pub few_problems : (words : List Text) (d : Command) → command_of words ≡ Some d → (n : ℕ) → d.name ≡ Bench n → n ≤ 500
+few_problems [] d e n is = absurd (cc)
+few_problems (program ∷ []) d e n is = absurd (cc)
+few_problems (program ∷ name ∷ words) d e n is = go (command_named name) refl e
+  where
+    go : (o : Option CommandName) → command_named name ≡ o → command_with o name (limits_by words) (number_alone words) ≡ Some d → n ≤ 500
+    go None p f = few_over name (number_alone words) d f n is
+    go (Some c) p f = absurd (has_no_number name c p n (name_of c d (limits_by words) f ∙ is))

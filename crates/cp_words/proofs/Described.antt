@@ -1,10 +1,12 @@
 -- What the parser of command lines is told of the commands.
-use Rattle.std.proofs.Common.{◌≡◌, ◌∙◌, ap₂, codes}
-use Rattle.clap.specs.Words.{App, new_app, with_subcommand}
-use Rattle.cp_words.specs.Description.{described, described_as}
+use Rattle.std.proofs.Common.{◌≡◌, ◌∙◌, true, Result, Ok, Err, IfOk, ap, ap₂}
+use Rattle.clap.specs.Words.{AddsSubcommand, App, app_of, with_subcommand}
+use Rattle.clap.proofs.SimpleLemmas.{plain_fields}
+use Rattle.clap.specs.declared.builder.command.Command.{Command}
 
--- two commands are added, one behind the other
-pub both_added : (start one all analyse shapes : App) → start ≡ new_app (codes "cpsa") → analyse ≡ described_as (codes "analyse") → shapes ≡ described_as (codes "shapes")
-    → one ≡ with_subcommand start analyse.top → all ≡ with_subcommand one shapes.top → all ≡ described
-both_added start one all analyse shapes e f g h i =
-    i ∙ ap₂ (λ (a : App) (s : App). with_subcommand a s.top) (h ∙ ap₂ (λ (a : App) (s : App). with_subcommand a s.top) e f) g
+-- one command is added behind the others
+pub one_added : {E : Type 0} (program command : Command) (r : Result Command E) → IfOk r (AddsSubcommand program command) → (a b : App) → app_of program ≡ a → app_of command ≡ b → b.top.is_plain ≡ true
+    → IfOk r (λ c. app_of c ≡ with_subcommand a b.top)
+one_added program command (Ok all) added a b p q plain =
+    added.shape (plain_fields command (ap (λ (x : App). x.top.is_plain) q ∙ plain)).globals ∙ ap₂ (λ (x y : App). with_subcommand x y.top) p q
+one_added program command (Err e) added a b p q plain = tt

@@ -7,5 +7,6 @@ pub mod Options
 pub mod Steps
 pub mod Spelled
 pub mod ParsedWords
+pub mod NumberWords
 pub mod Commands
 pub mod Failures

@@ -1,17 +1,16 @@
 -- What the parser of command lines reads of the words of a command.
-use Rattle.std.proofs.Common.{◌≡◌, ◌∙◌, ◌&&◌, ◌⊎◌, inl, inr, ℕ, List, [], ◌∷◌, ◌++◌, Bool, true, false, Option, Some, refl, sym, subst, ap, ap₂, codes, option_and_then, option_map}
+use Rattle.std.proofs.Common.{◌≡◌, ◌∙◌, ◌&&◌, ◌⊎◌, inl, inr, ℕ, List, [], ◌∷◌, ◌++◌, Bool, true, false, Option, Some, None, refl, sym, subst, ap, ap₂, codes, option_and_then}
 use Rattle.std.specs.List.{fold, list_all}
-use Rattle.clap.specs.Words.{Row, Text, first_of}
+use Rattle.clap.specs.Words.{Row, Shape, Text, first_of}
 use Rattle.clap.specs.Takes.{default_passes, is_valid, level_passes, settle_passes, use_passes}
 use Rattle.clap.specs.Walk.{Walk, nothing_held, rows_after, with_default}
 use Rattle.clap.proofs.OnLiterals.{clap_on_literals}
 use Rattle.cp_model.specs.declared.tree.Limits.{Limits}
-use Rattle.cp_words.specs.declared.command.Command.{Command}
-use Rattle.cp_words.specs.CommandWords.{parsed_number, name_text, command_named}
-use Rattle.cp_words.specs.Parsed.{limits_in, limits_from, command_found, IsParsedAs}
+use Rattle.cp_words.specs.CommandWords.{parsed_number, name_text, command_named, command_with}
+use Rattle.cp_words.specs.Parsed.{limits_in, limits_from, option_number, command_found, IsParsedAs}
 use Rattle.cp_words.specs.declared.command.CommandName.{CommandName}
-use Rattle.cp_words.specs.declared.command.CommandName.TheVariants.{Analyse, Shapes}
-use Rattle.cp_words.proofs.WordsBeforeOptions.{options, rules, options_read, options_taken}
+use Rattle.cp_words.specs.declared.command.CommandName.TheVariants.{Analyse, Shapes, Gen, Bench}
+use Rattle.cp_words.proofs.WordsBeforeOptions.{options, shape, rules, read_behind, taken_behind}
 use Rattle.cp_words.proofs.Options.{Named, limit_named, bound_named, rule_named, name_word}
 use Rattle.cp_words.proofs.Steps.{Reads, Adds, rows_held, rows_with, adds_apart, adds_attached}
 use Rattle.cp_words.proofs.Spelled.{not_hyphen}
@@ -55,20 +54,22 @@ limits_of_texts p = limits_from (option_and_then parsed_number p.0) (option_and_
 abbrev pub HaveTexts : List Row → Text → Text → Type 0
 HaveTexts rows limit bound = (is_valid (options Analyse) (filled_rows rows) false ≡ true) × (◌≡◌ {A = Option Text × Option Text} (texts_of (filled_rows rows)) (Some limit, Some bound))
 
-abbrev command_by : Option CommandName → Option Limits → Option Command
-command_by name limits = option_and_then (λ c. option_map (λ l. record { name = c; limits = l }) limits) name
+-- of a command with options
+with_options : (c : CommandName) → command_named (name_text c) ≡ Some c → shape c ≡ options c
+with_options Analyse named = refl
+with_options Shapes named = refl
+with_options (Gen n) named = let bad : None ≡ Some (Gen n) = named in absurd (cc)
+with_options (Bench n) named = let bad : None ≡ Some (Bench n) = named in absurd (cc)
 
-named_back : (c : CommandName) → command_named (name_text c) ≡ Some c
-named_back Analyse = refl
-named_back Shapes = refl
-
-pub parsed_by : (c : CommandName) (program : Text) (words : List Text) (rows : List Row) (l : Limits) (limit bound : Text) → Reads c nothing_held words rows → HaveTexts rows limit bound
+pub parsed_by : (c : CommandName) → command_named (name_text c) ≡ Some c → (program : Text) (words : List Text) (rows : List Row) (l : Limits) (limit bound : Text) → Reads c nothing_held words rows → HaveTexts rows limit bound
     → parsed_number limit ≡ Some l.steps → parsed_number bound ≡ Some l.strands → IsParsedAs (program ∷ name_text c ∷ words) (record { name = c; limits = l })
-parsed_by c program words rows l limit bound r have steps strands =
+parsed_by c named program words rows l limit bound r have steps strands =
+    let is = with_options c named in
     let limits_are : limits_in (rows_after rules [] words) ≡ Some l = ap limits_in (rows_of_words c words rows r) ∙ ap limits_of_texts have.1 ∙ ap₂ limits_from steps strands in
     record {
-      taken = options_taken c program words (level_of c words rows r have.0);
-      found = ap command_found (options_read c program words) ∙ ap₂ command_by (named_back c) limits_are;
+      taken = taken_behind c program words (ap (λ (s : Shape). level_passes s [] nothing_held words false) is ∙ level_of c words rows r have.0);
+      found = ap command_found (read_behind c program words ∙ ap (λ (s : Shape). Some (name_text c, rows_after s.rules [] words)) is)
+          ∙ ap₂ (λ (o : Option CommandName) (ls : Option Limits). command_with o (name_text c) ls (option_number (codes "N") (rows_after rules [] words))) named limits_are;
     }
 
 pub none_alone : HaveTexts [] (codes "2000") (codes "8")

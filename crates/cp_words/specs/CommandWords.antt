@@ -8,7 +8,7 @@ use Rattle.cp_words.specs.declared.accepted.Setting.{Setting}
 use Rattle.cp_words.specs.declared.accepted.Setting.TheVariants.{Limit as limit, Bound as bound}
 use Rattle.cp_words.specs.declared.command.Command.{Command}
 use Rattle.cp_words.specs.declared.command.CommandName.{CommandName}
-use Rattle.cp_words.specs.declared.command.CommandName.TheVariants.{Analyse, Shapes}
+use Rattle.cp_words.specs.declared.command.CommandName.TheVariants.{Analyse, Shapes, Gen, Bench}
 
 -- ---- numbers
 
@@ -91,19 +91,39 @@ limits_by (word ∷ words) = option_and_then limits_behind (first_setting (word 
 abbrev pub name_text : CommandName → List ℕ
 name_text Analyse = codes "analyse"
 name_text Shapes = codes "shapes"
+name_text (Gen n) = codes "gen"
+name_text (Bench n) = codes "bench"
 
--- The command that a word stands for.
+-- The command that a word stands for, of those with options.
 abbrev pub command_named : List ℕ → Option CommandName
 command_named word =
     if bytes_eq word (codes "analyse") then Some Analyse else
     if bytes_eq word (codes "shapes") then Some Shapes else None
 
--- The command with these options behind its name.
-abbrev pub command_with : List (List ℕ) → CommandName → Option Command
-command_with options name = option_map (λ limits. record { name = name; limits = limits }) (limits_by options)
+-- The command that a word stands for, of those with a number of problems.
+abbrev pub command_over : List ℕ → ℕ → Option CommandName
+command_over word n =
+    if bytes_eq word (codes "gen") then Some (Gen n) else
+    if bytes_eq word (codes "bench") then Some (Bench n) else None
 
--- The words are a name for the program, the name of a command, and its options, each at most once and in any order; any others
--- are no command.
+-- There are 1 to 500 problems. The limits are those of a command without options.
+abbrev pub numbered_command : List ℕ → ℕ → Option Command
+numbered_command word n =
+    if nat_le 1 n && nat_le n 500
+    then option_map (λ name. record { name = name; limits = record { steps = 2000; strands = 8 } }) (command_over word n) else None
+
+-- The command that a word stands for, with these limits if it has options, or with this number.
+abbrev pub command_with : Option CommandName → List ℕ → Option Limits → Option ℕ → Option Command
+command_with (Some name) word limits number = option_map (λ l. record { name = name; limits = l }) limits
+command_with None word limits number = option_and_then (numbered_command word) number
+
+-- A number is all that stands behind the name.
+abbrev pub number_alone : List (List ℕ) → Option ℕ
+number_alone (word ∷ []) = parsed_number word
+number_alone _ = None
+
+-- The words are a name for the program, the name of a command, and its options, each at most once and in any order, or its
+-- number; any others are no command.
 abbrev pub command_of : List (List ℕ) → Option Command
-command_of (program ∷ name ∷ options) = option_and_then (command_with options) (command_named name)
+command_of (program ∷ name ∷ words) = command_with (command_named name) name (limits_by words) (number_alone words)
 command_of _ = None

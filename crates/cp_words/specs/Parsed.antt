@@ -1,13 +1,12 @@
 -- What the parser of command lines reads of a command's words.
-use Rattle.std.specs.Prelude.{◌≡◌, ℕ, true, List, Option, Some, None, codes, option_and_then, option_map}
+use Rattle.std.specs.Prelude.{◌≡◌, ℕ, true, List, Option, Some, None, codes, option_and_then}
 use Rattle.clap.specs.Words.{Row, Text, first_of, subcommand_of, takes}
 use Rattle.clap.specs.declared.error.kind.ErrorKind.{ErrorKind}
 use Rattle.clap.specs.declared.error.kind.ErrorKind.TheVariants.{OutOfMemory}
 use Rattle.cp_model.specs.declared.tree.Limits.{Limits}
 use Rattle.cp_words.specs.declared.command.Command.{Command}
-use Rattle.cp_words.specs.CommandWords.{parsed_number, command_named}
+use Rattle.cp_words.specs.CommandWords.{parsed_number, command_named, command_with}
 use Rattle.cp_words.specs.Description.{described}
-use Rattle.cp_words.specs.declared.command.CommandName.{CommandName}
 use Rattle.cp_words.specs.declared.error.WordsError.{WordsError}
 use Rattle.cp_words.specs.declared.error.WordsError.TheVariants.{Usage, Memory}
 
@@ -16,7 +15,7 @@ abbrev pub words_error_of : ErrorKind → WordsError
 words_error_of OutOfMemory = Memory
 words_error_of _ = Usage
 
--- the number that stands for an option
+-- the number that stands for an option, or alone
 abbrev pub option_number : Text → List Row → Option ℕ
 option_number name rows = option_and_then parsed_number (first_of name rows)
 
@@ -27,13 +26,9 @@ limits_from _ _ = None
 abbrev pub limits_in : List Row → Option Limits
 limits_in rows = limits_from (option_number (codes "limit") rows) (option_number (codes "bound") rows)
 
--- the command of this name, with the limits that stand behind it
-abbrev pub command_in : List Row → CommandName → Option Command
-command_in rows name = option_map (λ limits. record { name = name; limits = limits }) (limits_in rows)
-
 -- the command that the parser found
 abbrev pub command_found : Option (Text × List Row) → Option Command
-command_found = option_and_then (λ p. option_and_then (command_in p.1) (command_named p.0))
+command_found = option_and_then (λ p. command_with (command_named p.0) p.0 (limits_in p.1) (option_number (codes "N") p.1))
 
 -- The parser takes the words, and finds this command in them.
 pub record IsParsedAs (words : List Text) (command : Command) : Type 0 where

@@ -1,6 +1,6 @@
 // The words that are a command.
 ghost use Rattle.std.specs.Prelude.{◌≡◌, is_some, map, option_map, string_bytes};
-ghost use Rattle.cp_words.specs.CommandWords.{parsed_number, setting_of, name_and_value, first_setting, limits_of, limits_set, limits_behind, limits_by, command_named, command_of};
+ghost use Rattle.cp_words.specs.CommandWords.{parsed_number, setting_of, name_and_value, first_setting, limits_of, limits_set, limits_behind, limits_by, command_named, command_over, numbered_command, command_with, number_alone, command_of};
 
 use crate::{Command, CommandName};
 use cp_skel::Limits;
@@ -12,6 +12,9 @@ const GREATEST_LIMIT: u32 = 100_000;
 
 /// The bound on the number of strands if the words give none.
 const DEFAULT_BOUND: u32 = 8;
+
+/// The greatest number of problems that the words may give.
+const GREATEST_NUMBER: u32 = 500;
 
 /// An option, with its value.
 #[derive(Clone, Copy)]
@@ -104,8 +107,8 @@ fn limits_by(options: &[String]) -> Option<Limits>
     limits_behind(first, rest)
 }
 
-/// The command that a word stands for.
-pub(crate) fn command_named(word: &str) -> Option<CommandName>
+/// The command that a word stands for, of those with options.
+fn command_named(word: &str) -> Option<CommandName>
     ensures { result ≡ command_named word.now }
 {
     match word {
@@ -115,17 +118,65 @@ pub(crate) fn command_named(word: &str) -> Option<CommandName>
     }
 }
 
-/// The command that the words are: a name for the program, the name of the command, and its options, each at most once:
-/// `--limit` with a number of at most 100,000, and `--bound` with a number from 1 to 32. `None` for any other words.
+/// The command that a word stands for, of those with a number of problems.
+fn command_over(word: &str, number: u32) -> Option<CommandName>
+    ensures { result ≡ command_over word.now number }
+{
+    match word {
+        "gen" => Some(CommandName::Gen(number)),
+        "bench" => Some(CommandName::Bench(number)),
+        _ => None,
+    }
+}
+
+/// The command that a word and a number of problems stand for.
+fn numbered_command(word: &str, number: u32) -> Option<Command>
+    ensures { result ≡ numbered_command word.now number }
+{
+    if !(1..=GREATEST_NUMBER).contains(&number) {
+        return None;
+    }
+    let limits = Limits {
+        steps: DEFAULT_LIMIT,
+        strands: DEFAULT_BOUND,
+    };
+    command_over(word, number).map(|name| Command { name, limits })
+}
+
+/// The command that a word stands for, with these limits if it has options, or with this number.
+pub(crate) fn command_with(
+    word: &str,
+    limits: Option<Limits>,
+    number: Option<u32>,
+) -> Option<Command>
+    ensures { result ≡ command_with (command_named word.now) word.now limits number }
+{
+    match command_named(word) {
+        Some(name) => limits.map(|limits| Command { name, limits }),
+        None => numbered_command(word, number?),
+    }
+}
+
+/// The number that stands alone.
+fn number_alone(words: &[String]) -> Option<u32>
+    ensures { result ≡ number_alone (map string_bytes words.now) }
+{
+    match words {
+        [word] => number(word.as_str()),
+        _ => None,
+    }
+}
+
+/// The command that the words are: a name for the program, the name of the command, and its options, each at most once,
+/// `--limit` with a number of at most 100,000 and `--bound` with a number from 1 to 32, or its number, from 1 to 500. `None` for
+/// any other words.
 fn command_of(words: &[String]) -> Option<Command>
     ensures { result ≡ command_of (map string_bytes words.now) }
 {
-    let [_, name, options @ ..] = words else {
+    let [_, name, rest @ ..] = words else {
         return None;
     };
-    let name = command_named(name.as_str())?;
-    let limits = limits_by(options)?;
-    Some(Command { name, limits })
+    command_with(name.as_str(), limits_by(rest), number_alone(rest))
 }
 
 /// Whether the words are a command.

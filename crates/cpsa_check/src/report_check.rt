@@ -16,7 +16,7 @@ fn limits_in(alloc: Global, words: &[String]) -> Result<Limits, Stopped> {
     let command = read_command(alloc, words)?;
     match command.name {
         CommandName::Analyse => Ok(command.limits),
-        CommandName::Shapes => Err(Stopped::Usage),
+        CommandName::Shapes | CommandName::Gen(_) | CommandName::Bench(_) => Err(Stopped::Usage),
     }
 }
 

@@ -19,11 +19,8 @@ fn terms_of<'a>(
 ) -> Result<Vec<&'a Term>, AllocError> {
     let messages = events.iter().map(|located| message_of(located.event()));
     let patterns = label.escape.as_slice().iter().map(|pattern| pattern.term());
-    let mut terms: Vec<&'a Term> = messages.chain(patterns).collect(alloc)?;
-    if let Some(test) = &label.test {
-        terms.push(&test.critical)?;
-    }
-    Ok(terms)
+    let tested = label.test.as_ref().map(|test| &test.critical);
+    messages.chain(patterns).chain(tested).collect(alloc)
 }
 
 /// Whether variables of the first terms have values under which these terms are the others, place by place.

@@ -2,16 +2,16 @@ use Rattle.cp_app.proofs.AnsweredReports.{answered_reported, answered_read_back,
 use Rattle.cp_app.proofs.laws.answers_are_reports.Goals as goal
 
 pub returns-clause-reported : goal.returns-clause-reported
-returns-clause-reported c = answered_reported
+returns-clause-reported c = λ command input before left_new held_new s reading. answered_reported command input before left_new held_new reading s
 
 pub returns-clause-searched : goal.returns-clause-searched
-returns-clause-searched c = λ command input before left_new held_new s answered. (answered_read_back command input before left_new held_new s answered).searched
+returns-clause-searched c = λ command input before left_new held_new s reading answered. (answered_read_back command input before left_new held_new reading s answered).searched
 
 pub returns-clause-read_back : goal.returns-clause-read_back
-returns-clause-read_back c = answered_read_back
+returns-clause-read_back c = λ command input before left_new held_new s reading. answered_read_back command input before left_new held_new reading s
 
 pub returns-clause-denoted : goal.returns-clause-denoted
-returns-clause-denoted c = answered_truth
+returns-clause-denoted c = λ command input before left_new held_new s reading. answered_truth command input before left_new held_new reading s
 
 pub returns-clause-broken_off : goal.returns-clause-broken_off
 returns-clause-broken_off c = broken_off_reported

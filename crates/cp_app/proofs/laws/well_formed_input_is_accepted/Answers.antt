@@ -1,8 +1,8 @@
-use Rattle.cp_app.proofs.CommandCases.{all_read, accepts_exactly, refuses_exactly}
+use Rattle.cp_app.proofs.CommandCases.{reads_exactly, accepts_exactly, refuses_exactly}
 use Rattle.cp_app.proofs.laws.well_formed_input_is_accepted.Goals as goal
 
 pub returns-clause-reads : goal.returns-clause-reads
-returns-clause-reads c = λ command. all_read command.name
+returns-clause-reads c = λ command. reads_exactly command.name
 
 pub returns-clause-accepts : goal.returns-clause-accepts
 returns-clause-accepts c = λ command fs. accepts_exactly command.name fs

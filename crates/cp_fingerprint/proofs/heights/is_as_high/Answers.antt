@@ -1,5 +1,6 @@
+use Rattle.std.proofs.Common.{arith}
 use Rattle.cp_fingerprint.proofs.NoMore.{found_high}
 use Rattle.cp_fingerprint.proofs.heights.is_as_high.Goals as goal
 
-pub returns-then-other-height : goal.returns-then-other-height
-returns-then-other-height c = found_high c.args.name.now c.args.other.now.name c.args.height c.args.other.now.height c.same.result c.if-other-height.true c.same.ensures
+pub returns-then-other-one : goal.returns-then-other-one
+returns-then-other-one c = let high = c.if-other-one.true in found_high c.args.one.now.name c.args.one.now.height c.args.other.now c.same.result (omega (arith, high)) c.same.ensures

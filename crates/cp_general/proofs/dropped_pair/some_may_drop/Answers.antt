@@ -1,12 +1,17 @@
-use Rattle.std.proofs.Common.{◌↔◌, ◌∙◌, sym, ap, subst, List}
-use Rattle.cp_lists.specs.Lists.{IsIn}
-use Rattle.cp_model.specs.declared.node.OrderPair.{OrderPair}
+use Rattle.std.proofs.Common.{rules, ◌↔◌, ◌∙◌, ap}
+use Rattle.std.specs.Prelude.{IsTrue}
+use Rattle.cp_lists.proofs.Collected.{if_mapped}
 use Rattle.cp_model.specs.Skeleton.{FromProblem}
-use Rattle.cp_normal.specs.Findings.{IsAddedPair}
+use Rattle.cp_collapse.specs.Property.{Has}
+use Rattle.cp_general.specs.ListedPairs.{IsInNeither}
 use Rattle.cp_general.proofs.FreePairs.{free_pair_if}
 use Rattle.cp_general.proofs.dropped_pair.some_may_drop.Goals as goal
 
 pub returns : goal.returns
 returns c =
-    free_pair_if c.args.k.now c.pairs.result.now c.deref.result.now c.pairs-2.result.now c.some_is_in_neither-some.result (c.pairs.ensures ∙ ap (λ (f : FromProblem). f.pairs) c.from_problem.ensures)
-    (subst (λ (ps : List OrderPair). (q : OrderPair) → IsIn q ps ↔ IsAddedPair c.args.k.now q) (sym c.deref.ensures.value) c.in_ok-added.ensures) (c.pairs-2.ensures ∙ c.order.ensures) c.some_is_in_neither-some.ensures
+    let own = c.pairs-own.result.now in
+    let pairs = c.pairs-pairs.result.now in
+    if_mapped c.added_pairs.result c.map.result (λ added some are k.
+    let told : IsTrue some ↔ Has (IsInNeither own added.items) pairs = search rules in
+    free_pair_if c.args.k.now own added.items pairs some (c.pairs-own.ensures ∙ ap (λ (f : FromProblem). f.pairs) c.from_problem.ensures) are (c.pairs-pairs.ensures ∙ c.order.ensures) told) c.added_pairs.ensures
+    c.map.ensures.cases

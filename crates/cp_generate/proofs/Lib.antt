@@ -1,0 +1,6 @@
+pub mod PlainPieces
+pub mod Spelled
+pub mod TextRead
+pub mod WellFormed
+pub mod Lengths
+pub mod StillToPut
