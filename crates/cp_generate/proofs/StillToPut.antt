@@ -13,7 +13,7 @@ all_left n = let all : n ≡ n - 0 = omega arith in ap (problem_texts_from 0) al
 pub next_left : (n i : ℕ) → i < n → left n i ≡ problem_text i ∷ left n (i + 1)
 next_left n i more_left = let fewer : n - i ≡ suc (n - (i + 1)) = omega (arith, more_left) in ap (problem_texts_from i) fewer
 
-pub none_left : (n i : ℕ) → n ≤ i → left n i ≡ []
+none_left : (n i : ℕ) → n ≤ i → left n i ≡ []
 none_left n i past = let no_more : n - i ≡ 0 = omega (arith, past) in ap (problem_texts_from i) no_more
 
 -- When these parts are appended, the text and the ends will be these.
@@ -35,8 +35,7 @@ module _ (text ends whole whole_ends : List ℕ) where
         of_ends = ap₂ (λ es n. es ++ part_ends n parts) (g ∙ ap (λ n. ends ++ n ∷ []) at) at ∙ append_assoc ends (end ∷ []) (part_ends end parts) ∙ before.of_ends;
       }
 
-  pub text_whole : Lack [] text ends whole whole_ends → text ≡ whole
-  text_whole before = sym (append-nil text) ∙ before.of_text
-
-  pub ends_whole : Lack [] text ends whole whole_ends → ends ≡ whole_ends
-  ends_whole before = sym (append-nil ends) ∙ before.of_ends
+  pub all_put : (n i : ℕ) → n ≤ i → Lack (left n i) text ends whole whole_ends → (text ≡ whole) × (ends ≡ whole_ends)
+  all_put n i past before =
+      let none = lack_as (left n i) [] (none_left n i past) before in
+      (sym (append-nil text) ∙ none.of_text, sym (append-nil ends) ∙ none.of_ends)

@@ -9,13 +9,24 @@ use Rattle.std.proofs.lemmas.List.{take_more, take_all}
 use Rattle.cp_lists.specs.Lists.{IsIn, there}
 use Rattle.cp_lists.proofs.Members.{not_in_none, in_cases, at_head, in_append_left, in_last, in_pushed}
 use Rattle.cp_search.specs.declared.reachability.Reachability.{Reachability}
-use Rattle.cp_search.specs.Reachability.{row_at, given_row, AddsToRows, Joins}
+use Rattle.cp_search.specs.Reachability.{row_at, given_row, IsDistinct, AreDistinct, AddsToRows, Joins}
 
 -- ---- lists
 
 pub pushed_in : (ns : List ℕ) (n m : ℕ) → IsIn m ns ⊎ (n ≡ m) → IsIn m (ns ++ n ∷ [])
 pushed_in ns n m (inl h) = in_append_left (n ∷ []) h
 pushed_in ns n m (inr same) = subst (λ (k : ℕ). IsIn k (ns ++ n ∷ [])) same (in_last ns n)
+
+in_front_or_last : (k n : ℕ) (ns : List ℕ) → (IsIn k ns → ⊥) → (n ≡ k → ⊥) → IsIn k (ns ++ n ∷ []) → ⊥
+in_front_or_last k n ns front last h = by (in_pushed ns n k h)
+  where
+    by : IsIn k ns ⊎ (n ≡ k) → ⊥
+    by (inl i) = front i
+    by (inr e) = last e
+
+distinct_pushed : (ns : List ℕ) (n : ℕ) → IsDistinct ns → (IsIn n ns → ⊥) → IsDistinct (ns ++ n ∷ [])
+distinct_pushed [] n d apart = (not_in_none, tt)
+distinct_pushed (k ∷ ns) n d apart = (in_front_or_last k n ns d.0 (λ e. apart (at_head e)), distinct_pushed ns n d.1 (λ h. apart (there h)))
 
 -- Of the first numbers up to this one each is this, or among those before.
 pub next_taken : (ns : List ℕ) (i m : ℕ) → i < length ns → IsIn m (take (i + 1) ns) ↔ (IsIn m (take i ns) ⊎ (get_or ns i 0 ≡ m))
@@ -81,7 +92,7 @@ module _ {A : Type 0} where
   given_in rows o n m e h = subst (λ (p : Option ℕ). IsIn m (given_row rows p)) (sym e) h
 
   -- A number is put behind a row.
-  module _ (rows : List (Vec ℕ A)) (i number : ℕ) (old new : Vec ℕ A) (l : i < length rows) (is : old ≡ get_or rows i old) (pushed : new.items ≡ old.items ++ number ∷ []) where
+  module _ (rows : List (Vec ℕ A)) (i number : ℕ) (old new : Vec ℕ A) (l : i < length rows) (apart : IsIn number (row_at rows i) → ⊥) (is : old ≡ get_or rows i old) (pushed : new.items ≡ old.items ++ number ∷ []) where
     here_put : (n : ℕ) → i ≡ n → row_at (set rows i new) n ≡ row_at rows n ++ number ∷ []
     here_put n same =
         let at : row_at (set rows i new) i ≡ row_at rows i ++ number ∷ [] = row_here rows i new l ∙ (pushed ∙ ap (λ (ns : List ℕ). ns ++ number ∷ []) (read_row rows i old l is)) in
@@ -99,10 +110,15 @@ module _ {A : Type 0} where
     in_put n m (inl h) = still_in n m (cases_eq i n) h
     in_put n m (inr e) = subst (IsIn m) (sym (here_put n e.0)) (pushed_in (row_at rows n) number m (inr e.1))
 
+    put_distinct : AreDistinct rows → (n : ℕ) → (i ≡ n) ⊎ (i ≡ n → ⊥) → IsDistinct (row_at (set rows i new) n)
+    put_distinct d n (inl same) = subst IsDistinct (sym (here_put n same)) (distinct_pushed (row_at rows n) number (d n) (subst (λ (k : ℕ). IsIn number (row_at rows k) → ⊥) same apart))
+    put_distinct d n (inr other) = subst IsDistinct (sym (row_elsewhere rows i new n other)) (d n)
+
     pub puts_one : AddsToRows (λ n m. (i ≡ n) × (number ≡ m)) rows (set rows i new)
     puts_one = record {
       count = length-set rows i new;
       listed = λ n m. (put_in n m (cases_eq i n), in_put n m);
+      distinct = λ d n. put_distinct d n (cases_eq i n);
     }
 
   -- The same is added.
@@ -110,11 +126,12 @@ module _ {A : Type 0} where
   adds_alike P Q old new same a = record {
     count = a.count;
     listed = λ n m. (λ h. ⊎_map (λ g. g) (same n m).0 ((a.listed n m).0 h), λ h. (a.listed n m).1 (⊎_map (λ g. g) (same n m).1 h));
+    distinct = a.distinct;
   }
 
   -- One is added after the other.
   adds_then : (P Q : ℕ → ℕ → Type 0) (old mid new : List (Vec ℕ A)) → AddsToRows P old mid → AddsToRows Q mid new → AddsToRows (λ n m. P n m ⊎ Q n m) old new
-  adds_then P Q old mid new a b = record { count = b.count ∙ a.count; listed = λ n m. (λ h. after n m ((b.listed n m).0 h), λ h. (b.listed n m).1 (before n m h)) }
+  adds_then P Q old mid new a b = record { count = b.count ∙ a.count; listed = λ n m. (λ h. after n m ((b.listed n m).0 h), λ h. (b.listed n m).1 (before n m h)); distinct = λ d. b.distinct (a.distinct d) }
     where
       after : (n m : ℕ) → IsIn m (row_at mid n) ⊎ Q n m → IsIn m (row_at old n) ⊎ (P n m ⊎ Q n m)
       after n m (inl h) = ⊎_map (λ g. g) inl ((a.listed n m).0 h)

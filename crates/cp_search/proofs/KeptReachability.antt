@@ -8,7 +8,7 @@ use Rattle.cp_lists.proofs.Members.{in_pushed}
 use Rattle.cp_search.specs.declared.made.Made.{Made}
 use Rattle.cp_search.specs.declared.reachability.Reachability.{Reachability}
 use Rattle.cp_search.specs.MadeLabels.{AreFound}
-use Rattle.cp_search.specs.Reachability.{row_at, given_row, AreBelow, Joins, AreTransposed, ReachesLabel, IsReachability}
+use Rattle.cp_search.specs.Reachability.{row_at, given_row, IsDistinct, AreBelow, Joins, AreTransposed, ReachesLabel, IsReachability}
 use Rattle.cp_search.proofs.ReachedLabels.{one_longer, seen_below, LeadsToNew, FollowsNew, one_more_reached}
 use Rattle.cp_search.proofs.JoinedRows.{with_empty_row, in_given, given_in, pushed_in}
 
@@ -92,6 +92,8 @@ module _ (ms : List Made) (m : Made) (found : AreFound (ms ++ m ∷ [])) (old : 
         columns = joined.reached_from.count ∙ (column_count ∙ sym (one_longer ms m found));
         reaches = λ n k. stands_now (joined.reaches.listed n k) (row_is n k) (now_reached n k);
         reached_from = λ n k. stands_now (joined.reached_from.listed k n) (column_is n k) (now_reached n k);
+        rows_distinct = joined.reaches.distinct (λ n. subst IsDistinct (sym (row_same n)) (is.rows_distinct n));
+        columns_distinct = joined.reached_from.distinct (λ n. subst IsDistinct (sym (column_same n)) (is.columns_distinct n));
       }
 
       pub to_join : IsToJoin ms m mid sources targets

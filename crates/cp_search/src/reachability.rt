@@ -2,7 +2,7 @@
 ghost use Rattle.std.specs.Prelude.{◌≡◌, ◌↔◌, ◌<◌, ◌++◌, ◌∷◌, [], ℕ, List, length, Some, IsTrue, IfSome, IfOk, OnOk};
 ghost use Rattle.cp_lists.specs.Lists.{IsIn};
 ghost use Rattle.cp_search.specs.MadeLabels.{AreFound};
-ghost use Rattle.cp_search.specs.Reachability.{given_row, AreBelow, AreTransposed, AddsToRows, Joins, ReachesLabel, IsReachability};
+ghost use Rattle.cp_search.specs.Reachability.{row_at, given_row, AreBelow, AreTransposed, AddsToRows, Joins, ReachesLabel, IsReachability};
 ghost use Rattle.cp_search.specs.declared.made.Made as program;
 
 use crate::made::Made;
@@ -55,7 +55,8 @@ fn row_with(
 
 /// Puts a number behind a row.
 fn put(rows: &mut Vec<Vec<usize>>, row: usize, number: usize) -> Result<(), AllocError>
-    requires { row < length rows.old.items }
+    requires within { row < length rows.old.items }
+    requires apart { IsIn number (row_at rows.old.items row) → ⊥ }
     ensures { OnOk result (AddsToRows (λ n m. (row ≡ n) × (number ≡ m)) rows.old.items rows.new.items) }
 {
     let row = &mut rows[row];

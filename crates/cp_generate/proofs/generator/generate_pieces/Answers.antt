@@ -1,6 +1,6 @@
-use Rattle.std.proofs.Common.{◌+◌, [], ◌++◌, length, refl, ap, ◌∙◌}
+use Rattle.std.proofs.Common.{◌+◌, ◌++◌, length, refl, ap, ◌∙◌}
 use Rattle.cp_generate.specs.Generated.{protocol_text, problem_text, problem_texts_from, generated_parts, generated_text, part_ends}
-use Rattle.cp_generate.proofs.StillToPut.{left, all_left, next_left, none_left, lack_as, one_put, text_whole, ends_whole}
+use Rattle.cp_generate.proofs.StillToPut.{left, all_left, next_left, lack_as, one_put, all_put}
 use Rattle.cp_generate.proofs.generator.generate_pieces.Goals as goal
 
 pub loop-number-init : goal.loop-number-init
@@ -24,13 +24,7 @@ loop-number-preserved c =
     (c.in_ok-put-2.ensures.text ∙ ap (λ t. text ++ t) c.problem.ensures) c.in_ok-put-2.ensures.ends
 
 pub returns-clause-text : goal.returns-clause-text
-returns-clause-text c =
-    let n = c.args.n in
-    let i = c.loop-number.number in
-    text_whole c.loop-number.text.items c.loop-number.ends.items _ _ (lack_as _ _ _ _ (left n i) [] (none_left n i c.loop-number-test.false) c.loop-number.invariant)
+returns-clause-text c = (all_put c.loop-number.text.items c.loop-number.ends.items _ _ c.args.n c.loop-number.number c.loop-number-test.false c.loop-number.invariant).0
 
 pub returns-clause-ends : goal.returns-clause-ends
-returns-clause-ends c =
-    let n = c.args.n in
-    let i = c.loop-number.number in
-    ends_whole c.loop-number.text.items c.loop-number.ends.items _ _ (lack_as _ _ _ _ (left n i) [] (none_left n i c.loop-number-test.false) c.loop-number.invariant)
+returns-clause-ends c = (all_put c.loop-number.text.items c.loop-number.ends.items _ _ c.args.n c.loop-number.number c.loop-number-test.false c.loop-number.invariant).1

@@ -6,4 +6,4 @@ pub returns : goal.returns
 returns c =
     let row = c.index_mut-row.result.now in
     if_pushed row.items c.push.result c.map_err.result c.push.ensures.items c.map_err.ensures.variant
-    (λ pushed. puts_one c.args.rows.now.items c.args.row c.args.number row c.push.new.self c.requires c.index_mut-row.ensures.value pushed)
+    (λ pushed. puts_one c.args.rows.now.items c.args.row c.args.number row c.push.new.self c.requires.within c.requires.apart c.index_mut-row.ensures.value pushed)
