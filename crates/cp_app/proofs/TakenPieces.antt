@@ -1,11 +1,11 @@
 -- A source is read piece by piece.
-use Rattle.std.proofs.Common.{◌≡◌, ◌≢◌, ℕ, ◌+◌, ◌<◌, ◌≤◌, List, [], ◌++◌, length, take, drop, Option, Some, Result, Ok, Err, refl, sym, ap, ◌∙◌, append_assoc, length-append, arith}
+use Rattle.std.proofs.Common.{◌≡◌, ◌≢◌, ℕ, ◌+◌, ◌<◌, ◌≤◌, Bool, false, List, [], ◌++◌, length, take, drop, Option, Some, Result, Ok, Err, refl, sym, ap, ◌∙◌, append_assoc, length-append, arith}
 use Rattle.std.proofs.lemmas.List.{take-append-drop, take-append-le, append-nil}
 use Rattle.std.specs.Result.{IsErrAnd, IfErr}
 use Rattle.std.proofs.lemmas.List.Prefix.{front_rest}
 use Rattle.cp_lists.proofs.Fronts.{take-front}
 use Rattle.cp_base.specs.declared.status.Failed.{Failed}
-use Rattle.cp_base.specs.Outside.{Moved, Takes}
+use Rattle.cp_base.specs.Outside.{Moved, StaysOpen, Takes}
 use Rattle.cp_app.specs.Headline.{most_bytes}
 use Rattle.cp_app.specs.Endings.{TookAtMost, WasTooLong}
 use Rattle.cp_app.specs.Steps.{HasStoppedReading}
@@ -88,3 +88,16 @@ HasStopped-memory (Err cause) input left_new memory took = rw memory took
 
 pub not_empty : (xs : List ℕ) → 0 < length xs → xs ≢ []
 not_empty xs some none = let e = ap length none in absurd (omega arith)
+
+-- a source that had not said that it is at its end has not said so since, and each call was needed
+abbrev pub OpenSoFar : Bool → Bool → ℕ → ℕ → Type 0
+OpenSoFar ended_old ended_new needless_old needless_new = ended_old ≡ false → (ended_new ≡ false) × (needless_new ≡ needless_old)
+
+pub needed_so_far : {ended_old ended_now : Bool} {old now new : ℕ} → OpenSoFar ended_old ended_now old now → (ended_now ≡ false → new ≡ now) → ended_old ≡ false → new ≡ old
+needed_so_far so_far needed is = needed (so_far is).0 ∙ (so_far is).1
+
+-- the same after a call that gave some bytes
+pub OpenSoFar-more : (n : ℕ) (ended_old ended_now ended_new : Bool) (old now new : ℕ) → OpenSoFar ended_old ended_now old now → (ended_now ≡ false → new ≡ now)
+    → StaysOpen ended_now ended_new (Ok n) → n ≢ 0 → OpenSoFar ended_old ended_new old new
+OpenSoFar-more n ended_old ended_now ended_new old now new so_far needed open_still gave is =
+    (open_still (so_far is).0 (λ (e : Ok n ≡ Ok 0). gave (let same : n ≡ 0 = cc in same)), needed_so_far so_far needed is)

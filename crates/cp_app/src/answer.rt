@@ -30,6 +30,7 @@ pub(crate) fn put_answer<O: Sink>(out: &mut O, answer: &Answer) -> Result<(), Fa
     ensures put { (before : List ℕ) → O.held out.old ≡ Some before
         → HasPut before answer.now.text.items (O.held out.new) result }
     ensures failed { OnErr result (Rose (O.faults out.old) (O.faults out.new)) }
+    ensures needed { O.needless out.new ≡ O.needless out.old }
 {
     put_pieces(out, &answer.text, &answer.ends)
 }

@@ -1,5 +1,5 @@
 // Reads the whole input from a source.
-ghost use Rattle.std.specs.Prelude.{◌≡◌, ◌≤◌, ℕ, List, [], length, Some, IfOk, IfErr};
+ghost use Rattle.std.specs.Prelude.{◌≡◌, ◌≤◌, ℕ, List, [], false, length, Some, IfOk, IfErr};
 ghost use Rattle.cp_app.specs.Headline.{most_bytes};
 ghost use Rattle.cp_app.specs.Steps.{HasStoppedReading};
 ghost use Rattle.cp_app.specs.declared.stopped.Stopped.TheVariants.{ReadFault};
@@ -23,6 +23,7 @@ pub(crate) fn read_all<S: Source>(alloc: Global, source: &mut S) -> Result<Vec<u
         → IfErr result (HasStoppedReading input (S.left source.new)) }
     ensures read_fault { IfErr result (λ cause. cause ≡ ReadFault
         → Rose (S.faults source.old) (S.faults source.new)) }
+    ensures needed { S.has_ended source.old ≡ false → S.needless source.new ≡ S.needless source.old }
 {
     let mut bytes = Vec::new(alloc);
     let mut buffer = [0; BUFFER_LENGTH];

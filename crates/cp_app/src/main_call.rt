@@ -84,6 +84,7 @@ fn make_report<S: Source>(
         → IfErr result (HasStopped command input (S.left source.new)) }
     ensures read_fault { IfErr result (λ cause. cause ≡ stopped.ReadFault
         → Rose (S.faults source.old) (S.faults source.new)) }
+    ensures needed { S.has_ended source.old ≡ false → S.needless source.new ≡ S.needless source.old }
 {
     let input = read_all(alloc, source)?;
     report_of(alloc, command, &input)
@@ -103,6 +104,7 @@ fn make_answer<S: Source>(
     ensures read_fault { IfErr result (λ cause. cause ≡ stopped.ReadFault
         → Rose (S.faults source.old) (S.faults source.new)) }
     ensures reads_nothing { reads command.name ≡ false → source.new ≡ source.old }
+    ensures needed { S.has_ended source.old ≡ false → S.needless source.new ≡ S.needless source.old }
 {
     match command.name {
         CommandName::Gen(n) => generated(alloc, n),
@@ -126,6 +128,8 @@ fn answer<S: Source, O: Sink>(
     ensures read_fault { result ≡ ReadFault → Rose (S.faults source.old) (S.faults source.new) }
     ensures write_fault { result ≡ WriteFault → Rose (O.faults out.old) (O.faults out.new) }
     ensures nothing_put { puts_nothing result ≡ true → out.new ≡ out.old }
+    ensures needed_takes { S.has_ended source.old ≡ false → S.needless source.new ≡ S.needless source.old }
+    ensures needed_puts { O.needless out.new ≡ O.needless out.old }
 {
     match make_answer(alloc, command, source) {
         Ok(answer) => match put_answer(out, &answer) {
@@ -153,6 +157,8 @@ fn execute<S: Source, O: Sink>(
     ensures read_fault { result ≡ ReadFault → Rose (S.faults source.old) (S.faults source.new) }
     ensures write_fault { result ≡ WriteFault → Rose (O.faults out.old) (O.faults out.new) }
     ensures nothing_put { puts_nothing result ≡ true → out.new ≡ out.old }
+    ensures needed_takes { S.has_ended source.old ≡ false → S.needless source.new ≡ S.needless source.old }
+    ensures needed_puts { O.needless out.new ≡ O.needless out.old }
 {
     match read_command(alloc, words) {
         Ok(command) => answer(alloc, command, source, out),
@@ -202,6 +208,9 @@ fn execute<S: Source, O: Sink>(
 /// At `WriteFault` a proper prefix of such a text was put. At every other status except `Done` and `Limit`, nothing was put on
 /// `out`. Each status except `Done` and `Limit` has a line on the sink for errors, or a prefix of it if that sink fails. What is
 /// said of the input and the output holds if the source tells what it has left and the sinks tell what they hold.
+///
+/// No sink is given an empty piece. The source is never asked for nothing, and never again once it has said that it is at its end;
+/// of one that has said so before the run, this is not promised.
 pub fn run<S: Source, O: Sink, E: Sink>(
     alloc: Global,
     words: &[String],
@@ -260,6 +269,12 @@ pub fn run<S: Source, O: Sink, E: Sink>(
         → HasLine (status_line result) before (E.held errs.new)
         (E.faults errs.old) (E.faults errs.new) }
     ensures no_line { SaysWhole result → errs.new ≡ errs.old }
+
+    // No call is made without need: no piece that is put is empty, and a source that has said that it is at its end is not asked
+    // again, nor any source for nothing.
+    ensures needed_takes { S.has_ended source.old ≡ false → S.needless source.new ≡ S.needless source.old }
+    ensures needed_puts { O.needless out.new ≡ O.needless out.old }
+    ensures needed_lines { E.needless errs.new ≡ E.needless errs.old }
 
     // Accepted input is answered, unless a fault is counted or the status is `Memory`.
     ensures completes { (command : CommandData) → command_of (map string_bytes words.now) ≡ Some command

@@ -16,6 +16,7 @@ pub(crate) fn put_all<O: Sink>(out: &mut O, piece: &[u8]) -> Result<(), Failed>
         → HasPut before piece.now (O.held out.new) result }
     ensures failed { OnErr result (Rose (O.faults out.old) (O.faults out.new)) }
     ensures never_falls { O.faults out.old ≤ O.faults out.new }
+    ensures needed { O.needless out.new ≡ O.needless out.old }
 {
     let mut rest = piece;
     while !rest.is_empty() {
@@ -32,6 +33,7 @@ pub(crate) fn put_pieces<O: Sink>(out: &mut O, text: &[u8], ends: &[usize]) -> R
         → HasPut before text.now (O.held out.new) result }
     ensures failed { OnErr result (Rose (O.faults out.old) (O.faults out.new)) }
     ensures never_falls { O.faults out.old ≤ O.faults out.new }
+    ensures needed { O.needless out.new ≡ O.needless out.old }
 {
     let mut rest = text;
     for end in ends {
@@ -48,6 +50,7 @@ fn put_each<O: Sink>(out: &mut O, pieces: &[&[u8]]) -> Result<(), Failed>
     ensures put { (before : List ℕ) → O.held out.old ≡ Some before
         → HasPut before (concat (map (λ piece. piece.now) pieces.now)) (O.held out.new) result }
     ensures failed { OnErr result (Rose (O.faults out.old) (O.faults out.new)) }
+    ensures needed { O.needless out.new ≡ O.needless out.old }
 {
     for piece in pieces {
         put_all(out, piece)?;
@@ -60,6 +63,7 @@ fn put_refusal<O: Sink>(out: &mut O, refusal: Refusal) -> Result<(), Failed>
     ensures put { (before : List ℕ) → O.held out.old ≡ Some before
         → HasPut before (status_line (Refused refusal)) (O.held out.new) result }
     ensures failed { OnErr result (Rose (O.faults out.old) (O.faults out.new)) }
+    ensures needed { O.needless out.new ≡ O.needless out.old }
 {
     let mut line_digits = Buffer::new();
     let mut col_digits = Buffer::new();
@@ -74,6 +78,7 @@ fn put_status<O: Sink>(out: &mut O, status: Status) -> Result<(), Failed>
     ensures put { (before : List ℕ) → O.held out.old ≡ Some before
         → HasPut before (status_line status) (O.held out.new) result }
     ensures failed { OnErr result (Rose (O.faults out.old) (O.faults out.new)) }
+    ensures needed { O.needless out.new ≡ O.needless out.old }
     ensures none { SaysWhole status → out.new ≡ out.old }
 {
     match status {
@@ -92,6 +97,7 @@ pub(crate) fn put_line<E: Sink>(errs: &mut E, status: Status)
     ensures line { (before : List ℕ) → E.held errs.old ≡ Some before
         → HasLine (status_line status) before (E.held errs.new) (E.faults errs.old) (E.faults errs.new) }
     ensures none { SaysWhole status → errs.new ≡ errs.old }
+    ensures needed { E.needless errs.new ≡ E.needless errs.old }
 {
     // If the line cannot be put, the status stays the same.
     let _ = put_status(errs, status);

@@ -1,18 +1,21 @@
 -- A source and a sink in memory, as contracts see them.
 use Rattle.std.specs.Prelude.{◌≢◌, ◌≤◌, ◌+◌, ◌-◌, ◌^◌, ℕ, List, [], length, min, Option, Some, None, nat_lt, if◌then◌else◌, Contains}
 
--- a source in memory: the bytes that are left, the numbers of the calls that fail, the number of the next call,
--- with none past the greatest u64, and the count of faults
+-- a source in memory: the bytes that are left, how many it gives a call at most, the numbers of the calls that fail, the number
+-- of the next call, with none past the greatest u64, and the count of faults
 pub record MemSourceState : Type 0 where
   pub left : List ℕ
+  pub size : ℕ
   pub failing : List ℕ
   pub next : Option ℕ
   pub faults : ℕ
 
--- a sink in memory: the bytes that it holds, how many it has room for, and the rest as for a source
+-- a sink in memory: the bytes that it holds, how many it has room for, how many it takes a call at most, and the rest as for a
+-- source
 pub record MemSinkState : Type 0 where
   pub held : List ℕ
   pub room : ℕ
+  pub size : ℕ
   pub failing : List ℕ
   pub next : Option ℕ
   pub faults : ℕ

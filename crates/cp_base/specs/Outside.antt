@@ -1,5 +1,5 @@
 -- What a source and a sink do in one call.
-use Rattle.std.specs.Prelude.{◌≡◌, ◌≢◌, ◌<◌, ◌≤◌, ◌⊎◌, ◌-◌, ◌^◌, ◌++◌, ℕ, List, [], length, take, drop, Option, Some, None, Result, Ok, Err}
+use Rattle.std.specs.Prelude.{◌≡◌, ◌≢◌, ◌<◌, ◌≤◌, ◌⊎◌, ◌-◌, ◌^◌, ◌++◌, ℕ, Bool, false, List, [], length, take, drop, Option, Some, None, Result, Ok, Err}
 use Rattle.cp_base.specs.declared.status.Failed.{Failed}
 
 -- a count of faults rose, or stands at its last value, the greatest u64
@@ -26,3 +26,11 @@ abbrev pub Puts : Option (List ℕ) → Option (List ℕ) → List ℕ → Resul
 Puts None held_new piece result = held_new ≡ None
 Puts (Some bytes) held_new piece (Ok n) = held_new ≡ Some (bytes ++ take n piece)
 Puts (Some bytes) held_new piece (Err failed) = held_new ≡ Some bytes
+
+-- a call with something to give or to fill is not one that is made without need
+abbrev pub IsNeeded : List ℕ → ℕ → ℕ → Type 0
+IsNeeded piece old new = 0 < length piece → new ≡ old
+
+-- only a call that gives no byte says that this is the end
+abbrev pub StaysOpen : Bool → Bool → Result ℕ Failed → Type 0
+StaysOpen ended_old ended_new result = ended_old ≡ false → result ≢ Ok 0 → ended_new ≡ false

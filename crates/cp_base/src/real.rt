@@ -1,6 +1,6 @@
 // A source and a sink over real streams, such as standard input, output and error. They count the faults of a stream, and tell of
 // its bytes what the stream tells; the standard streams tell nothing.
-ghost use Rattle.std.specs.Prelude.{◌≡◌, ◌≤◌, ◌<◌, ℕ, List, Option, None, length, take, IfOk, OnOk, OnErr};
+ghost use Rattle.std.specs.Prelude.{◌≡◌, ◌≤◌, ◌<◌, None, false, length, take, IfOk, OnOk, OnErr};
 ghost use Rattle.std.specs.Io.KnownBytes.{ReadConsumes, Appends};
 ghost use Rattle.cp_base.specs.InMemory.{one_more};
 ghost use Rattle.cp_base.specs.Outside.{Rose, Takes, Puts};
@@ -39,6 +39,10 @@ impl<R: Read> Source for Counted<R> {
     ghost left = { λ _. None };
 
     ghost faults = { λ source. source.faults };
+
+    ghost has_ended = { λ _. false };
+
+    ghost needless = { λ _. 0 };
 
     fn take(&mut self, buf: &mut [u8]) -> Result<usize, Failed>
         ensures count { IfOk result (λ n. n ≤ length buf.old) }
@@ -85,6 +89,8 @@ fn write_through<W: Write>(writer: &mut W, bytes: &[u8]) -> Result<usize, Failed
 
 impl<W: Write> Sink for Counted<W> {
     ghost faults = { λ sink. sink.faults };
+
+    ghost needless = { λ _. 0 };
 
     ghost held = { λ _. None };
 

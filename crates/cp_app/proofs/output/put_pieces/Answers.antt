@@ -1,4 +1,4 @@
-use Rattle.std.proofs.Common.{arith}
+use Rattle.std.proofs.Common.{◌∙◌, arith}
 use Rattle.cp_lists.proofs.Fronts.{both_parts}
 use Rattle.cp_app.proofs.PutPieces.{PutUpTo-more, PutUpTo-stop, PutUpTo-last, HasPut-err}
 use Rattle.cp_app.proofs.output.put_pieces.Goals as goal
@@ -24,6 +24,7 @@ loop-end-preserved g c =
     record {
       within = omega (arith, c.loop-end.invariant.within, c.split_at.ensures.back_len);
       never_falls = omega (arith, c.loop-end.invariant.never_falls, c.in_ok-put_all.ensures.never_falls);
+      needless = c.in_ok-put_all.ensures.needed ∙ c.loop-end.invariant.needless;
       put = PutUpTo-more c.args.text.now rest part after (g.O.Sink.held c.args.out.now) held_middle held_new c.loop-end.invariant.put
           (both_parts c.min.result rest part after c.split_at.ensures.front c.split_at.ensures.back) c.in_ok-put_all.ensures.put;
     }
