@@ -349,6 +349,19 @@ END
 run "$dir/input" analyse
 labels 'a message of 300,000 items under values'
 
+# Inputs of a kind and size, or of the folder measured where the size is '-': within the seconds of the table, by the clock,
+# the program ends with this status form.
+while IFS="$tab" read -r kind size words seconds form; do
+    input=$dir/input
+    if [ "$size" = - ]; then input=measured/$kind.scm; else sh sizes.sh "$kind" "$size" >"$input"; fi
+    status=0
+    # shellcheck disable=SC2086
+    timeout "$seconds" "$program" $words <"$input" >"$dir/output" 2>"$dir/error" || status=$?
+    tail -n 1 "$dir/output" >"$dir/last" && mv "$dir/last" "$dir/output"
+    echo "$form" >"$dir/wanted"
+    judge "size $size of $kind: $words" "$(case $form in *' limit '*) echo 1 ;; *) echo 0 ;; esac)" "$dir/wanted" ''
+done <sizes.tsv
+
 # The program may have any name.
 ln -s "$program" "$dir/any"
 status=0

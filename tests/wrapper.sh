@@ -248,5 +248,79 @@ for word in gen bench; do
 done
 builds 'no more' 0
 
+# A program that is at work for as many seconds as its limit says, then puts its words and its input and, with shapes,
+# ends as one that has no memory left.
+cat >"$checkout/crates/cpsa/out/cpsa" <<END
+#!/bin/sh
+echo \$\$ >"$dir/at_work"
+input=\$(cat)
+answer() {
+    if [ "\$1" = shapes ]; then echo memory >&2; exit 6; fi
+    printf 'words: %s\n%s\n' "\$*" "\$input"
+    exit 3
+}
+if [ "\$3" = 0 ]; then answer "\$@"; fi
+trap 'answer "\$@"' USR1
+trap 'kill "\$!"; exit' TERM
+sleep "\$3" && kill -s USR1 \$\$ &
+while :; do :; done
+END
+echo input >"$dir/input"
+mkdir "$tmpdir/at_terminal"
+
+# An interrupt is ignored by what a shell starts in the background, and by all that this starts; these words undo that.
+heeded=
+if env --default-signal=INT true 2>"$dir/nothing"; then heeded='env --default-signal=INT'; fi
+
+# Runs the script with these words at a terminal, where after $1 seconds an interrupt is typed if $1 is not 0. What is left
+# on the screen is the output, and of what was there what says that the search goes on.
+at_terminal() {
+    typed=$1
+    shift
+    status=0
+    # shellcheck disable=SC2086
+    if [ "$typed" != 0 ]; then sleep "$typed" && printf '\003'; fi |
+        TMPDIR="$tmpdir/at_terminal" $heeded script -q -e -c "$checkout/cpsa $* <$dir/input" /dev/null >"$dir/screen" || status=$?
+    awk '{
+        sub(/\r$/, "")
+        count = split($0, parts, "\r")
+        line = ""
+        for (i = 1; i <= count; i++) line = parts[i] substr(line, length(parts[i]) + 1)
+        sub(/ +$/, "", line)
+        print line
+    }' "$dir/screen" >"$dir/output"
+    tr '\r' '\n' <"$dir/screen" | sed -n 's/^\(cpsa: still searching after 0 min [0-9]* s\) *$/\1/p' >"$dir/error"
+}
+
+# Searches that are long enough, at a terminal, for a line that says so, and others.
+searches() {
+    at_terminal 0 analyse --limit 0
+    judge 'at a terminal, a short search' 3 "words: analyse --limit 0${newline}input" ''
+    at_terminal 0 analyse --limit 3
+    judge 'at a terminal, a long search' 3 "words: analyse --limit 3${newline}input" 'cpsa: still searching after 0 min 2 s*'
+    at_terminal 0 shapes --limit 3
+    judge 'at a terminal, a long search that fails' 6 memory 'cpsa: still searching after 0 min 2 s*'
+    at_terminal 0 "analyse --limit 3 >$dir/report"
+    judge 'at a terminal, a long search whose report goes elsewhere' 3 '' 'cpsa: still searching after 0 min 2 s*'
+    mv "$dir/report" "$dir/output"
+    judge 'at a terminal, a report that goes elsewhere' 3 "words: analyse --limit 3${newline}input" 'cpsa: still searching after 0 min 2 s*'
+    if [ -z "$heeded" ]; then
+        echo 'skipped: an interrupt at a terminal, as env cannot make one heeded'
+        return
+    fi
+    at_terminal 3 analyse --limit 30
+    judge 'at a terminal, an interrupt' 130 '' 'cpsa: still searching after 0 min 2 s*'
+    if kill -0 "$(cat "$dir/at_work")" 2>"$dir/output"; then echo 'the program is still at work' >"$dir/output"; else ls "$tmpdir/at_terminal" >"$dir/output"; fi
+    judge 'at a terminal, an interrupt: what is left' 130 '' 'cpsa: still searching after 0 min 2 s*'
+}
+
+run "$checkout/cpsa" shapes --limit 3
+judge 'a long search elsewhere' 6 '' memory
+if script -q -e -c true /dev/null </dev/null >"$dir/screen" 2>&1; then
+    searches
+else
+    echo 'skipped: searches at a terminal, as there is no script'
+fi
+
 echo "$passed passed, $failed failed"
 [ "$failed" -eq 0 ]

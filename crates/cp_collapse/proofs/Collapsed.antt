@@ -1,18 +1,20 @@
 -- Going along the partitions of all strands, what is not the finest and not impossible is a collapse.
-use Rattle.std.proofs.Common.{◌≡◌, ◌≢◌, ◌⊎◌, inl, inr, ℕ, zero, suc, ◌<◌, ◌≤◌, ◌+◌, List, [], ◌∷◌, ◌++◌, Some, length, refl, sym, ap, ◌∙◌, subst, arith, eq-or-lt_of_le}
+use Rattle.std.proofs.Common.{◌≡◌, ◌≢◌, ◌⊎◌, inl, inr, ℕ, zero, suc, ◌<◌, ◌≤◌, ◌+◌, List, [], ◌∷◌, ◌++◌, Option, Some, None, length, refl, sym, ap, ◌∙◌, subst, arith, eq-or-lt_of_le}
 use Rattle.cp_lists.specs.Lists.{item_at, IsIn, here}
 use Rattle.cp_model.specs.Term.{Assignment}
 use Rattle.cp_model.specs.Skeleton.{Skeleton}
+use Rattle.cp_model.specs.Homomorphism.{number_or}
 use Rattle.cp_model.specs.Problem.{numbers_from}
 use Rattle.cp_model.proofs.NumbersFrom.{numbers_length}
 use Rattle.cp_lists.proofs.Members.{in_append_left, in_append_right, in_append, only_item}
 use Rattle.cp_lists.proofs.Items.{item_below, item_before, place_of, at_place}
 use Rattle.cp_unify.proofs.Free.{free}
 use Rattle.cp_collapse.specs.Partitions.{IsPartitionByRole, finest, IdentifiesValues, IsLower, AreDescending}
-use Rattle.cp_collapse.specs.Collapses.{IsNeverIdentified, IsImpossible, IsCollapse, AreCollapsesBy, no_collapses, collapse_by, AreCollapses}
-use Rattle.cp_collapse.specs.FirstPartitions.{ArePartitionsOfFirst, AreCollapsedTo, EqualAt}
+use Rattle.cp_collapse.specs.Collapses.{IsImpossible, IsCollapse, AreCollapsesBy, no_collapses, collapse_by, AreCollapses}
+use Rattle.cp_collapse.specs.FirstPartitions.{HasPairTurned, IsRuledOut, ArePartitionsOfFirst, AreCollapsedTo, EqualAt}
 use Rattle.cp_collapse.proofs.Lowest.{at_numbers}
 use Rattle.cp_collapse.proofs.DescendingLists.{never_lower, descending_at, descending_with}
+use Rattle.cp_collapse.proofs.RuledOut.{one_block, ruled_out_impossible}
 use Rattle.cp_collapse.proofs.Extended.{of_first_all}
 use Rattle.cp_collapse.proofs.OneStrandMore.{equal_itself}
 
@@ -33,6 +35,18 @@ finest_identifies k g s t role height terms height' terms' at au a =
     let same : s ≡ t = sym (at_finest k s a.0 a.1).1 ∙ (at_finest k t a.0 a.2).1 in
     subst (λ (m : ℕ). EqualAt k s m g) same (equal_itself k s g) role height terms height' terms' at au
 
+alone_in_finest : (k : Skeleton) (s : ℕ) (o : Option ℕ) → item_at (finest k) s ≡ o → number_or s o ≡ s
+alone_in_finest k s None e = refl
+alone_in_finest k s (Some l) e = (at_finest k s l e).1
+
+finest_not_turned : (k : Skeleton) → HasPairTurned k (finest k) → ⊥
+finest_not_turned k h =
+    let s = h.0.earlier.strand in
+    let t = h.0.later.strand in
+    h.2.0 (sym (alone_in_finest k s (item_at (finest k) s) refl)
+    ∙ one_block k (length k.strands) (finest k) (of_first_all k (finest k) (finest_is_partition k)) s t h.2.1
+    ∙ alone_in_finest k t (item_at (finest k) t) refl)
+
 -- No partition is higher.
 not_higher : {A : Type 0} (n : ℕ) (xs : List A) (q : List ℕ) → ((s l : ℕ) → item_at q s ≡ Some l → l ≤ n + s) → IsLower (numbers_from n xs) q → ⊥
 not_higher n [] q h l = l
@@ -41,9 +55,10 @@ not_higher n (x ∷ xs) (b ∷ q) h (inl l) = let m = h 0 b refl in omega (arith
 not_higher n (x ∷ xs) (b ∷ q) h (inr r) = not_higher (suc n) xs q (λ s l e. let m = h (suc s) l e in omega (arith, m)) r.1
 
 module _ (k : Skeleton) (ps : List (List ℕ)) (are : ArePartitionsOfFirst k (length k.strands) ps) where
-  finest_listed : IsIn (finest k) ps ⊎ IsNeverIdentified k (finest k) → IsIn (finest k) ps
+  finest_listed : IsIn (finest k) ps ⊎ IsRuledOut k (finest k) → IsIn (finest k) ps
   finest_listed (inl i) = i
-  finest_listed (inr never) = absurd (never free (finest_identifies k free))
+  finest_listed (inr (inl never)) = absurd (never free (finest_identifies k free))
+  finest_listed (inr (inr turned)) = absurd (finest_not_turned k turned)
 
   first_at : (j : ℕ) → item_at ps j ≡ Some (finest k) → item_at ps 0 ≡ Some (finest k)
   first_at zero e = e
@@ -121,6 +136,6 @@ module _ (k : Skeleton) (ps : List (List ℕ)) where
     all = λ p part ne. by p ne (are.all p (of_first_all k p part));
   }
     where
-      by : (p : List ℕ) → p ≢ finest k → IsIn p ps ⊎ IsNeverIdentified k p → IsIn p so_far.partitions ⊎ IsImpossible k p
+      by : (p : List ℕ) → p ≢ finest k → IsIn p ps ⊎ IsRuledOut k p → IsIn p so_far.partitions ⊎ IsImpossible k p
       by p ne (inl listed) = let r = place_of listed in so_far.all r.0 p (item_below ps r.0 p r.1) r.1 ne
-      by p ne (inr never) = inr (inl never)
+      by p ne (inr out) = inr (ruled_out_impossible k p out)

@@ -37,8 +37,8 @@ module _ (k : Skeleton) (n : ℕ) (p : List ℕ) (part : IsPartitionOfFirst k n 
   exact_alone r = exact_same (IdentifiesValues k p) (IdentifiesValues k (p ++ (n ∷ []))) r (identifies_alone k n p part) (alone_identifies k n p part)
 
   module _ (l : ℕ) where
-    pub exact_block_first : (r : List Binding) → IsExactFor (IdentifiesValues k p) r → IsExactFor (EqualsBlock k p n l 0) r
-    exact_block_first r = exact_same (IdentifiesValues k p) (EqualsBlock k p n l 0) r (block_at_first k n p part l) (λ g f. f.0)
+    pub exact_block_first : (r : List Binding) → IsExactFor (IdentifiesValues k p) r → IsExactFor (EqualsBlock k p n l l) r
+    exact_block_first r = exact_same (IdentifiesValues k p) (EqualsBlock k p n l l) r (block_at_first k n p part l) (λ g f. f.0)
 
     pub exact_block_passes : (i : ℕ) (r : List Binding) → (item_at p i ≡ Some l → ⊥) → IsExactFor (EqualsBlock k p n l i) r → IsExactFor (EqualsBlock k p n l (suc i)) r
     exact_block_passes i r other = exact_same (EqualsBlock k p n l i) (EqualsBlock k p n l (suc i)) r (λ g. block_passes k n p part l g i other) (λ g. block_before k n p part l g i (suc i) (omega arith))

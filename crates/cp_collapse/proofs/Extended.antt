@@ -2,28 +2,15 @@
 -- partitions of one strand more.
 use Rattle.std.proofs.Common.{◌≡◌, ◌≢◌, ◌⊎◌, inl, inr, ℕ, suc, ◌<◌, ◌≤◌, List, [], ◌∷◌, ◌++◌, Some, length, refl, sym, ap, ◌∙◌, subst, subst₂, arith, eq-or-lt_of_le}
 use Rattle.cp_lists.specs.Lists.{item_at, IsIn, here}
-use Rattle.cp_model.specs.Term.{Assignment}
 use Rattle.cp_model.specs.Skeleton.{Skeleton}
 use Rattle.cp_lists.proofs.Members.{in_append_left, in_append_right, in_append, only_item, empty_in}
 use Rattle.cp_lists.proofs.Items.{item_below, place_of, at_place, item_in_front, item_last, end_cases}
 use Rattle.cp_lists.proofs.Appended.{length_pushed}
 use Rattle.cp_lists.proofs.Fronts.{split_end}
-use Rattle.cp_collapse.specs.Partitions.{AreOfOneRole, IsPartitionByRole, AreTogether, IdentifiesValues, IsLower, AreDescending}
-use Rattle.cp_collapse.specs.Collapses.{IsNeverIdentified}
-use Rattle.cp_collapse.specs.FirstPartitions.{IsPartitionOfFirst, ArePartitionsOfFirst, MayHave, IsLaterEntry, IsOneBehind, AreExtendedTo}
+use Rattle.cp_collapse.specs.Partitions.{AreOfOneRole, IsPartitionByRole, IsLower, AreDescending}
+use Rattle.cp_collapse.specs.FirstPartitions.{IsPartitionOfFirst, IsRuledOut, ArePartitionsOfFirst, MayHave, IsLaterEntry, IsOneBehind, AreExtendedTo}
+use Rattle.cp_collapse.proofs.RuledOut.{still_ruled_out}
 use Rattle.cp_collapse.proofs.DescendingLists.{lower_with, lower_last, descending_at, descending_with}
-
--- ---- blocks that never have equal values
-
-pub still_together : (p : List ℕ) (l s t : ℕ) → AreTogether p s t → AreTogether (p ++ (l ∷ [])) s t
-still_together p l s t a =
-    (a.0, item_in_front p (l ∷ []) s (item_below p s a.0 a.1) ∙ a.1, item_in_front p (l ∷ []) t (item_below p t a.0 a.2) ∙ a.2)
-
-pub identifies_first : (k : Skeleton) (p : List ℕ) (l : ℕ) (g : Assignment) → IdentifiesValues k (p ++ (l ∷ [])) g → IdentifiesValues k p g
-identifies_first k p l g i s t role height terms height' terms' at au a = i s t role height terms height' terms' at au (still_together p l s t a)
-
-still_never : (k : Skeleton) (p : List ℕ) (l : ℕ) → IsNeverIdentified k p → IsNeverIdentified k (p ++ (l ∷ []))
-still_never k p l never g i = never g (identifies_first k p l g i)
 
 -- ---- one strand more
 
@@ -133,10 +120,10 @@ module _ (k : Skeleton) (n : ℕ) where
 
     module _ (i m : ℕ) (p : List ℕ) (at : item_at ps i ≡ Some p) (new : List (List ℕ)) (so_far : AreExtendedTo k n ps i (suc m) new) where
       abbrev Listed : List (List ℕ) → List ℕ → ℕ → Type 0
-      Listed qs r l = IsIn (r ++ (l ∷ [])) qs ⊎ IsNeverIdentified k (r ++ (l ∷ []))
+      Listed qs r l = IsIn (r ++ (l ∷ [])) qs ⊎ IsRuledOut k (r ++ (l ∷ []))
 
-      -- The entry m is not taken, since the strand may not have it, or the blocks then never have equal values.
-      pub not_extended : (MayHave k p n m → IsNeverIdentified k (p ++ (m ∷ []))) → AreExtendedTo k n ps i m new
+      -- The entry m is not taken, since the strand may not have it, or the partition is then ruled out.
+      pub not_extended : (MayHave k p n m → IsRuledOut k (p ++ (m ∷ []))) → AreExtendedTo k n ps i m new
       not_extended never = record {
         each = λ q inq. one_behind_down i m q (so_far.each q inq);
         all = λ r l b may. by r l b may (behind_up i m b.0 l b.2);
@@ -147,7 +134,7 @@ module _ (k : Skeleton) (n : ℕ) where
           by r l b may (inl before) = so_far.all r l (b.0, b.1, before) may
           by r l b may (inr now) =
               let e = same_partition i b.0 p r at b.1 now.0 in
-              inr (subst₂ (λ (s : List ℕ) (t : ℕ). IsNeverIdentified k (s ++ (t ∷ []))) e now.1 (never (subst₂ (λ (s : List ℕ) (t : ℕ). MayHave k s n t) (sym e) (sym now.1) may)))
+              inr (subst₂ (λ (s : List ℕ) (t : ℕ). IsRuledOut k (s ++ (t ∷ []))) e now.1 (never (subst₂ (λ (s : List ℕ) (t : ℕ). MayHave k s n t) (sym e) (sym now.1) may)))
 
       -- What is listed is higher.
       lower_than : AreDescending ps → (q : List ℕ) → IsOneBehind k n ps i (suc m) q → IsLower (p ++ (m ∷ [])) q
@@ -202,17 +189,17 @@ module _ (k : Skeleton) (n : ℕ) where
     pub all_extended : (new : List (List ℕ)) → ArePartitionsOfFirst k n ps → AreExtendedTo k n ps (length ps) (suc n) new → ArePartitionsOfFirst k (suc n) new
     all_extended new are so_far = record {
       each = λ q inq. let o = so_far.each q inq in subst (IsPartitionOfFirst k (suc n)) (sym o.extended) (extended_is_partition o.partition (are.each o.partition (at_place ps o.behind.0 _ o.behind.1)) o.entry o.may_have);
-      all = λ q part. let r = split_end n q part.each in subst (λ (x : List ℕ). IsIn x new ⊎ IsNeverIdentified k x) (sym r.2) (by r.0 r.1 r.3 (subst (IsPartitionOfFirst k (suc n)) r.2 part));
+      all = λ q part. let r = split_end n q part.each in subst (λ (x : List ℕ). IsIn x new ⊎ IsRuledOut k x) (sym r.2) (by r.0 r.1 r.3 (subst (IsPartitionOfFirst k (suc n)) r.2 part));
       descending = so_far.descending;
     }
       where
-        at : (p : List ℕ) (l : ℕ) (len : length p ≡ n) → IsPartitionOfFirst k (suc n) (p ++ (l ∷ [])) → IsIn p ps ⊎ IsNeverIdentified k p → IsIn (p ++ (l ∷ [])) new ⊎ IsNeverIdentified k (p ++ (l ∷ []))
+        at : (p : List ℕ) (l : ℕ) (len : length p ≡ n) → IsPartitionOfFirst k (suc n) (p ++ (l ∷ [])) → IsIn p ps ⊎ IsRuledOut k p → IsIn (p ++ (l ∷ [])) new ⊎ IsRuledOut k (p ++ (l ∷ []))
         at p l len part (inl listed) =
             let place = place_of listed in
             so_far.all p l (place.0, place.1, inl (item_below ps place.0 p place.1)) (last_may_have p l len part)
-        at p l len part (inr never) = inr (still_never k p l never)
+        at p l len part (inr out) = inr (still_ruled_out k n p (first_is_partition p l len part) l out)
 
-        by : (p : List ℕ) (l : ℕ) (len : length p ≡ n) → IsPartitionOfFirst k (suc n) (p ++ (l ∷ [])) → IsIn (p ++ (l ∷ [])) new ⊎ IsNeverIdentified k (p ++ (l ∷ []))
+        by : (p : List ℕ) (l : ℕ) (len : length p ≡ n) → IsPartitionOfFirst k (suc n) (p ++ (l ∷ [])) → IsIn (p ++ (l ∷ [])) new ⊎ IsRuledOut k (p ++ (l ∷ []))
         by p l len part = at p l len part (are.all p (first_is_partition p l len part))
 
 -- Of no strand there is one partition.

@@ -21,6 +21,7 @@ pub mod Places
 pub mod MergedStandings
 pub mod CollapsesCover
 pub mod DescendingLists
+pub mod RuledOut
 pub mod Extended
 pub mod Exact
 pub mod OneStrandMore

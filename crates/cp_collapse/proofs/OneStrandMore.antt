@@ -10,7 +10,7 @@ use Rattle.cp_lists.proofs.Items.{item_below, item_in_front, item_last, end_case
 use Rattle.cp_collapse.specs.Partitions.{HaveEqualValues, IdentifiesValues}
 use Rattle.cp_collapse.specs.Collapses.{IsNeverIdentified}
 use Rattle.cp_collapse.specs.FirstPartitions.{IsPartitionOfFirst, EqualAt, EqualsBlock}
-use Rattle.cp_collapse.proofs.Extended.{identifies_first}
+use Rattle.cp_collapse.proofs.RuledOut.{identifies_first}
 
 -- A strand has equal values with itself.
 pub equal_itself : (k : Skeleton) (s : ℕ) (g : Assignment) → EqualAt k s s g
@@ -75,8 +75,8 @@ module _ (k : Skeleton) (n : ℕ) (p : List ℕ) (part : IsPartitionOfFirst k n 
           f t n role height terms height' terms' at au (l, item_in_front p (l ∷ []) t (item_below p t l e) ∙ e, ap (item_at (p ++ (l ∷ []))) (sym part.each) ∙ item_last p l),
     )
 
-    pub block_at_first : (g : Assignment) → IdentifiesValues k p g → EqualsBlock k p n l 0 g
-    block_at_first g f = (f, λ t less e. absurd (omega (arith, less)))
+    pub block_at_first : (g : Assignment) → IdentifiesValues k p g → EqualsBlock k p n l l g
+    block_at_first g f = (f, λ t less e. absurd (let q = (part.lowest t l e).0 in omega (arith, less, q)))
 
     up_to : (g : Assignment) (i : ℕ) → ((t : ℕ) → t < i → item_at p t ≡ Some l → EqualAt k t n g) → (item_at p i ≡ Some l → EqualAt k i n g) → (t : ℕ) → (t ≡ i) ⊎ (t < i) → item_at p t ≡ Some l → EqualAt k t n g
     up_to g i below last t (inl e) at = subst (λ (w : ℕ). EqualAt k w n g) (sym e) (last (ap (item_at p) (sym e) ∙ at))

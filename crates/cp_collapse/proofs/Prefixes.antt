@@ -108,6 +108,9 @@ module _ (e : Assignment → Type 0) (role : Role) (height : ℕ) (s t : List Bi
             (λ g f. (one_less g f, equal g f))
             (exact_unified (AgreeBelow n) a b r q so_far m)
 
+        pub below_apart : ((g : Assignment) → value_of g a ≡ value_of g b → ⊥) → (g : Assignment) → AgreeBelow (n + 1) g → ⊥
+        below_apart apart g f = apart g (equal g f)
+
         pub below_never : HasNoUnifier a b r → (g : Assignment) → AgreeBelow (n + 1) g → ⊥
         below_never none g f = never_unified (AgreeBelow n) a b r so_far none g (one_less g f) (equal g f)
 

@@ -6,8 +6,10 @@ use Rattle.cp_model.specs.Strand.{Role}
 use Rattle.cp_model.specs.Skeleton.{instance, Skeleton}
 use Rattle.cp_unify.specs.Bindings.{Binding, Meets, as_substitution}
 use Rattle.cp_unify.specs.Unifiers.{AreLaterToEarlier}
+use Rattle.cp_model.specs.declared.node.OrderPair.{OrderPair}
 use Rattle.cp_collapse.specs.Partitions.{AreOfOneRole, HaveEqualValues, IdentifiesValues, AreDescending, finest}
-use Rattle.cp_collapse.specs.Collapses.{IsNeverIdentified, IsImpossible, AreCollapsesBy}
+use Rattle.cp_collapse.specs.Collapses.{LiesOnOne, IsNeverIdentified, IsImpossible, AreCollapsesBy}
+use Rattle.cp_collapse.specs.Property.{Has}
 
 -- A partition of the first n strands into blocks of instances of one role.
 pub record IsPartitionOfFirst (k : Skeleton) (n : ℕ) (p : List ℕ) : Type 0 where
@@ -15,11 +17,27 @@ pub record IsPartitionOfFirst (k : Skeleton) (n : ℕ) (p : List ℕ) : Type 0 w
   pub lowest : (s l : ℕ) → item_at p s ≡ Some l → (l ≤ s) × (item_at p l ≡ Some l)
   pub alike : (s l : ℕ) → item_at p s ≡ Some l → s ≢ l → AreOfOneRole k.strands s l
 
--- The lists are the partitions of the first n strands, in descending lexicographic order, all but some whose blocks never
--- have equal values.
+-- A pair between two strands comes to lie backward on one.
+abbrev pub HasPairTurned : Skeleton → List ℕ → Type 0
+HasPairTurned k p = Has (λ q. (q.earlier.strand ≢ q.later.strand) × LiesOnOne p q × (q.later.index ≤ q.earlier.index)) k.pairs
+
+-- No partition with these blocks of the first strands gives a skeleton: the blocks never have equal values, or a pair comes to
+-- lie backward.
+abbrev pub IsRuledOut : Skeleton → List ℕ → Type 0
+IsRuledOut k p = IsNeverIdentified k p ⊎ HasPairTurned k p
+
+-- The pair lies between strands s and t, and would lie backward if they were one.
+abbrev pub KeepsApart : ℕ → ℕ → OrderPair → Type 0
+KeepsApart s t q = (((q.earlier.strand ≡ s) × (q.later.strand ≡ t)) ⊎ ((q.earlier.strand ≡ t) × (q.later.strand ≡ s))) × (q.later.index ≤ q.earlier.index)
+
+-- One of the pairs keeps the strands apart.
+abbrev pub AreKeptApart : List OrderPair → ℕ → ℕ → Type 0
+AreKeptApart pairs s t = Has (KeepsApart s t) pairs
+
+-- The lists are the partitions of the first n strands, in descending lexicographic order, all but some that are ruled out.
 pub record ArePartitionsOfFirst (k : Skeleton) (n : ℕ) (ps : List (List ℕ)) : Type 0 where
   pub each : (p : List ℕ) → IsIn p ps → IsPartitionOfFirst k n p
-  pub all : (p : List ℕ) → IsPartitionOfFirst k n p → IsIn p ps ⊎ IsNeverIdentified k p
+  pub all : (p : List ℕ) → IsPartitionOfFirst k n p → IsIn p ps ⊎ IsRuledOut k p
   pub descending : AreDescending ps
 
 -- Strand n may have the entry l beside a partition of the strands before it: its own number, or that of a lowest strand of
@@ -40,10 +58,10 @@ pub record IsOneBehind (k : Skeleton) (n : ℕ) (ps : List (List ℕ)) (i m : �
   pub may_have : MayHave k partition n entry
 
 -- Of the partitions ps of the first n strands those before number i are extended by each entry of strand n, and number i by
--- each from m on, in descending order, all but some whose blocks never have equal values.
+-- each from m on, in descending order, all but some that are ruled out.
 pub record AreExtendedTo (k : Skeleton) (n : ℕ) (ps : List (List ℕ)) (i m : ℕ) (extended : List (List ℕ)) : Type 0 where
   pub each : (q : List ℕ) → IsIn q extended → IsOneBehind k n ps i m q
-  pub all : (p : List ℕ) (l : ℕ) → IsLaterEntry ps i m p l → MayHave k p n l → IsIn (p ++ (l ∷ [])) extended ⊎ IsNeverIdentified k (p ++ (l ∷ []))
+  pub all : (p : List ℕ) (l : ℕ) → IsLaterEntry ps i m p l → MayHave k p n l → IsIn (p ++ (l ∷ [])) extended ⊎ IsRuledOut k (p ++ (l ∷ []))
   pub descending : AreDescending extended
 
 -- The bindings are met by exactly the assignments of which the fact is true; each is of a later variable to an earlier one;

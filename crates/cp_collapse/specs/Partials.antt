@@ -9,8 +9,7 @@ use Rattle.cp_unify.specs.Bindings.{Binding, Meets, as_substitution}
 use Rattle.cp_unify.specs.Unifiers.{AreLaterToEarlier}
 use Rattle.cp_strand.specs.View.{InstanceData}
 use Rattle.cp_collapse.specs.Partitions.{HaveEqualValues, IdentifiesValues}
-use Rattle.cp_collapse.specs.Collapses.{IsNeverIdentified}
-use Rattle.cp_collapse.specs.FirstPartitions.{ArePartitionsOfFirst, MayHave, AreExtendedTo, IsExactFor}
+use Rattle.cp_collapse.specs.FirstPartitions.{IsRuledOut, ArePartitionsOfFirst, MayHave, AreExtendedTo, IsExactFor}
 use Rattle.cp_collapse.specs.declared.partitions.Partial.{Partial}
 
 -- The bindings are solved: each is of a later variable to an earlier one; and whatever an assignment gives to the variables
@@ -51,6 +50,6 @@ pub record Joins (k : Skeleton) (n : ℕ) (p : List ℕ) (l : ℕ) (partial : Pa
   pub may_have : MayHave k p n l
   pub exact : IsExact k partial
 
--- Strand n may not have the entry l beside p, or the blocks then never have equal values.
+-- Strand n may not have the entry l beside p, or the partition is then ruled out.
 abbrev pub MayNotJoin : Skeleton → ℕ → List ℕ → ℕ → Type 0
-MayNotJoin k n p l = MayHave k p n l → IsNeverIdentified k (p ++ (l ∷ []))
+MayNotJoin k n p l = MayHave k p n l → IsRuledOut k (p ++ (l ∷ []))

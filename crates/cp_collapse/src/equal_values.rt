@@ -4,7 +4,7 @@ ghost use Rattle.cp_model.specs.Extensions.{IsClosedPrefix};
 ghost use Rattle.cp_collapse.specs.FirstPartitions.{IsExactFor};
 ghost use Rattle.cp_collapse.specs.Partials.{AreSolved, AlsoEqual, IsOfNoAssignment};
 
-use crate::variable_terms::term_of_variable;
+use crate::variable_terms::{never_agree, term_of_variable};
 use cp_skel::{Instance, occurs, prefix_of};
 use cp_term::VarId;
 use cp_unify::{Subst, unify};
@@ -26,14 +26,19 @@ pub(crate) fn unify_instances(
         (λ r. IsExactFor (AlsoEqual given.now.value a.now b.now) r.value)) }
 {
     let events = prefix_of(a.role(), a.height().min(b.height()));
+    let first_values = a.values();
+    let second_values = b.values();
     let mut bindings = given.clone()?;
     for (number, declaration) in a.role().variables().iter().enumerate() {
         let id = VarId::numbered(number);
         if !occurs(events, id, declaration.sort) {
             continue;
         }
-        let first = term_of_variable(alloc, a.values(), id, declaration.sort)?;
-        let second = term_of_variable(alloc, b.values(), id, declaration.sort)?;
+        if never_agree(first_values, second_values, id, declaration.sort) {
+            return Ok(None);
+        }
+        let first = term_of_variable(alloc, first_values, id, declaration.sort)?;
+        let second = term_of_variable(alloc, second_values, id, declaration.sort)?;
         match unify(alloc, &first, &second, &bindings)? {
             Some(next) => bindings = Rc::new(alloc, next)?,
             None => return Ok(None),

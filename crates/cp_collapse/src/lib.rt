@@ -8,6 +8,7 @@ mod cycles;
 mod equal_values;
 mod examples;
 mod images;
+mod kept_apart;
 mod laws;
 mod merged_skeletons;
 mod merged_strands;

@@ -1,18 +1,20 @@
 // Partitions of a skeleton's strands into blocks of instances of one role, built strand by strand.
 ghost use Rattle.std.specs.Prelude.{◌≡◌, ◌↔◌, ◌+◌, ◌<◌, ◌++◌, ◌∷◌, [], ℕ, List, Some, length, IsTrue, IfOk, OnOk, IfSome, IfNone, MatchOption};
-ghost use Rattle.cp_lists.specs.Lists.{item_at};
+ghost use Rattle.cp_lists.specs.Lists.{item_at, IsIn};
 ghost use Rattle.cp_model.specs.Strand.{Role as PlainRole};
 ghost use Rattle.cp_model.specs.Bindings.{Binding};
 ghost use Rattle.cp_model.specs.Skeleton.{instance, Skeleton as PlainSkeleton};
 ghost use Rattle.cp_unify.specs.Bindings.{Meets};
 ghost use Rattle.cp_model.specs.Declares.{HasDeclaredPrefixes};
 ghost use Rattle.cp_strand.specs.View.{instance_view};
-ghost use Rattle.cp_collapse.specs.FirstPartitions.{IsPartitionOfFirst, IsExactFor, EqualAt};
+ghost use Rattle.cp_collapse.specs.FirstPartitions.{IsPartitionOfFirst, AreKeptApart, IsExactFor, EqualAt};
 ghost use Rattle.cp_collapse.specs.Partials.{AreSolved, IsOfNoAssignment, IsExact, ArePartials, ArePartlyExtended, Joins, MayNotJoin};
 ghost use Rattle.cp_collapse.specs.Partitions.{AreOfOneRole, IdentifiesValues, AreDescending};
 ghost use Rattle.cp_collapse.specs.Collapses.{IsNeverIdentified};
+ghost use Rattle.cp_collapse.specs.Property.{Has};
 
 use crate::equal_values::unify_instances;
+use crate::kept_apart::kept_apart;
 use cp_skel::{Instance, Skeleton, Strand, StrandShape, is_same_role};
 use cp_unify::Subst;
 use std::alloc::{AllocError, Global};
@@ -97,7 +99,7 @@ fn unify_block(
         (λ r. IsExactFor (IdentifiesValues k.now (partial.now.lowest.items ++ (block ∷ []))) r.value)) }
 {
     let mut bindings = partial.bindings.clone()?;
-    for strand in 0..partial.lowest.len() {
+    for strand in block..partial.lowest.len() {
         if !is_in_block(partial, strand, block) {
             continue;
         }
@@ -128,6 +130,15 @@ pub(crate) fn is_in_block(partial: &Partial, strand: usize, block: usize) -> boo
     }
 }
 
+/// Whether one of these strands is in the block whose lowest strand is `block`.
+fn some_in_block(partial: &Partial, strands: &[usize], block: usize) -> bool
+    ensures { IsTrue result ↔ Has (λ t. item_at partial.now.lowest.items t ≡ Some block) strands.now }
+{
+    strands
+        .iter()
+        .any(|strand| is_in_block(partial, *strand, block))
+}
+
 /// The partition with one more strand, alone in its block.
 fn alone(alloc: Global, partial: &Partial, number: usize) -> Result<Partial, AllocError>
     ensures { IfOk result (λ q. (k : PlainSkeleton) → IsPartitionOfFirst k number partial.now.lowest.items
@@ -139,18 +150,20 @@ fn alone(alloc: Global, partial: &Partial, number: usize) -> Result<Partial, All
     })
 }
 
-/// The partition after one more strand joins a block, if it may.
+/// The partition after one more strand joins a block, if it may. The order keeps the strand apart from the given ones.
 fn join(
     alloc: Global,
     k: &Skeleton,
     partial: &Partial,
     block: usize,
     number: usize,
+    apart: &[usize],
 ) -> Result<Option<Partial>, AllocError>
     requires declared { HasDeclaredPrefixes k.now }
     requires partition { IsPartitionOfFirst k.now number partial.now.lowest.items }
     requires exact { IsExact k.now partial.now }
     requires earlier { block < number }
+    requires apart { (t : ℕ) → IsIn t apart.now → AreKeptApart k.now.pairs number t }
     ensures { IfOk result (λ found. MatchOption found
         (MayNotJoin k.now number partial.now.lowest.items block)
         (λ q. Joins k.now number partial.now.lowest.items block q)) }
@@ -159,6 +172,9 @@ fn join(
         return Ok(None);
     }
     if !are_of_one_role(k.strands(), number, block) {
+        return Ok(None);
+    }
+    if some_in_block(partial, apart, block) {
         return Ok(None);
     }
     match unify_block(alloc, k, partial, block, number)? {
@@ -177,17 +193,19 @@ fn extend(
     k: &Skeleton,
     partial: &Partial,
     number: usize,
+    apart: &[usize],
     next: &mut Vec<Partial>,
 ) -> Result<(), AllocError>
     requires declared { HasDeclaredPrefixes k.now }
     requires partition { IsPartitionOfFirst k.now number partial.now.lowest.items }
     requires exact { IsExact k.now partial.now }
+    requires apart { (t : ℕ) → IsIn t apart.now → AreKeptApart k.now.pairs number t }
     ensures { OnOk result ((ps : List (List ℕ)) (i : ℕ) → item_at ps i ≡ Some partial.now.lowest.items → AreDescending ps
         → ArePartlyExtended k.now number ps i (number + 1) next.old.items → ArePartlyExtended k.now number ps i 0 next.new.items) }
 {
     next.push(alone(alloc, partial, number)?)?;
     for block in (0..number).rev() {
-        let joined = match join(alloc, k, partial, block, number)? {
+        let joined = match join(alloc, k, partial, block, number, apart)? {
             Some(joined) => joined,
             None => continue,
         };
@@ -207,14 +225,16 @@ fn round(
     requires partials { ArePartials k.now number partials.now }
     ensures { IfOk result (λ next. ArePartials k.now (number + 1) next.items) }
 {
+    let apart = kept_apart(alloc, k.order().pairs(), number)?;
     let mut next = Vec::new(alloc);
     for partial in partials {
-        extend(alloc, k, partial, number, &mut next)?;
+        extend(alloc, k, partial, number, &apart, &mut next)?;
     }
     Ok(next)
 }
 
-/// The partitions of the strands into blocks of instances of one role whose values can be equal, in descending order.
+/// The partitions of the strands into blocks of instances of one role whose values can be equal, in descending order, without
+/// those that make a pair between two strands lie backward.
 pub(crate) fn partitions(alloc: Global, k: &Skeleton) -> Result<Vec<Partial>, AllocError>
     requires { HasDeclaredPrefixes k.now }
     ensures { IfOk result (λ partials. ArePartials k.now (length k.now.strands) partials.items) }

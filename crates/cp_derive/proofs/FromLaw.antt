@@ -29,7 +29,7 @@ at_from k n _ (encrypted x y) = encrypted_at (at_from k n _ x) (at_from k n _ y)
 at_from k n _ (decrypted x y) = decrypted_at (at_from k n _ x) (at_from k n _ y)
 
 -- With no more secrets and no less sent, no less can be derived.
-from_more : (s t : AtomTerm → Type 0) (m n : Term → Type 0) → ((v : AtomTerm) → t v → s v) → ((x : Term) → m x → n x) → (x : Term) → DerivableFrom s m x → DerivableFrom t n x
+pub from_more : (s t : AtomTerm → Type 0) (m n : Term → Type 0) → ((v : AtomTerm) → t v → s v) → ((x : Term) → m x → n x) → (x : Term) → DerivableFrom s m x → DerivableFrom t n x
 from_more s t m n less more _ a_tag = a_tag
 from_more s t m n less more _ (an_atom h) = an_atom (λ i. h (less _ i))
 from_more s t m n less more _ (was_sent h) = was_sent (more _ h)

@@ -1,5 +1,6 @@
 pub mod FromLaw
 pub mod Built
+pub mod AtOnce
 pub mod Listed
 pub mod BuildSteps
 pub mod TermParts

@@ -9,6 +9,7 @@ pub mod Unrealised
 pub mod Transmissions
 pub mod Assumed
 pub mod Before
+pub mod Direct
 pub mod Places
 pub mod Picked
 pub mod AtNode

@@ -1,5 +1,6 @@
 // What the penetrator knows and can derive.
-ghost use Rattle.std.specs.Prelude.{◌≡◌, ◌↔◌, ◌++◌, IsTrue, IfOk};
+ghost use Rattle.std.specs.Prelude.{◌≡◌, ◌↔◌, ◌++◌, List, IsTrue, IfOk};
+ghost use Rattle.cp_model.specs.Term.{Term as Plain};
 ghost use Rattle.cp_derive.specs.Given.{IsDerivable};
 
 use crate::built_terms::builds;
@@ -85,6 +86,13 @@ impl Known {
             opening: _,
         } = self;
         Known::new(alloc, sent, secrets)
+    }
+
+    /// Whether the term can be made from atoms that are not secret, whatever was sent.
+    pub(crate) fn makes(&self, t: &Term) -> bool
+        ensures { IsTrue result → (sent : List Plain) → IsDerivable (record { sent = sent; secrets = self.now.secrets }) t.now }
+    {
+        builds(&self.secrets, &[], t)
     }
 }
 

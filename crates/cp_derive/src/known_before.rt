@@ -1,5 +1,5 @@
 // What is known at one node after another.
-ghost use Rattle.std.specs.Prelude.{◌≡◌, ◌↔◌, IfOk};
+ghost use Rattle.std.specs.Prelude.{◌≡◌, ◌↔◌, IsTrue, IfOk};
 ghost use Rattle.cp_model.specs.Derivable.{DerivableAt};
 ghost use Rattle.cp_model.specs.Skeleton.{IsNodeOf};
 ghost use Rattle.cp_model.specs.Term.{Term as Plain};
@@ -13,6 +13,7 @@ use crate::flags::places_behind;
 use crate::knowledge::Known;
 use crate::survey::Survey;
 use cp_skel::Node;
+use cp_term::Term;
 use std::alloc::{AllocError, Global};
 use std::marker::Model;
 
@@ -73,6 +74,16 @@ impl<'a> KnownBefore<'a> {
         ensures { result.now ≡ given_by self.now.skeleton self.now.places }
     {
         &self.known
+    }
+
+    /// Whether a message is seen to be derivable at a node without gathering what is known there.
+    pub(crate) fn derives_at_once(&self, message: &Term, node: Node) -> bool
+        ensures { IsTrue result → DerivableAt self.now.skeleton node message.now }
+    {
+        if self.survey.is_sent_directly(message, node) {
+            return true;
+        }
+        self.known.makes(message)
     }
 
     /// Moves on to these places; the result may list them in another order. If they contain all the last places, what was opened

@@ -8,6 +8,7 @@ mod at_test;
 mod before;
 mod built_terms;
 mod component;
+mod direct;
 mod flags;
 mod form;
 mod knowledge;

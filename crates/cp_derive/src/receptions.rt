@@ -32,6 +32,9 @@ fn unrealised_between<'a>(
             continue;
         };
         let at = occurrence.node();
+        if known_before.derives_at_once(message, at) {
+            continue;
+        }
         known_before = known_before.move_to(alloc, at)?;
         if buildable(known_before.known(), message) {
             continue;

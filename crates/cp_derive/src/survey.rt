@@ -1,11 +1,14 @@
 // A skeleton and its events, transmissions and pairs.
-ghost use Rattle.std.specs.Prelude.{◌≡◌, IfOk};
+ghost use Rattle.std.specs.Prelude.{◌≡◌, IsTrue, IfOk};
+ghost use Rattle.cp_model.specs.Derivable.{DerivableAt};
 ghost use Rattle.cp_skel.specs.Events.{events_of};
 ghost use Rattle.cp_derive.specs.Before.{ArePlacesBefore, transmissions_of};
 
 use crate::before::places_before;
+use crate::direct::is_sent_directly;
 use crate::transmission::{Transmission, transmissions};
 use cp_skel::{ListedSkeleton, LocatedEvent, Node, Skeleton, SortedPairs};
+use cp_term::Term;
 use std::alloc::{AllocError, Global};
 use std::marker::Model;
 
@@ -84,5 +87,13 @@ impl<'a> Survey<'a> {
         ensures { IfOk result (λ ps. ArePlacesBefore self.now.pairs node (transmissions_of self.now) ps.items) }
     {
         places_before(alloc, &self.sorted, &self.transmissions, node)
+    }
+
+    /// Whether a role strand sends the message at a node from which a pair leads to this one; then it is derivable here.
+    pub(crate) fn is_sent_directly(&self, message: &Term, node: Node) -> bool
+        ensures { IsTrue result → DerivableAt self.now node message.now }
+    {
+        let pairs = self.listed.skeleton().order().pairs();
+        is_sent_directly(&self.transmissions, pairs, message, node)
     }
 }

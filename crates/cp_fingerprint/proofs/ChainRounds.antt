@@ -1,42 +1,15 @@
 -- Weights that are raised along one pair after another.
-use Rattle.std.proofs.Common.{◌≡◌, ◌≢◌, ◌⊎◌, inl, inr, ℕ, zero, suc, ◌+◌, ◌-◌, ◌<◌, ◌≤◌, ◌^◌, Bool, true, false, List, [], ◌∷◌, ◌++◌, length, get_or, set, length-set, take, refl, sym, ap, ◌∙◌, subst, arith, ⊎_elim}
+use Rattle.std.proofs.Common.{◌≡◌, ◌≢◌, ◌⊎◌, inl, inr, ℕ, zero, suc, ◌+◌, ◌-◌, ◌<◌, ◌≤◌, ◌^◌, ◌||◌, Bool, true, false, List, [], ◌∷◌, ◌++◌, length, get_or, set, length-set, take, drop, refl, sym, ap, ◌∙◌, subst, add-one, arith, ⊎_elim}
+use Rattle.std.proofs.Math.Seq.{drop-cons}
 use Rattle.std.proofs.lemmas.Bool.{cases_eq}
-use Rattle.cp_lists.specs.Lists.{IsIn}
-use Rattle.cp_lists.proofs.Members.{item_in, in_pushed, not_in_none}
+use Rattle.cp_lists.specs.Lists.{IsIn, here}
+use Rattle.cp_lists.proofs.Members.{in_cases, in_pushed, not_in_none, only_item}
 use Rattle.cp_model.specs.declared.node.OrderPair.{OrderPair}
 use Rattle.cp_fingerprint.specs.SharedValues.{kept}
-use Rattle.cp_fingerprint.specs.ChainTable.{place_on, place_in, weight_on, weight_in, EndWithin, RisesAlong, Bounds, IsBelow, room, IsRisen, Raises}
-
--- Weights were raised along the pairs behind the rest; unless one rose, they rise along each of these.
-pub record IsRaised (starts : List ℕ) (pairs rest : List OrderPair) (old new : List ℕ) (rose : Bool) : Type 0 where
-  pub risen : IsRisen starts pairs old new
-  pub settled : rose ≡ false → (p : OrderPair) → IsIn p pairs → IsIn p rest ⊎ RisesAlong starts new p
-  pub no_more : room new ≤ room old
-  pub fewer : rose ≡ true → room new < room old
+use Rattle.cp_fingerprint.specs.ChainTable.{place_on, place_in, weight_on, weight_in, EndWithin, RisesAlong, Bounds, IsBelow, room, IsRisen, Raises, Settles}
 
 pub risen_more : (starts : List ℕ) (pairs : List OrderPair) (old mid new : List ℕ) → IsRisen starts pairs old mid → IsRisen starts pairs mid new → IsRisen starts pairs old new
 risen_more starts pairs old mid new g h = record { count = h.count ∙ g.count; below = λ bound bounds b. h.below bound bounds (g.below bound bounds b) }
-
--- ---- the last of the first pairs
-
-last_taken : (ps : List OrderPair) (i : ℕ) (d : OrderPair) → i < length ps → take (suc i) ps ≡ take i ps ++ get_or ps i d ∷ []
-last_taken [] i d l = absurd (omega (arith, l))
-last_taken (p ∷ ps) zero d l = refl
-last_taken (p ∷ ps) (suc i) d l = ap (λ (qs : List OrderPair). p ∷ qs) (last_taken ps i d (omega (arith, l)))
-
-pub last_pair : (ps : List OrderPair) (n : ℕ) (d : OrderPair) → 0 < n → n ≤ length ps → take n ps ≡ take (n - 1) ps ++ get_or ps (n - 1) d ∷ []
-last_pair ps zero d some le = absurd (omega (arith, some))
-last_pair ps (suc i) d some le =
-    let e : i ≡ suc i - 1 = omega arith in
-    last_taken ps i d (omega (arith, le)) ∙ ap (λ (j : ℕ). take j ps ++ get_or ps j d ∷ []) e
-
-pub pair_listed : (ps : List OrderPair) (n : ℕ) (d : OrderPair) → 0 < n → n ≤ length ps → IsIn (get_or ps (n - 1) d) ps
-pair_listed ps n d some le = item_in ps (n - 1) d (omega (arith, some, le))
-
--- The place of its later node is one of the table.
-pub place_there : (starts : List ℕ) (pairs rest : List OrderPair) (p : OrderPair) (old new : List ℕ) (rose : Bool) (place : ℕ) → IsIn p pairs → place ≡ place_in starts p.later → EndWithin (length old) starts pairs →
-    IsRaised starts pairs rest old new rose → place < length new
-place_there starts pairs rest p old new rose place listed at within h = let l = within p listed in let e = h.risen.count in omega (arith, l, e, at)
 
 -- ---- one weight in another's place
 
@@ -63,55 +36,127 @@ weight_below ws bound start n below rises (suc i) le =
     let up = rises i (omega (arith, le)) in
     omega (arith, own, before, up)
 
--- ---- one pair
+-- ---- along one pair
 
-module _ (starts : List ℕ) (pairs rest before : List OrderPair) (p : OrderPair) (old new : List ℕ) (rose : Bool) (last : rest ≡ before ++ p ∷ []) (so_far : IsRaised starts pairs rest old new rose) where
-  last_or_before : (q : OrderPair) → IsIn q rest → IsIn q before ⊎ (p ≡ q)
-  last_or_before q m = in_pushed before p q (subst (IsIn q) last m)
-
-  -- Where the weights rise along the pair, none is raised.
-  pub pair_passed : RisesAlong starts new p → IsRaised starts pairs before old new rose
-  pair_passed le = record {
-    risen = so_far.risen;
-    settled = λ n q m. ⊎_elim (λ left. ⊎_elim inl (λ e. inr (subst (RisesAlong starts new) e le)) (last_or_before q left)) inr (so_far.settled n q m);
-    no_more = so_far.no_more;
-    fewer = so_far.fewer;
+module _ (starts : List ℕ) (p : OrderPair) (ws : List ℕ) where
+  -- Where the weights rise along it none is raised.
+  pub not_raised : RisesAlong starts ws p → Raises starts (p ∷ []) ws ws false
+  not_raised le = record {
+    risen = record { count = refl; below = λ bound bounds b. b };
+    settled = λ e q m. subst (RisesAlong starts ws) (sym (only_item m)) le;
+    same = λ e. refl;
+    fewer = λ e. absurd (cc);
   }
 
-  module _ (listed : IsIn p pairs) (weight place : ℕ) (is : weight ≡ kept (weight_in starts new p.earlier + 1)) (at : place ≡ place_in starts p.later) (there_is : place < length new) (less : get_or new place 0 < weight) where
+  module _ (weight place : ℕ) (is : weight ≡ kept (weight_in starts ws p.earlier + 1)) (at : place ≡ place_in starts p.later) (there_is : place < length ws) (less : get_or ws place 0 < weight) where
     abbrev raised : List ℕ
-    raised = set new place weight
+    raised = set ws place weight
 
-    stays_below : (bound : ℕ → ℕ) → ((q : OrderPair) → IsIn q pairs → Bounds starts bound q) → IsBelow old bound → IsBelow raised bound
-    stays_below bound bounds h n = by (get_set new place weight n there_is (cases_eq place n))
+    stays_below : (bound : ℕ → ℕ) → ((q : OrderPair) → IsIn q (p ∷ []) → Bounds starts bound q) → IsBelow ws bound → IsBelow raised bound
+    stays_below bound bounds below n = by (get_set ws place weight n there_is (cases_eq place n))
       where
-        below : IsBelow new bound
-        below = so_far.risen.below bound bounds h
-
-        by : ((place ≡ n) × (get_or raised n 0 ≡ weight)) ⊎ (get_or raised n 0 ≡ get_or new n 0) → get_or raised n 0 ≤ bound n
+        by : ((place ≡ n) × (get_or raised n 0 ≡ weight)) ⊎ (get_or raised n 0 ≡ get_or ws n 0) → get_or raised n 0 ≤ bound n
         by (inl q) =
             let e : get_or raised n 0 ≡ weight = q.1 in
-            let own = weight_below new bound (get_or starts p.earlier.strand 0) p.earlier.index below (bounds p listed).along_strand p.earlier.index (omega arith) in
-            let up = (bounds p listed).along_pair in
+            let own = weight_below ws bound (get_or starts p.earlier.strand 0) p.earlier.index below (bounds p here).along_strand p.earlier.index (omega arith) in
+            let up = (bounds p here).along_pair in
             let here_is : bound (place_in starts p.later) ≡ bound n = ap bound (sym at ∙ q.0) in
             omega (arith, e, is, up, own, here_is)
-        by (inr e) = let own : get_or new n 0 ≤ bound n = below n in omega (arith, e, own)
+        by (inr e) = let own : get_or ws n 0 ≤ bound n = below n in omega (arith, e, own)
 
     -- Elsewhere the weight at the place of its later node is raised.
-    pub pair_raised : IsRaised starts pairs before old raised true
-    pair_raised =
-        let fall : room raised < room new = set_room new place weight there_is less (omega (arith, is)) in
-        let no_more : room new ≤ room old = so_far.no_more in
-        record {
-          risen = record { count = length-set new place weight ∙ so_far.risen.count; below = stays_below };
-          settled = λ e. absurd (cc);
-          no_more = omega (arith, fall, no_more);
-          fewer = λ e. omega (arith, fall, no_more);
-        }
+    pub is_raised : Raises starts (p ∷ []) ws raised true
+    is_raised = record {
+      risen = record { count = length-set ws place weight; below = stays_below };
+      settled = λ e. absurd (cc);
+      same = λ e. absurd (cc);
+      fewer = λ e. set_room ws place weight there_is less (omega (arith, is));
+    }
 
-pub all_raised : (starts : List ℕ) (pairs rest : List OrderPair) (old new : List ℕ) (rose : Bool) → rest ≡ [] → IsRaised starts pairs rest old new rose → Raises starts pairs old new rose
+-- ---- along one pair after another
+
+-- Weights were raised along the pairs but for the rest; unless one rose, they stayed the same, and rise along each of these.
+pub record RaisesBut (starts : List ℕ) (pairs rest : List OrderPair) (old new : List ℕ) (rose : Bool) : Type 0 where
+  pub risen : IsRisen starts pairs old new
+  pub settled : rose ≡ false → (p : OrderPair) → IsIn p pairs → IsIn p rest ⊎ RisesAlong starts new p
+  pub same : rose ≡ false → new ≡ old
+  pub no_more : room new ≤ room old
+  pub fewer : rose ≡ true → room new < room old
+
+pub none_raised : (starts : List ℕ) (pairs : List OrderPair) (old : List ℕ) → RaisesBut starts pairs pairs old old false
+none_raised starts pairs old = record {
+  risen = record { count = refl; below = λ bound bounds b. b };
+  settled = λ e p i. inl i;
+  same = λ e. refl;
+  no_more = omega arith;
+  fewer = λ e. absurd (cc);
+}
+
+-- The place of a pair's later node is one of the table.
+pub place_there : (starts : List ℕ) (pairs rest : List OrderPair) (p : OrderPair) (old new : List ℕ) (rose : Bool) → IsIn p pairs → EndWithin (length old) starts pairs → RaisesBut starts pairs rest old new rose → place_in starts p.later < length new
+place_there starts pairs rest p old new rose listed within h = let l = within p listed in let e = h.risen.count in omega (arith, l, e)
+
+neither : (a b : Bool) → (a || b) ≡ false → (a ≡ false) × (b ≡ false)
+neither true b e = absurd (cc)
+neither false b e = (refl, e)
+
+either : (a b : Bool) → (a || b) ≡ true → (a ≡ true) ⊎ (b ≡ true)
+either true b e = inl refl
+either false b e = inr e
+
+never_more : (starts : List ℕ) (pairs : List OrderPair) (old new : List ℕ) (rose : Bool) → Raises starts pairs old new rose → room new ≤ room old
+never_more starts pairs old new true h = let l = h.fewer refl in omega (arith, l)
+never_more starts pairs old new false h = let e : room new ≡ room old = ap room (h.same refl) in omega (arith, e)
+
+-- One of the rest is taken.
+pub one_raised : (starts : List ℕ) (pairs rest left : List OrderPair) (p : OrderPair) (old mid new : List ℕ) (rose more : Bool) → ((q : OrderPair) → IsIn q rest → IsIn q left ⊎ (p ≡ q)) → IsIn p pairs →
+    RaisesBut starts pairs rest old mid rose → Raises starts (p ∷ []) mid new more → RaisesBut starts pairs left old new (rose || more)
+one_raised starts pairs rest left p old mid new rose more others listed h r = record {
+  risen = record {
+    count = r.risen.count ∙ h.risen.count;
+    below = λ bound bounds b. r.risen.below bound (λ q m. subst (Bounds starts bound) (sym (only_item m)) (bounds p listed)) (h.risen.below bound bounds b);
+  };
+  settled = λ e q m.
+      let n = neither rose more e in
+      ⊎_elim (λ there_is. ⊎_elim inl (λ s. inr (subst (RisesAlong starts new) s (r.settled n.1 p here))) (others q there_is)) (λ rises. inr (subst (λ (ws : List ℕ). RisesAlong starts ws q) (sym (r.same n.1)) rises)) (h.settled n.0 q m);
+  same = λ e. let n = neither rose more e in r.same n.1 ∙ h.same n.0;
+  no_more = let l = h.no_more in let m = never_more starts (p ∷ []) mid new more r in omega (arith, l, m);
+  fewer = λ e.
+      let l = h.no_more in
+      let m = never_more starts (p ∷ []) mid new more r in
+      ⊎_elim (λ t. let less = h.fewer t in omega (arith, less, m)) (λ t. let less = r.fewer t in omega (arith, less, l)) (either rose more e);
+}
+
+pub all_raised : (starts : List ℕ) (pairs rest : List OrderPair) (old new : List ℕ) (rose : Bool) → rest ≡ [] → RaisesBut starts pairs rest old new rose → Raises starts pairs old new rose
 all_raised starts pairs rest old new rose none h = record {
   risen = h.risen;
   settled = λ e p m. ⊎_elim (λ left. absurd (not_in_none (subst (IsIn p) none left))) (λ r. r) (h.settled e p m);
+  same = h.same;
   fewer = h.fewer;
 }
+
+-- ---- which of the rest is taken
+
+-- What is read past the end.
+abbrev pub no_pair : OrderPair
+no_pair = record { earlier = record { strand = 0; index = 0 }; later = record { strand = 0; index = 0 } }
+
+pub first_or_rest : (ps : List OrderPair) (i : ℕ) (d q : OrderPair) → i < length ps → IsIn q (drop i ps) → IsIn q (drop (i + 1) ps) ⊎ (get_or ps i d ≡ q)
+first_or_rest ps i d q l m =
+    let e : drop i ps ≡ get_or ps i d ∷ drop (i + 1) ps = drop-cons ps i d l ∙ ap (λ (n : ℕ). get_or ps i d ∷ drop n ps) (sym (add-one i)) in
+    ⊎_elim inr inl (in_cases (subst (IsIn q) e m))
+
+last_taken : (ps : List OrderPair) (i : ℕ) (d : OrderPair) → i < length ps → take (suc i) ps ≡ take i ps ++ get_or ps i d ∷ []
+last_taken [] i d l = absurd (omega (arith, l))
+last_taken (p ∷ ps) zero d l = refl
+last_taken (p ∷ ps) (suc i) d l = ap (λ (qs : List OrderPair). p ∷ qs) (last_taken ps i d (omega (arith, l)))
+
+pub last_or_rest : (ps : List OrderPair) (n : ℕ) (d q : OrderPair) → 0 < n → n ≤ length ps → IsIn q (take n ps) → IsIn q (take (n - 1) ps) ⊎ (get_or ps (n - 1) d ≡ q)
+last_or_rest ps n d q some le m =
+    let e : suc (n - 1) ≡ n = omega (arith, some) in
+    in_pushed (take (n - 1) ps) (get_or ps (n - 1) d) q (subst (IsIn q) (ap (λ (j : ℕ). take j ps) (sym e) ∙ last_taken ps (n - 1) d (omega (arith, some, le))) m)
+
+-- ---- one round after another
+
+pub settled_by : (starts : List ℕ) (pairs : List OrderPair) (old mid new : List ℕ) (rose : Bool) → rose ≡ false → IsRisen starts pairs old mid → Raises starts pairs mid new rose → Settles starts pairs old new
+settled_by starts pairs old mid new rose none h r = record { risen = risen_more starts pairs old mid new h r.risen; settled = r.settled none }

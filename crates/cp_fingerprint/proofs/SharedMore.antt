@@ -18,10 +18,10 @@ use Rattle.cp_model.proofs.LawTerms.{term_composed}
 use Rattle.cp_model.proofs.LawPrefixes.{variables_of_higher}
 use Rattle.cp_model.proofs.SameTests.{variable_in, in_has_variable}
 use Rattle.cp_term.proofs.SameTerms.{same_Decides}
-use Rattle.cp_fingerprint.specs.SharedValues.{place_weight, text_number, value_slots, declared_variable, declared_slots, strand_slots, strung, slots_of, listened, heard_weight, kept, weight_from, named_from, value_weight, part_of, share_from, squared, squares_from, bucket_key_of}
+use Rattle.cp_fingerprint.specs.SharedValues.{place_weight, text_number, value_slots, declared_variable, declared_slots, strand_slots, strung, slots_of, listened, heard_weight, kept, weight_from, named_from, value_weight, part_of, share_from, squared, square_share, turned, light_share, added_from, bucket_key_of, light_share_of}
 use Rattle.cp_fingerprint.specs.Slots.{Slot}
 use Rattle.cp_fingerprint.proofs.Listened.{heard_more, heard_within}
-use Rattle.cp_fingerprint.proofs.StrandSums.{sum_of, sum_append, total_map, GoesToMore, GoApart, no_more_in_all}
+use Rattle.cp_fingerprint.proofs.StrandSums.{sum_of, sum_append, sum_map, total_map, GoesToMore, GoApart, no_more_in_all}
 
 -- ---- numbers that are kept within a bound
 
@@ -160,18 +160,31 @@ share_within es all xs =
 abbrev square_of : List (Event Term) → List Slot → List Slot → ℕ
 square_of es all xs = squared (kept (sum_of (part_of es all) xs))
 
-squares_are : (n : ℕ) (es : List (Event Term)) (all : List Slot) (ss : List SkeletonStrand) →
-    squares_from n es all (map strand_slots ss) ≡ bounded_from bound (λ s. square_of es all (strand_slots s)) n ss
-squares_are n es all [] = refl
-squares_are n es all (s ∷ ss) =
-    ap (λ (k : ℕ). squares_from (kept (n + squared k)) es all (map strand_slots ss)) (share_sum es all (strand_slots s))
-    ∙ squares_are (kept (n + square_of es all (strand_slots s))) es all ss
+-- What these places share, light ones counting for more.
+abbrev light_of : List (Event Term) → List Slot → List Slot → ℕ
+light_of es all xs = kept (sum_of (λ x. part_of es all (turned x)) xs)
+
+light_sum : (es : List (Event Term)) (all xs : List Slot) → light_share es all xs ≡ light_of es all xs
+light_sum es all xs = share_sum es all (map turned xs) ∙ ap kept (sum_map (part_of es all) turned xs)
+
+-- Numbers of strands, added up.
+module _ (f g : List Slot → ℕ) (same : (xs : List Slot) → f xs ≡ g xs) where
+  added_are : (n : ℕ) (ss : List SkeletonStrand) → added_from f n (map strand_slots ss) ≡ bounded_from bound (λ s. g (strand_slots s)) n ss
+  added_are n [] = refl
+  added_are n (s ∷ ss) = ap (λ (k : ℕ). added_from f (kept (n + k)) (map strand_slots ss)) (same (strand_slots s)) ∙ added_are (kept (n + g (strand_slots s))) ss
+
+  added_sum : (n : ℕ) (ss : List SkeletonStrand) → n ≤ bound → added_from f n (map strand_slots ss) ≡ kept (n + sum_of (λ s. g (strand_slots s)) ss)
+  added_sum n ss l =
+      added_are n ss
+      ∙ (sym (min-eq_left (bounded_within bound (λ s. g (strand_slots s)) n ss l)) ∙ bounded_is bound (λ s. g (strand_slots s)) n ss)
 
 squares_sum : (n : ℕ) (es : List (Event Term)) (all : List Slot) (ss : List SkeletonStrand) → n ≤ bound →
-    squares_from n es all (map strand_slots ss) ≡ kept (n + sum_of (λ s. square_of es all (strand_slots s)) ss)
-squares_sum n es all ss l =
-    squares_are n es all ss
-    ∙ (sym (min-eq_left (bounded_within bound (λ s. square_of es all (strand_slots s)) n ss l)) ∙ bounded_is bound (λ s. square_of es all (strand_slots s)) n ss)
+    added_from (square_share es all) n (map strand_slots ss) ≡ kept (n + sum_of (λ s. square_of es all (strand_slots s)) ss)
+squares_sum n es all ss l = added_sum (square_share es all) (square_of es all) (λ xs. ap squared (share_sum es all xs)) n ss l
+
+lights_sum : (es : List (Event Term)) (all : List Slot) (ss : List SkeletonStrand) →
+    added_from (light_share es all) 0 (map strand_slots ss) ≡ kept (0 + sum_of (λ s. light_of es all (strand_slots s)) ss)
+lights_sum es all ss = added_sum (light_share es all) (light_of es all) (light_sum es all) 0 ss (omega arith)
 
 squared_no_more : (m n : ℕ) → m ≤ n → squared (kept m) ≤ squared (kept n)
 squared_no_more m n l =
@@ -370,6 +383,25 @@ module _ (a b : Skeleton) (f : SkeletonMap) (emb : IsEmbedding a b f) where
       (sym (squares_sum values_there (listened b.strands) (slots_of b) b.strands (share_within (listened b.strands) (slots_of b) (value_slots 0 b.from_problem.values))))
       (min_no_more bound (values_here + squares_here) (values_there + squares_there) (let l : values_here + squares_here ≤ values_there + squares_there = omega (arith, first, rest) in l))
 
+  abbrev lights_here : ℕ
+  lights_here = sum_of (λ s. light_of (listened a.strands) (slots_of a) (strand_slots s)) a.strands
+
+  abbrev lights_there : ℕ
+  lights_there = sum_of (λ s. light_of (listened b.strands) (slots_of b) (strand_slots s)) b.strands
+
+  lights_less : lights_here ≤ lights_there
+  lights_less = strands_more f (λ x. part_here (turned x)) (λ x. part_there (turned x)) (λ x. part_more (turned x)) a b emb kept refl (λ m n l. min_no_more bound m n l)
+
+  light_share_kept : light_share_of a ≤ light_share_of b
+  light_share_kept =
+      let less = lights_less in
+      subst₂ (λ (m n : ℕ). m ≤ n) (sym (lights_sum (listened a.strands) (slots_of a) a.strands)) (sym (lights_sum (listened b.strands) (slots_of b) b.strands))
+      (min_no_more bound (0 + lights_here) (0 + lights_there) (let l : 0 + lights_here ≤ 0 + lights_there = omega (arith, less) in l))
+
 -- A skeleton that embeds in another shares no more.
 pub embedded_shares_less : (a b : Skeleton) → Embeds a b → bucket_key_of a ≤ bucket_key_of b
 embedded_shares_less a b h = bucket_key_kept a b h.0 h.1
+
+-- Nor where light places count for more.
+pub embedded_shares_lightly_less : (a b : Skeleton) → Embeds a b → light_share_of a ≤ light_share_of b
+embedded_shares_lightly_less a b h = light_share_kept a b h.0 h.1

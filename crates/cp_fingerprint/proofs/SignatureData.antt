@@ -1,5 +1,5 @@
 -- What signatures tell of skeletons.
-use Rattle.std.proofs.Common.{◌≡◌, ◌↔◌, ◌⊎◌, ◌≤◌, ℕ, Bool, true, false, ap, subst₂, arith}
+use Rattle.std.proofs.Common.{◌≡◌, ◌↔◌, ◌⊎◌, ◌<◌, ◌≤◌, ℕ, Bool, true, false, ap, subst₂, arith}
 use Rattle.cp_model.specs.Skeleton.{Skeleton}
 use Rattle.cp_model.specs.Homomorphism.{Embeds}
 use Rattle.cp_fingerprint.specs.Isomorphic.{IsIsomorphic}
@@ -8,12 +8,12 @@ use Rattle.cp_fingerprint.specs.Fingerprints.{HaveNoMore}
 use Rattle.cp_fingerprint.specs.Signatures.{SignatureData, signature_of, MayEmbed}
 use Rattle.cp_fingerprint.proofs.Signatures.{same_partition}
 use Rattle.cp_fingerprint.proofs.NoMore.{embedded_has_no_more}
-use Rattle.cp_fingerprint.proofs.SharedMore.{embedded_shares_less}
+use Rattle.cp_fingerprint.proofs.SharedMore.{embedded_shares_less, embedded_shares_lightly_less}
 use Rattle.cp_fingerprint.proofs.HeaviestChains.{chains_kept}
 
 -- A skeleton that embeds in another may do so by their signatures.
 pub embedded_may_embed : (a b : Skeleton) → Embeds a b → MayEmbed (signature_of a) (signature_of b)
-embedded_may_embed a b h = record { fingerprint = embedded_has_no_more a b h; partition = same_partition a b h; bucket_key = embedded_shares_less a b h; chains = chains_kept a b h }
+embedded_may_embed a b h = record { fingerprint = embedded_has_no_more a b h; partition = same_partition a b h; bucket_key = embedded_shares_less a b h; light_share = embedded_shares_lightly_less a b h; chains = chains_kept a b h }
 
 -- ---- one skeleton in the other
 
@@ -29,10 +29,15 @@ embed_told x y v w flag x_is y_is exact = (told, λ a b a_is b_is h. told.1 (sub
 pub never_embeds : (x y : SignatureData) → (MayEmbed x y → ⊥) → (false ≡ true) ↔ MayEmbed x y
 never_embeds x y apart = (λ t. absurd (let b : false ≡ true = t in cc), λ h. absurd (apart h))
 
--- The partitions are left to be compared.
-pub by_partition : (x y : SignatureData) (flag : Bool) → HaveNoMore x.fingerprint y.fingerprint → x.bucket_key ≤ y.bucket_key → x.chains ≤ y.chains →
-    (flag ≡ true) ↔ ((is_whole x.partition ≡ false) ⊎ (x.partition ≡ y.partition)) → (flag ≡ true) ↔ MayEmbed x y
-by_partition x y flag fewer less lighter told = (λ t. record { fingerprint = fewer; partition = told.0 t; bucket_key = less; chains = lighter }, λ h. told.1 h.partition)
+-- The answer is no where a number is greater that no embedding makes smaller.
+pub more_forbids : (number : SignatureData → ℕ) → ((s t : SignatureData) → MayEmbed s t → number s ≤ number t) → (x y v w : SignatureData) → x ≡ v → y ≡ w → number y < number x →
+    ((false ≡ true) ↔ MayEmbed v w) × ((a b : Skeleton) → signature_of a ≡ v → signature_of b ≡ w → Embeds a b → false ≡ true)
+more_forbids number kept x y v w x_is y_is more = embed_told x y v w false x_is y_is (never_embeds x y (λ h. let less : number x ≤ number y = kept x y h in omega (arith, less, more)))
+
+-- The fingerprints are left to be compared.
+pub by_fingerprint : (x y : SignatureData) (flag : Bool) → x.bucket_key ≤ y.bucket_key → x.light_share ≤ y.light_share → x.chains ≤ y.chains →
+    (is_whole x.partition ≡ false) ⊎ (x.partition ≡ y.partition) → (flag ≡ true) ↔ HaveNoMore x.fingerprint y.fingerprint → (flag ≡ true) ↔ MayEmbed x y
+by_fingerprint x y flag less lightly lighter same told = (λ t. record { fingerprint = told.0 t; partition = same; bucket_key = less; light_share = lightly; chains = lighter }, λ h. told.1 h.fingerprint)
 
 -- ---- each in the other
 

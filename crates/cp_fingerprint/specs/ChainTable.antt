@@ -70,10 +70,11 @@ pub record IsRisen (starts : List ℕ) (pairs : List OrderPair) (old new : List 
 abbrev pub AreSettled : List ℕ → List OrderPair → List ℕ → Type 0
 AreSettled starts pairs ws = (p : OrderPair) → IsIn p pairs → RisesAlong starts ws p
 
--- Weights were raised along the pairs, unless they rise along all of them already.
+-- Weights were raised along the pairs, unless they rise along all of them already and stay the same.
 pub record Raises (starts : List ℕ) (pairs : List OrderPair) (old new : List ℕ) (rose : Bool) : Type 0 where
   pub risen : IsRisen starts pairs old new
   pub settled : rose ≡ false → AreSettled starts pairs new
+  pub same : rose ≡ false → new ≡ old
   pub fewer : rose ≡ true → room new < room old
 
 -- The weights were raised until they rise along all pairs.

@@ -1,4 +1,5 @@
--- The bucket key: a number that tells how the role strands of a skeleton share values. No embedding makes it smaller.
+-- The bucket key and the light share: two numbers that tell how the role strands of a skeleton share values. No embedding makes either
+-- smaller.
 use Rattle.std.specs.Prelude.{◌+◌, ◌-◌, ◌*◌, ◌%◌, ◌^◌, ℕ, suc, Bool, true, List, [], ◌∷◌, ◌++◌, min, map, if◌then◌else◌, Vec}
 use Rattle.cp_model.specs.Term.{skey_variable, ltk_term, pubk_term, symmetric_term, asymmetric_term, text_variable, datum_variable, name_variable, key_term, Term, tag_term, atom_term, pair_term, enc_term, Substitution, apply_to, variable_term}
 use Rattle.cp_model.specs.Bindings.{as_substitution}
@@ -120,10 +121,22 @@ share_from n es all (x ∷ xs) = share_from (kept (n + part_of es all x)) es all
 abbrev pub squared : ℕ → ℕ
 squared n = kept (n * n)
 
--- With n, for each of these lists how much its places share with all places, squared, added up.
-abbrev pub squares_from : ℕ → List (Event Term) → List Slot → List (List Slot) → ℕ
-squares_from n es all [] = n
-squares_from n es all (xs ∷ xss) = squares_from (kept (n + squared (share_from 0 es all xs))) es all xss
+-- How much these places share with all places, squared.
+abbrev pub square_share : List (Event Term) → List Slot → List Slot → ℕ
+square_share es all xs = squared (share_from 0 es all xs)
+
+-- The place, which weighs the more the less it did.
+abbrev pub turned : Slot → Slot
+turned x = record { weight = 4093 - x.weight; value = x.value }
+
+-- How much these places share with all places, if light ones count for more.
+abbrev pub light_share : List (Event Term) → List Slot → List Slot → ℕ
+light_share es all xs = share_from 0 es all (map turned xs)
+
+-- With n, a number for each of these lists, added up.
+abbrev pub added_from : (List Slot → ℕ) → ℕ → List (List Slot) → ℕ
+added_from f n [] = n
+added_from f n (xs ∷ xss) = added_from f (kept (n + f xs)) xss
 
 -- How much the places of the problem's variables share, and for each role strand how much its own places share, squared, all
 -- added up. A plain sum would be the same however the places that share are spread over the strands.
@@ -131,4 +144,9 @@ abbrev pub bucket_key_of : Skeleton → ℕ
 bucket_key_of k =
     let es = listened k.strands in
     let all = slots_of k in
-    squares_from (share_from 0 es all (value_slots 0 k.from_problem.values)) es all (map strand_slots k.strands)
+    added_from (square_share es all) (share_from 0 es all (value_slots 0 k.from_problem.values)) (map strand_slots k.strands)
+
+-- For each role strand how much its own places share, light ones counting for more, all added up. Of two skeletons in which the same
+-- values stand at other places, one may have the greater bucket key; the other mostly has the greater light share.
+abbrev pub light_share_of : Skeleton → ℕ
+light_share_of k = added_from (light_share (listened k.strands) (slots_of k)) 0 (map strand_slots k.strands)

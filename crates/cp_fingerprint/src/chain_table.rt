@@ -1,6 +1,6 @@
 // A table of the nodes of a skeleton, in which the weights of heaviest chains are found. A number in it counts for the nodes behind it
 // on its strand too, for each one more than for the node before. The sums saturate.
-ghost use Rattle.std.specs.Prelude.{◌≡◌, length, get_or, IfOk};
+ghost use Rattle.std.specs.Prelude.{◌≡◌, ◌<◌, [], ◌∷◌, length, get_or, IfOk};
 ghost use Rattle.cp_fingerprint.specs.ChainTable.{places_on, starts_from, place_in, next_weight, weight_on, weight_in, EndWithin, Raises, Settles, weights_on, weights_of, weights_from};
 
 use cp_base::Growing;
@@ -73,33 +73,59 @@ fn weight_in(starts: &[usize], weights: &[usize], node: Node) -> usize
     weight_on(weights, number_at(starts, node.strand), node.index)
 }
 
-/// One round: each pair raises what stands at the place of its later node to one more than the weight of the earlier one, if it is
-/// less. Tells whether anything rose. The last pair comes first: a strand that is added mostly comes before those that were there.
-fn raise(starts: &[usize], pairs: &[OrderPair], weights: &mut [usize]) -> bool
+/// Raises what stands at the place of the pair's later node to one more than the weight of the earlier one, if it is less. Tells whether
+/// it rose.
+fn raise_along(starts: &[usize], pair: OrderPair, weights: &mut [usize]) -> bool
+    requires within { place_in starts.now pair.later < length weights.old }
+    ensures { Raises starts.now (pair ∷ []) weights.old weights.new result }
+{
+    let weight = weight_in(starts, weights, pair.earlier).saturating_add(1);
+    let place = place_in(starts, pair.later);
+    if number_at(weights, place) >= weight {
+        return false;
+    }
+    weights[place] = weight;
+    true
+}
+
+/// Raises the weights along the pairs, from the first to the last. Tells whether one rose.
+fn raise_onward(starts: &[usize], pairs: &[OrderPair], weights: &mut [usize]) -> bool
+    requires within { EndWithin (length weights.old) starts.now pairs.now }
+    ensures { Raises starts.now pairs.now weights.old weights.new result }
+{
+    let mut rose = false;
+    for pair in pairs {
+        rose |= raise_along(starts, *pair, weights);
+    }
+    rose
+}
+
+/// Raises the weights along the pairs, from the last to the first. Tells whether one rose.
+fn raise_back(starts: &[usize], pairs: &[OrderPair], weights: &mut [usize]) -> bool
     requires within { EndWithin (length weights.old) starts.now pairs.now }
     ensures { Raises starts.now pairs.now weights.old weights.new result }
 {
     let mut rose = false;
     for number in (0..pairs.len()).rev() {
-        let pair = pairs[number];
-        let weight = weight_in(starts, weights, pair.earlier).saturating_add(1);
-        let place = place_in(starts, pair.later);
-        if number_at(weights, place) >= weight {
-            continue;
-        }
-        weights[place] = weight;
-        rose = true;
+        rose |= raise_along(starts, pairs[number], weights);
     }
     rose
 }
 
-/// Raises the weights along all pairs until none rises. Where the order has no cycle this takes one round more than a chain has pairs,
-/// at most.
+/// Raises the weights along all pairs until none rises. Pairs mostly stand in the order of their nodes, or, where strands were added for
+/// what comes before others, in the opposite one; either way few rounds suffice.
 pub(crate) fn settle(starts: &[usize], pairs: &[OrderPair], weights: &mut [usize])
     requires within { EndWithin (length weights.old) starts.now pairs.now }
     ensures { Settles starts.now pairs.now weights.old weights.new }
 {
-    while raise(starts, pairs, weights) {}
+    loop {
+        if !raise_back(starts, pairs, weights) {
+            return;
+        }
+        if !raise_onward(starts, pairs, weights) {
+            return;
+        }
+    }
 }
 
 /// The sum `first` plus so many weights, from the place `start` on.

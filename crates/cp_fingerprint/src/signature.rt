@@ -8,20 +8,22 @@ ghost use Rattle.cp_fingerprint.specs.Isomorphic.{IsIsomorphic};
 use crate::chains::chains_of;
 use crate::fingerprints::{fingerprint, may_embed};
 use crate::partition::Partition;
-use crate::shared_values::bucket_key_of;
+use crate::shared_values::share_numbers;
 use crate::sorted_heights::Fingerprint;
 use cp_skel::Skeleton;
 use std::alloc::{AllocError, Global};
 use std::marker::Model;
 
-/// What an embedding must respect of a skeleton: its fingerprint; the partition of its problem's strands; and two numbers that no
+/// What an embedding must respect of a skeleton: its fingerprint; the partition of its problem's strands; and three numbers that no
 /// embedding makes smaller. The bucket key counts what each role strand shares by itself, so it tells most skeletons apart at once;
-/// the other is for their orders, the sum of the weights of the heaviest chains of nodes that lead to the nodes of role strands.
+/// the light share grows where it falls, if the same values stand at other places; and the third is for their orders, the sum of the
+/// weights of the heaviest chains of nodes that lead to the nodes of role strands.
 #[derive(Drop)]
 pub struct Signature {
     fingerprint: Fingerprint,
     partition: Partition,
     bucket_key: usize,
+    light_share: usize,
     chains: usize,
 }
 
@@ -32,7 +34,7 @@ impl Model for Signature {
 
     ghost coded = { coded_signature };
 
-    ghost view = { λ f. record { fingerprint = f.fingerprint; partition = f.partition; bucket_key = f.bucket_key; chains = f.chains } };
+    ghost view = { λ f. record { fingerprint = f.fingerprint; partition = f.partition; bucket_key = f.bucket_key; light_share = f.light_share; chains = f.chains } };
 }
 
 impl Signature {
@@ -40,10 +42,12 @@ impl Signature {
     pub fn of(alloc: Global, k: &Skeleton) -> Result<Signature, AllocError>
         ensures exact { IfOk result (λ f. f ≡ signature_of k.now) }
     {
+        let shared = share_numbers(alloc, k)?;
         Ok(Signature {
             fingerprint: fingerprint(alloc, k)?,
             partition: Partition::of(alloc, k)?,
-            bucket_key: bucket_key_of(alloc, k)?,
+            bucket_key: shared.bucket_key,
+            light_share: shared.light_share,
             chains: chains_of(alloc, k)?,
         })
     }
@@ -60,16 +64,19 @@ impl Signature {
         ensures exact { IsTrue result ↔ MayEmbed self.now other.now }
         ensures kept { (a b : model.Skeleton) → signature_of a ≡ self.now → signature_of b ≡ other.now → Embeds a b → IsTrue result }
     {
-        if !may_embed(&self.fingerprint, &other.fingerprint) {
+        if self.bucket_key > other.bucket_key {
             return false;
         }
-        if self.bucket_key > other.bucket_key {
+        if self.light_share > other.light_share {
             return false;
         }
         if self.chains > other.chains {
             return false;
         }
-        self.partition.may_embed(&other.partition)
+        if !self.partition.may_embed(&other.partition) {
+            return false;
+        }
+        may_embed(&self.fingerprint, &other.fingerprint)
     }
 
     /// Fast test: false only if no skeleton with this signature is isomorphic to one with the other. True if each may embed in
@@ -78,9 +85,6 @@ impl Signature {
         ensures exact { IsTrue result ↔ (MayEmbed self.now other.now × MayEmbed other.now self.now) }
         ensures kept { (a b : model.Skeleton) → signature_of a ≡ self.now → signature_of b ≡ other.now → IsIsomorphic a b → IsTrue result }
     {
-        if self.bucket_key != other.bucket_key {
-            return false;
-        }
         if self.chains != other.chains {
             return false;
         }

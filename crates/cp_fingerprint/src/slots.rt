@@ -1,5 +1,5 @@
 // The values that role strands share, each with the weight of its place.
-ghost use Rattle.std.specs.Prelude.{◌≡◌, ◌↔◌, map, IsTrue, IfOk};
+ghost use Rattle.std.specs.Prelude.{◌≡◌, ◌↔◌, ◌-◌, map, IsTrue, IfOk};
 ghost use Rattle.cp_model.specs.Homomorphism.{substitution_by};
 ghost use Rattle.cp_fingerprint.specs.Slots.{slot_key};
 ghost use Rattle.cp_fingerprint.specs.SharedValues.{text_number, place_weight, value_slots, prefix_slots, strand_slots, lists_of};
@@ -61,6 +61,13 @@ impl Slot {
         ensures { result ≡ self.now.weight }
     {
         self.weight
+    }
+
+    /// A weight that is the less the more the place weighs.
+    pub(crate) fn lightness(&self) -> usize
+        ensures { result ≡ 4093 - self.now.weight }
+    {
+        4093usize.saturating_sub(self.weight)
     }
 
     /// The value.

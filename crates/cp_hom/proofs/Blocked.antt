@@ -6,8 +6,7 @@ use Rattle.cp_lists.proofs.Members.{drop_read}
 use Rattle.cp_model.specs.Skeleton.{SkeletonStrand, Skeleton}
 use Rattle.cp_model.specs.Homomorphism.{SkeletonMap}
 use Rattle.cp_hom.specs.PartialMaps.{PartialMap, partial_view, Places, IsExtended, IsOfNoExtension, FindsMaps}
-use Rattle.cp_hom.specs.Counterparts.{TakesAs, TakesItem, IsRoleStrand, KeepsApart, HoldsImage, IsTaken, IsBlocked, IsPlacedElsewhere, KeepsPairs, KeepsOrderApart}
-use Rattle.cp_hom.proofs.Images.{goes_there}
+use Rattle.cp_hom.specs.Counterparts.{TakesAs, TakesItem, IsRoleStrand, KeepsApart, HoldsImage, IsTaken, IsBlocked, KeepsPairs, KeepsOrderApart}
 use Rattle.cp_hom.specs.declared.items.Kind.{Kind}
 use Rattle.cp_hom.specs.declared.items.Kind.TheVariants.{Strands}
 use Rattle.cp_hom.specs.declared.items.Item.{Item}
@@ -45,11 +44,6 @@ pub blocked_never : (a b : Skeleton) (item : Item) (image : ℕ) (given : Partia
     IsOfNoExtension (λ f. KeepsOrderApart a b f × TakesItem a b item image f) given
 blocked_never a b item image given h = λ f follows w.
     taken_apart a.strands f.strands item.index image given.placements w.0.apart h.role_strand follows.0 h.taken (strand_sent a b item.kind item.index image f h.strand w.1)
-
--- A strand that is placed elsewhere does not go there.
-pub elsewhere_never : (a b : Skeleton) (item : Item) (image : ℕ) (given : PartialMap) → IsPlacedElsewhere item image given.placements → IsOfNoExtension (λ f. KeepsOrderApart a b f × TakesItem a b item image f) given
-elsewhere_never a b item image given h = λ f follows w.
-    h.elsewhere (sym (goes_there f.strands given.placements item.index h.other follows.0 h.placed) ∙ strand_sent a b item.kind item.index image f h.strand w.1)
 
 -- Where nothing was found, nothing is found among those of which the condition is true.
 pub none_found : (condition fact : SkeletonMap → Type 0) (given copy : PartialMap) (answer : Option Partial) → copy ≡ given → answer ≡ None → FindsMaps fact copy answer → IsOfNoExtension (λ f. condition f × fact f) given

@@ -1,12 +1,10 @@
--- Events, lists, strands and pairs that become others.
-use Rattle.std.proofs.Common.{◌≡◌, ◌≢◌, ℕ, ◌<◌, ◌≤◌, ◌+◌, List, ◌∷◌, length, map, drop, get_or, refl, sym, ap, ap₂, ◌∙◌, subst, arith}
+-- Values, lists, strands and pairs that become others.
+use Rattle.std.proofs.Common.{◌≡◌, ◌≢◌, ℕ, ◌<◌, ◌≤◌, ◌+◌, List, ◌∷◌, length, map, drop, get_or, refl, sym, ap, ap₂, ◌∙◌, arith}
 use Rattle.std.specs.Prelude.{Option, Bool, true, false, nat_lt, ◌==◌}
 use Rattle.std.proofs.lemmas.Bool.Decides.{nat_tests}
 use Rattle.std.proofs.lemmas.List.{drop_all}
 use Rattle.cp_lists.proofs.Members.{drop_read}
 use Rattle.cp_model.specs.Term.{Term, Substitution, apply_to}
-use Rattle.cp_model.specs.Strand.{payload}
-use Rattle.cp_model.specs.declared.strand.Event.{Event}
 use Rattle.cp_model.specs.Skeleton.{SkeletonStrand, instance, Skeleton}
 use Rattle.cp_model.specs.declared.node.OrderPair.{OrderPair}
 use Rattle.cp_model.specs.declared.node.Node.{Node}
@@ -15,15 +13,15 @@ use Rattle.cp_model.specs.Homomorphism.{SkeletonMap, mapped}
 use Rattle.cp_hom.proofs.KeptOrder.{both_nodes}
 use Rattle.cp_lists.proofs.Items.{item_below}
 use Rattle.cp_hom.specs.PartialMaps.{PartialMap, IsExtended, IsOfNoExtension, FindsMaps}
-use Rattle.cp_hom.specs.Counterparts.{MakesEvents, KeepsProblem, IsKeptBy, IsRoleStrand, MeetsEarlier, KeepsApart}
+use Rattle.cp_hom.specs.Counterparts.{KeepsProblem, IsKeptBy, IsRoleStrand, MeetsEarlier, KeepsApart}
 use Rattle.cp_hom.proofs.Extended.{IsSoFar, finds_like, finds_both, so_far_next, so_far_never, so_far_all}
 use Rattle.cp_hom.specs.declared.partials.Partial.{Partial}
 
--- ---- events
+-- ---- values
 
-pub event_matched : (s t : Substitution) (m from to : Term) (given : PartialMap) (answer : Option Partial) → from ≡ apply_to s m → to ≡ apply_to t m →
+pub value_matched : (s t : Substitution) (m from to : Term) (given : PartialMap) (answer : Option Partial) → from ≡ apply_to s m → to ≡ apply_to t m →
     FindsMaps (λ f. apply_to f.terms from ≡ to) given answer → FindsMaps (λ f. apply_to f.terms (apply_to s m) ≡ apply_to t m) given answer
-event_matched s t m from to given answer is_from is_to h =
+value_matched s t m from to given answer is_from is_to h =
     finds_like (λ f. apply_to f.terms from ≡ to) (λ f. apply_to f.terms (apply_to s m) ≡ apply_to t m) given answer
     (λ f e. sym (ap (apply_to f.terms) is_from) ∙ e ∙ is_to)
     (λ f e. ap (apply_to f.terms) is_from ∙ e ∙ sym is_to)
@@ -79,43 +77,6 @@ problem_kept a b xs ys ts us given found answer is_xs is_ys is_ts is_us h k =
     (λ f g. ap (map f.strands) is_xs ∙ g.strands ∙ sym is_ys)
     (λ f g. ap (map (apply_to f.terms)) is_ts ∙ g.values ∙ sym is_us)
     h k
-
-module _ (s t : Substitution) where
-  pub events_next : (es : List (Event Term)) (i : ℕ) (e : Event Term) (given found next : PartialMap) → i < length es → e ≡ get_or es i e →
-      IsSoFar (λ f. MakesEvents f.terms es s t) (λ f. MakesEvents f.terms (drop i es) s t) given found →
-      IsExtended (λ f. apply_to f.terms (apply_to s (payload e)) ≡ apply_to t (payload e)) found next →
-      IsSoFar (λ f. MakesEvents f.terms es s t) (λ f. MakesEvents f.terms (drop (i + 1) es) s t) given next
-  events_next es i e given found next l is_e h k =
-      let d = drop_read es i e l is_e in
-      so_far_next (λ f. MakesEvents f.terms es s t) (λ f. MakesEvents f.terms (drop i es) s t)
-      (λ f. apply_to f.terms (apply_to s (payload e)) ≡ apply_to t (payload e)) (λ f. MakesEvents f.terms (drop (i + 1) es) s t) given found next
-      (λ f p q. subst (λ (ds : List (Event Term)). MakesEvents f.terms ds s t) (sym d) (p, q))
-      (λ f p. (whole f e (drop (i + 1) es) (subst (λ (ds : List (Event Term)). MakesEvents f.terms ds s t) d p)).0)
-      (λ f p. (whole f e (drop (i + 1) es) (subst (λ (ds : List (Event Term)). MakesEvents f.terms ds s t) d p)).1)
-      h k
-    where
-      whole : (f : SkeletonMap) (e : Event Term) (ds : List (Event Term)) → MakesEvents f.terms (e ∷ ds) s t →
-          (apply_to f.terms (apply_to s (payload e)) ≡ apply_to t (payload e)) × MakesEvents f.terms ds s t
-      whole f e ds p = p
-
-  pub events_never : (es : List (Event Term)) (i : ℕ) (e : Event Term) (given found : PartialMap) → i < length es → e ≡ get_or es i e →
-      IsSoFar (λ f. MakesEvents f.terms es s t) (λ f. MakesEvents f.terms (drop i es) s t) given found →
-      IsOfNoExtension (λ f. apply_to f.terms (apply_to s (payload e)) ≡ apply_to t (payload e)) found → IsOfNoExtension (λ f. MakesEvents f.terms es s t) given
-  events_never es i e given found l is_e h k =
-      let d = drop_read es i e l is_e in
-      so_far_never (λ f. MakesEvents f.terms es s t) (λ f. MakesEvents f.terms (drop i es) s t)
-      (λ f. apply_to f.terms (apply_to s (payload e)) ≡ apply_to t (payload e)) given found
-      (λ f p. first f e (drop (i + 1) es) (subst (λ (ds : List (Event Term)). MakesEvents f.terms ds s t) d p))
-      h k
-    where
-      first : (f : SkeletonMap) (e : Event Term) (ds : List (Event Term)) → MakesEvents f.terms (e ∷ ds) s t → apply_to f.terms (apply_to s (payload e)) ≡ apply_to t (payload e)
-      first f e ds p = p.0
-
-  pub events_all : (es : List (Event Term)) (i : ℕ) (given found : PartialMap) → length es ≤ i →
-      IsSoFar (λ f. MakesEvents f.terms es s t) (λ f. MakesEvents f.terms (drop i es) s t) given found → IsExtended (λ f. MakesEvents f.terms es s t) given found
-  events_all es i given found done h =
-      so_far_all (λ f. MakesEvents f.terms es s t) (λ f. MakesEvents f.terms (drop i es) s t) given found
-      (λ f. subst (λ (ds : List (Event Term)). MakesEvents f.terms ds s t) (sym (drop_all i es done)) tt) h
 
 -- ---- strands that are kept apart
 

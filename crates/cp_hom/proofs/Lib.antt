@@ -3,12 +3,12 @@ pub mod Counterparts
 pub mod PairedItems
 pub mod Beforehand
 pub mod Blocked
-pub mod Crowded
 pub mod Embedded
 pub mod Extended
 pub mod Images
 pub mod Itemised
-pub mod Messages
+pub mod PartValues
+pub mod NoChoice
 pub mod KeptOrder
 pub mod SearchSteps
 pub mod GrownItems

@@ -1,7 +1,8 @@
 -- What strands and assumptions of a skeleton may become in another: one of its strands or assumptions.
 use Rattle.std.specs.Prelude.{◌⊎◌, ◌≡◌, ◌≢◌, ◌<◌, ◌≤◌, ℕ, List, [], ◌∷◌, Some, length, map}
 use Rattle.cp_lists.specs.Lists.{item_at, IsIn}
-use Rattle.cp_model.specs.Term.{AtomTerm, Term, Substitution, apply_to_atom, apply_to}
+use Rattle.cp_model.specs.declared.variable.Variable.{Variable}
+use Rattle.cp_model.specs.Term.{variable_term, AtomTerm, Term, Substitution, apply_to_atom, apply_to}
 use Rattle.cp_model.specs.Bindings.{Binding, as_substitution}
 use Rattle.cp_model.specs.Strand.{payload, Role, prefix_of}
 use Rattle.cp_model.specs.declared.strand.Event.{Event}
@@ -9,7 +10,6 @@ use Rattle.cp_model.specs.Skeleton.{SkeletonStrand, instance, listener, UniqueAt
 use Rattle.cp_model.specs.declared.node.OrderPair.{OrderPair}
 use Rattle.cp_model.specs.Order.{ReachesAlong}
 use Rattle.cp_model.specs.Homomorphism.{SkeletonMap, mapped}
-use Rattle.cp_hom.specs.PartialMaps.{image_in}
 use Rattle.cp_hom.specs.declared.partials.Placement.{Placement}
 use Rattle.cp_hom.specs.declared.items.Kind.{Kind}
 use Rattle.cp_hom.specs.declared.items.Kind.TheVariants.{Strands, NonOriginating, PenetratorNonOriginating, Uniques}
@@ -20,11 +20,9 @@ abbrev pub MakesEvents : Substitution → List (Event Term) → Substitution →
 MakesEvents f [] s t = Unit {0}
 MakesEvents f (e ∷ es) s t = (apply_to f (apply_to s (payload e)) ≡ apply_to t (payload e)) × MakesEvents f es s t
 
--- The substitution makes the messages of some events those of the first so many others.
-abbrev pub MakesMessages : Substitution → List (Event Term) → List (Event Term) → Type 0
-MakesMessages f [] ys = Unit {0}
-MakesMessages f (x ∷ xs) [] = ⊥
-MakesMessages f (x ∷ xs) (y ∷ ys) = (apply_to f (payload x) ≡ payload y) × MakesMessages f xs ys
+-- Of the listed variables, from this number on, the substitution makes what they are under s what they are under t.
+abbrev pub MakesValues : ℕ → List Variable → Substitution → Substitution → Substitution → Type 0
+MakesValues n xs f s t = (x : Variable) → IsIn x xs → n ≤ x.number → apply_to f (apply_to s (variable_term x)) ≡ apply_to t (variable_term x)
 
 -- The substitution makes a strand a part of another: an instance one of the same role that is no taller, a listener the
 -- same listener.
@@ -140,13 +138,6 @@ pub record IsBlocked (strands : List SkeletonStrand) (item : Item) (image : ℕ)
   pub strand : item.kind ≡ Strands
   pub role_strand : IsRoleStrand strands item.index
   pub taken : IsTaken strands item.index image placements
-
--- The item is a strand that is placed, and goes elsewhere.
-pub record IsPlacedElsewhere (item : Item) (image : ℕ) (placements : List Placement) : Type 0 where
-  pub strand : item.kind ≡ Strands
-  pub other : ℕ
-  pub placed : image_in placements item.index ≡ Some other
-  pub elsewhere : other ≢ image
 
 -- The image of the pair is kept: its earlier node reaches its later one, another, along the pairs.
 abbrev pub IsKeptBy : List OrderPair → SkeletonMap → OrderPair → Type 0

@@ -1,5 +1,4 @@
 pub mod Choices
-pub mod RoleCounts
 pub mod PartialMaps
 pub mod Maps
 pub mod OpenMaps

@@ -6,7 +6,7 @@ ghost use Rattle.cp_hom.specs.Maps.{map_view};
 
 use crate::from_problem::start;
 use crate::items::items;
-use crate::role_counts::have_room;
+use crate::known::has_no_choice;
 use crate::search::search;
 use crate::strand_map::Map;
 use cp_skel::Skeleton;
@@ -17,33 +17,24 @@ pub fn embed(alloc: Global, a: &Skeleton, b: &Skeleton) -> Result<Option<Map>, A
     ensures some { IfOk result (λ found. IfSome found (λ f. IsEmbedding a.now b.now (map_view f))) }
     ensures none { IfOk result (λ found. IfNone found ((f : SkeletonMap) → IsEmbedding a.now b.now f → ⊥)) }
 {
-    if !have_room(a.strands(), b.strands()) {
-        return Ok(None);
-    }
-    embed_by_search(alloc, a, b)
-}
-
-/// The same without the first test that counts the strands of each role.
-fn embed_by_search(alloc: Global, a: &Skeleton, b: &Skeleton) -> Result<Option<Map>, AllocError>
-    ensures some { IfOk result (λ found. IfSome found (λ f. IsEmbedding a.now b.now (map_view f))) }
-    ensures none { IfOk result (λ found. IfNone found ((f : SkeletonMap) → IsEmbedding a.now b.now f → ⊥)) }
-{
     let Some(given) = start(alloc, a, b)? else {
         return Ok(None);
     };
+    if has_no_choice(a, b, &given) {
+        return Ok(None);
+    }
     let items = items(alloc, a)?;
     a.is_sound();
     b.is_sound();
     search(alloc, a, b, &items, given)
 }
 
-/// Whether each of two skeletons embeds in the other. This omits the first test that counts the strands of each role: callers
-/// mostly pass skeletons whose signatures agree.
+/// Whether each of two skeletons embeds in the other.
 pub fn isomorphic(alloc: Global, a: &Skeleton, b: &Skeleton) -> Result<bool, AllocError>
     ensures exact { IfOk result (λ same. IsTrue same ↔ IsIsomorphic a.now b.now) }
 {
-    if embed_by_search(alloc, a, b)?.is_none() {
+    if embed(alloc, a, b)?.is_none() {
         return Ok(false);
     }
-    embed_by_search(alloc, b, a).map(|back| back.is_some())
+    embed(alloc, b, a).map(|back| back.is_some())
 }

@@ -2,10 +2,10 @@
 ghost use Rattle.std.specs.Prelude.{◌≡◌, ◌≢◌, ◌↔◌, IsTrue, IfOk};
 ghost use Rattle.cp_model.specs.Order.{IsAtOrAfter, ReachesAlong};
 ghost use Rattle.cp_hom.specs.Maps.{map_view};
-ghost use Rattle.cp_hom.specs.Counterparts.{IsRoleStrand, HoldsImage, IsTaken, IsBlocked, IsPlacedElsewhere, MeetsEarlier, KeepsApart, KeepsPairs};
+ghost use Rattle.cp_hom.specs.Counterparts.{IsRoleStrand, HoldsImage, IsTaken, IsBlocked, MeetsEarlier, KeepsApart, KeepsPairs};
 
 use crate::items::{Item, Kind};
-use crate::partials::{Placement, image_of};
+use crate::partials::Placement;
 use crate::strand_map::Map;
 use cp_model::item_at;
 use cp_skel::{Node, OrderPair, Predecessors, Strand, StrandShape};
@@ -54,19 +54,6 @@ pub(crate) fn is_blocked(
     item.kind == Kind::Strands
         && is_role_strand(strands, item.index)
         && is_taken(strands, item.index, image, placements)
-}
-
-/// Whether an item is a strand that is placed at another image.
-pub(crate) fn is_elsewhere(item: Item, image: usize, placements: &[Placement]) -> bool
-    ensures { IsTrue result ↔ IsPlacedElsewhere item image placements.now }
-{
-    if item.kind != Kind::Strands {
-        return false;
-    }
-    match image_of(placements, item.index) {
-        Some(other) => other != image,
-        None => false,
-    }
 }
 
 /// Whether two strands are both instances of roles and map to one strand.

@@ -12,7 +12,6 @@ mod numbered_items;
 mod pairings;
 mod partials;
 mod placed_items;
-mod role_counts;
 mod search;
 mod sharing_strands;
 mod strand_map;

@@ -10,7 +10,7 @@ ghost use Rattle.cp_hom.specs.OpenMaps.{branch_view, branches_view, next_maps, f
 
 use crate::broken::breaks_order;
 use crate::items::{Item, count};
-use crate::kept_order::{is_blocked, is_elsewhere, keeps_apart, keeps_pairs};
+use crate::kept_order::{is_blocked, keeps_apart, keeps_pairs};
 use crate::known::next_choice;
 use crate::numbered_items::item_at;
 use crate::partials::Partial;
@@ -79,8 +79,8 @@ fn push_next(
     Ok(())
 }
 
-/// Tries one choice for an item. It fails if the item is a role strand and another one has that image, if the item is a strand
-/// placed elsewhere, or if the placed strands would not keep the order.
+/// Tries one choice for an item. It fails if the item is a role strand and another one has that image, or if the placed strands
+/// would not keep the order.
 fn try_choice(
     alloc: Global,
     a: &Skeleton,
@@ -93,9 +93,6 @@ fn try_choice(
         (TakesItem a.now b.now item choice) (partial_view given.now)) }
 {
     if is_blocked(a.strands(), item, choice, &given.placements) {
-        return Ok(None);
-    }
-    if is_elsewhere(item, choice, &given.placements) {
         return Ok(None);
     }
     let copy = given.copy(alloc)?;

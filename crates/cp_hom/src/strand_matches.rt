@@ -1,47 +1,57 @@
 // Maps strands to parts of others.
-ghost use Rattle.std.specs.Prelude.{◌≡◌, ◌≤◌, length, IfOk};
-ghost use Rattle.cp_model.specs.Bindings.{as_substitution, bindings_of};
+ghost use Rattle.std.specs.Prelude.{◌≡◌, IfOk};
+ghost use Rattle.cp_model.specs.Strand.{variables_of_prefix};
 ghost use Rattle.cp_model.specs.Term.{apply_to};
+ghost use Rattle.cp_model.specs.Values.{substitution_by};
+ghost use Rattle.cp_term.specs.Variables.{variable_of_sort};
 ghost use Rattle.cp_hom.specs.PartialMaps.{partial_view, FindsMaps};
-ghost use Rattle.cp_hom.specs.Counterparts.{MakesEvents, MakesMessages, MakesPart};
+ghost use Rattle.cp_hom.specs.Counterparts.{MakesValues, MakesPart};
 
 use crate::partials::{Partial, match_terms};
-use cp_skel::{Event, Strand, StrandShape, applied, is_same_role, prefix_of};
-use cp_term::Term;
+use cp_skel::{Role, Strand, StrandShape, is_same_role, value_of_variable};
+use cp_term::{Sort, Term, VarId};
 use std::alloc::{AllocError, Global};
 
-/// Maps the message of a role's event under the values `from` to its message under `to`.
-fn match_event(
+/// Maps what a role's variable is under the values `from` to what it is under `to`.
+fn match_variable(
     alloc: Global,
-    message: &Term,
+    id: VarId,
+    sort: Sort,
     from: &[Term],
     to: &[Term],
     given: Partial,
 ) -> Result<Option<Partial>, AllocError>
     ensures { IfOk result (FindsMaps
-        (λ f. apply_to f.terms (apply_to (as_substitution (bindings_of from.now)) message.now) ≡ apply_to (as_substitution (bindings_of to.now)) message.now)
+        (λ f. apply_to f.terms (apply_to (substitution_by from.now) (variable_of_sort sort id)) ≡ apply_to (substitution_by to.now) (variable_of_sort sort id))
         (partial_view given)) }
 {
-    let first = applied(alloc, from, message)?;
-    let second = applied(alloc, to, message)?;
+    let first = value_of_variable(alloc, from, id, sort)?;
+    let second = value_of_variable(alloc, to, id, sort)?;
     match_terms(alloc, &first, &second, given)
 }
 
-/// Maps the messages of a role's events under the values `from` to their messages under `to`.
-fn match_events(
+/// Maps what the variables of a role's prefix are under the values `from` to what they are under `to`. Then the messages of the
+/// prefix agree too, and need not be made.
+fn match_values(
     alloc: Global,
-    events: &[Event],
+    role: &Role,
+    height: usize,
     from: &[Term],
     to: &[Term],
     given: Partial,
 ) -> Result<Option<Partial>, AllocError>
     ensures { IfOk result (FindsMaps
-        (λ f. MakesEvents f.terms events.now (as_substitution (bindings_of from.now)) (as_substitution (bindings_of to.now)))
+        (λ f. MakesValues 0 (variables_of_prefix role.now height) f.terms (substitution_by from.now) (substitution_by to.now))
         (partial_view given)) }
 {
+    role.is_sound();
     let mut found = given;
-    for event in events {
-        match match_event(alloc, event.payload(), from, to, found)? {
+    for (number, declaration) in role.variables().iter().enumerate() {
+        let id = VarId::numbered(number);
+        if !role.occurs_before(id, declaration.sort, height) {
+            continue;
+        }
+        match match_variable(alloc, id, declaration.sort, from, to, found)? {
             Some(next) => found = next,
             None => return Ok(None),
         }
@@ -49,34 +59,7 @@ fn match_events(
     Ok(Some(found))
 }
 
-/// Maps the messages of some events to those of the first of the others, one by one.
-fn match_messages(
-    alloc: Global,
-    events: &[Event],
-    others: &[Event],
-    given: Partial,
-) -> Result<Option<Partial>, AllocError>
-    requires { length events.now ≤ length others.now }
-    ensures { IfOk result (FindsMaps
-        (λ f. MakesMessages f.terms events.now others.now)
-        (partial_view given)) }
-{
-    let mut found = given;
-    for index in 0..events.len() {
-        match match_terms(
-            alloc,
-            events[index].payload(),
-            others[index].payload(),
-            found,
-        )? {
-            Some(next) => found = next,
-            None => return Ok(None),
-        }
-    }
-    Ok(Some(found))
-}
-
-/// Makes a strand a part of another. If both hold their events, their messages are matched directly.
+/// Makes a strand a part of another.
 pub(crate) fn match_strands(
     alloc: Global,
     from: &Strand,
@@ -87,14 +70,12 @@ pub(crate) fn match_strands(
 {
     match (from.shape(), to.shape()) {
         (StrandShape::Instance(first), StrandShape::Instance(second)) => {
-            if first.height() > second.height() || !is_same_role(first.role(), second.role()) {
+            let role: &Role = first.role();
+            let height = first.height();
+            if height > second.height() || !is_same_role(role, second.role()) {
                 return Ok(None);
             }
-            if let (Some(events), Some(others)) = (from.held(), to.held()) {
-                return match_messages(alloc, events, others, given);
-            }
-            let events = prefix_of(first.role(), first.height());
-            match_events(alloc, events, first.values(), second.values(), given)
+            match_values(alloc, role, height, first.values(), second.values(), given)
         }
         (StrandShape::Listener(first), StrandShape::Listener(second)) => {
             match_terms(alloc, first, second, given)

@@ -16,9 +16,9 @@ use crate::pairs::add_pairs;
 use crate::values::unique_faults;
 use cp_base::{Code, Place};
 use cp_roles::{instance_faults, listener_faults};
-use cp_scope::{FirstFault, ItemHead, atoms_faults, headed, item_head, place_of};
+use cp_scope::{FirstFault, ItemHead, Variables, atoms_faults, headed, item_head, place_of};
 use cp_sexpr::Form;
-use cp_skel::{Declaration, OrderPair, Role, Strand};
+use cp_skel::{OrderPair, Role, Strand};
 use std::alloc::{AllocError, Global};
 use std::rc::Rc;
 
@@ -28,7 +28,7 @@ use std::rc::Rc;
 pub(crate) struct Scope<'a> {
     pub(crate) alloc: Global,
     pub(crate) roles: &'a [Rc<Role>],
-    pub(crate) variables: &'a [Declaration],
+    pub(crate) variables: &'a Variables,
     pub(crate) strands: &'a [Strand],
 }
 

@@ -13,7 +13,7 @@ use crate::unchecked_problems::UncheckedProblem;
 use crate::values::own_skeleton;
 use cp_base::{Code, Place};
 use cp_roles::{copies_of, no_protocol, protocol_named, strands};
-use cp_scope::{FirstFault, later_items, place_of, symbol_or_empty, variables_of};
+use cp_scope::{FirstFault, Variables, later_items, place_of, symbol_or_empty, variables_of};
 use cp_sexpr::Form;
 use cp_skel::{Declaration, Protocol, Strand};
 use std::alloc::{AllocError, Global};
@@ -60,13 +60,13 @@ struct Parts {
 fn parts_of(
     alloc: Global,
     protocol: &Protocol,
-    declared: &[Declaration],
+    declared: &Variables,
     body: &[Form],
 ) -> Result<Parts, AllocError>
     ensures { IfOk result (λ p. AreMade (problem_strands protocol.now.roles declared.now (map view body.now))
         p.strands.items declared.now p.variables.items) }
 {
-    let mut variables = copies_of(alloc, declared)?;
+    let mut variables = copies_of(alloc, declared.as_slice())?;
     let strands = strands(
         alloc,
         protocol.roles(),
@@ -84,7 +84,7 @@ fn no_problem(alloc: Global) -> Result<UncheckedProblem, AllocError>
     Ok(UncheckedProblem {
         protocol: Rc::new(alloc, no_protocol(alloc)?)?,
         declared: 0,
-        skeleton: own_skeleton(alloc, &[], Vec::new(alloc), &[], &[])?,
+        skeleton: own_skeleton(alloc, &Variables::new(alloc), Vec::new(alloc), &[], &[])?,
     })
 }
 

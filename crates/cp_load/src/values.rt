@@ -14,7 +14,7 @@ use crate::unchecked_problems::UncheckedSkeleton;
 use crate::unique_origins::{add_own_uniques, originates};
 use cp_base::Code;
 use cp_scope::{
-    FirstFault, Kind, Variable, atom_faults, atom_of, atoms_of, place_of, variable_term,
+    FirstFault, Kind, Variable, Variables, atom_faults, atom_of, atoms_of, place_of, variable_term,
 };
 use cp_sexpr::Form;
 use cp_skel::{
@@ -27,7 +27,7 @@ use std::alloc::{AllocError, Global};
 pub(crate) fn unique_faults(
     alloc: Global,
     strands: &[Strand],
-    variables: &[Declaration],
+    variables: &Variables,
     form: &Form,
     first: &mut FirstFault,
 ) -> Result<(), AllocError>
@@ -45,7 +45,7 @@ pub(crate) fn unique_faults(
 /// The atoms of the assumptions of this kind among these items, each once.
 fn own_atoms(
     alloc: Global,
-    declared: &[Declaration],
+    declared: &Variables,
     kind: Kind,
     body: &[Form],
 ) -> Result<Vec<Atom>, AllocError>
@@ -59,7 +59,7 @@ fn own_atoms(
 /// The unique values that these items state, with their origins on the strands, each once.
 fn own_uniques(
     alloc: Global,
-    declared: &[Declaration],
+    declared: &Variables,
     strands: &[Strand],
     body: &[Form],
 ) -> Result<Vec<UniqueAt>, AllocError>
@@ -74,7 +74,7 @@ fn own_uniques(
 /// The assumptions that these items of a problem state.
 fn own_assumptions(
     alloc: Global,
-    declared: &[Declaration],
+    declared: &Variables,
     strands: &[Strand],
     body: &[Form],
 ) -> Result<Assumptions, AllocError>
@@ -126,7 +126,7 @@ pub fn table_of(alloc: Global, variables: &[Declaration]) -> Result<VarTable, Al
 /// It maps to itself.
 pub(crate) fn own_skeleton(
     alloc: Global,
-    declared: &[Declaration],
+    declared: &Variables,
     strands: Vec<Strand>,
     body: &[Form],
     all: &[Declaration],

@@ -1,10 +1,12 @@
 -- Covering pairs.
-use Rattle.std.proofs.Common.{◌≡◌, ℕ, suc, ◌&&◌, ◌==◌, List, [], ◌∷◌, ◌++◌, length, Bool, true, false, refl, ap, ◌∙◌, if◌then◌else◌}
+use Rattle.std.proofs.Common.{◌≡◌, ℕ, suc, ◌&&◌, ◌==◌, List, [], ◌∷◌, ◌++◌, length, Bool, true, false, refl, sym, ap, ◌∙◌, if◌then◌else◌}
 use Rattle.std.specs.Prelude.{not, nat_le}
-use Rattle.std.proofs.lemmas.List.{length-map}
+use Rattle.std.proofs.lemmas.Bool.{eqb-true}
+use Rattle.std.proofs.lemmas.List.{length-map, nil_from_length}
 use Rattle.cp_lists.proofs.Fronts.{length_min}
 use Rattle.cp_model.specs.Bundle.{node_at}
 use Rattle.cp_model.specs.declared.node.Node.{Node}
+use Rattle.cp_model.specs.declared.node.OrderPair.{OrderPair}
 use Rattle.cp_model.specs.declared.strand.Event.{Event}
 use Rattle.cp_model.specs.Term.{Term}
 use Rattle.cp_language.specs.Printed.{plain_list}
@@ -29,8 +31,10 @@ module _ (nodes : List Node) where
   none_from (x ∷ xs) = ap (λ fs. fs ++ covering_from [] nodes xs) (none_with x nodes) ∙ none_from xs
 
 -- without pairs nothing is covered
-pub none_cover : (nodes : List Node) → covering_from [] nodes nodes ≡ []
-none_cover nodes = none_from nodes nodes
+pub none_ordered : (given pairs : List OrderPair) (nodes : List Node) → given ≡ pairs → (length given == 0) ≡ true → covering_from pairs nodes nodes ≡ []
+none_ordered given pairs nodes same e =
+    let none : given ≡ [] = nil_from_length given (eqb-true (length given) 0 e) in
+    ap (λ ps. covering_from ps nodes nodes) (sym same ∙ none) ∙ none_from nodes nodes
 
 pub ruleset lengths = (length_min, length-map)
 

@@ -12,7 +12,7 @@ pub mod ValueForms
 pub mod Values
 pub mod CountedNodes
 pub mod CoveredForms
-pub mod CoveringByFlags
-pub mod NodesOnPairs
+pub mod CoveringLists
+pub mod WaysRound
 pub mod TreeForms
 pub mod LabelForms

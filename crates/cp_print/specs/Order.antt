@@ -1,62 +1,62 @@
 -- Words for the order of a label.
-use Rattle.std.specs.Prelude.{◌==◌, ℕ, zero, suc, ◌&&◌, ◌||◌, List, [], ◌∷◌, ◌++◌, map, get_or, Bool, false, not, if◌then◌else◌}
+use Rattle.std.specs.Prelude.{◌==◌, ℕ, zero, suc, ◌&&◌, ◌||◌, nat_le, List, [], ◌∷◌, ◌++◌, length, map, Bool, false, not, if◌then◌else◌}
+use Rattle.std.specs.List.{filter, list_any}
 use Rattle.cp_model.specs.Bundle.{node_at}
+use Rattle.cp_model.specs.OrderTests.{any_pair, reaches_within}
+use Rattle.cp_model.specs.Same.{same_node}
 use Rattle.cp_model.specs.declared.node.Node.{Node}
 use Rattle.cp_model.specs.declared.node.OrderPair.{OrderPair}
 use Rattle.cp_sexpr.specs.Syntax.{Form}
 use Rattle.cp_language.specs.Printed.{plain_list}
-use Rattle.cp_language.specs.Report.{node_form, is_before}
-use Rattle.cp_print.specs.declared.order.Ordered.{Ordered}
+use Rattle.cp_language.specs.Report.{node_form}
+use Rattle.cp_print.specs.declared.order.Entry.{Entry}
 
 -- So many nodes of a strand, the first having index i.
 abbrev pub nodes_counted : ℕ → ℕ → ℕ → List Node
 nodes_counted s i zero = []
 nodes_counted s i (suc n) = node_at s i ∷ nodes_counted s (suc i) n
 
--- A node, and for each node whether it is before this one.
-pub record OrderedNode : Type 0 where
-  pub node : Node
-  pub before : List Bool
+-- ---- pairs that others imply
 
-abbrev pub ordered_view : Ordered → OrderedNode
-ordered_view o = record { node = o.node; before = o.before.items }
+-- q is another pair that ends on the strand on which p ends.
+abbrev pub enters_too : OrderPair → OrderPair → Bool
+enters_too p q = (q.later.strand == p.later.strand) && (not (same_node q.earlier p.earlier) || not (same_node q.later p.later))
 
--- For each of these nodes whether it is before y.
-abbrev pub flags_before : List OrderPair → Node → List Node → List Bool
-flags_before pairs y nodes = map (λ x. is_before pairs x y) nodes
+-- The pairs that end on a strand on which others end too.
+abbrev pub shared : List OrderPair → List OrderPair
+shared pairs = filter (λ p. any_pair (enters_too p) pairs) pairs
 
-abbrev pub in_order : List OrderPair → List Node → Node → OrderedNode
-in_order pairs nodes y = record { node = y; before = flags_before pairs y nodes }
+-- A pair with the predecessors of its earlier node along these pairs.
+abbrev pub entry_of : List OrderPair → OrderPair → Entry
+entry_of pairs q = record { pair = q; predecessors = record { pairs = pairs; node = q.earlier } }
 
--- ---- by the flags, x being the number of a node
+-- The order has a way over the pair q from the earlier node of p to the later one: q ends there or before that on its
+-- strand, and p's earlier node reaches q's.
+abbrev pub implies : OrderPair → Entry → Bool
+implies p q = nat_le q.pair.later.index p.later.index && enters_too p q.pair && reaches_within (length q.predecessors.pairs) q.predecessors.pairs p.earlier q.predecessors.node
 
--- One of these nodes, of which the first has number n, is after x and before the node with these flags.
-abbrev pub any_between : ℕ → List Bool → ℕ → List OrderedNode → Bool
-any_between x flags n [] = false
-any_between x flags n (z ∷ zs) = (get_or flags n false && get_or z.before x false) || any_between x flags (suc n) zs
+abbrev pub is_implied : List Entry → OrderPair → Bool
+is_implied [] p = false
+is_implied (q ∷ qs) p = implies p q || is_implied qs p
 
-abbrev pub covers : List OrderedNode → ℕ → Node → OrderedNode → Bool
-covers all number x y = not (x.strand == y.node.strand) && get_or y.before number false && not (any_between number y.before 0 all)
+-- The pairs that the others do not imply.
+abbrev pub covers_of : List OrderPair → List Entry → List OrderPair
+covers_of pairs entries = filter (λ p. not (is_implied entries p)) pairs
 
-abbrev pub covered : List OrderedNode → ℕ → Node → List OrderedNode → List Form
-covered all number x [] = []
-covered all number x (y ∷ ys) = if covers all number x y then plain_list (node_form x ∷ node_form y.node ∷ []) ∷ covered all number x ys else covered all number x ys
+-- ---- their forms
 
--- The covering pairs that begin with these nodes, of which the first has number n.
-abbrev pub all_covered : List OrderedNode → ℕ → List OrderedNode → List Form
-all_covered all n [] = []
-all_covered all n (x ∷ xs) = covered all n x.node all ++ all_covered all (suc n) xs
+-- The later nodes of the pairs that begin at x.
+abbrev pub led_to : List OrderPair → Node → List Node
+led_to pairs x = map (λ p. p.later) (filter (λ p. same_node p.earlier x) pairs)
 
--- ---- the nodes that can cover
+abbrev pub has_node : List Node → Node → Bool
+has_node ends y = list_any (λ z. same_node z y) ends
 
-abbrev pub is_on_pair : OrderPair → Node → Bool
-is_on_pair p x = (x.strand == p.earlier.strand) || (x.strand == p.later.strand)
+abbrev pub covered : List Node → Node → List Node → List Form
+covered ends x [] = []
+covered ends x (y ∷ ys) = if has_node ends y then plain_list (node_form x ∷ node_form y ∷ []) ∷ covered ends x ys else covered ends x ys
 
--- The node's strand is one of a pair's.
-abbrev pub is_on_pairs : List OrderPair → Node → Bool
-is_on_pairs [] x = false
-is_on_pairs (p ∷ ps) x = is_on_pair p x || is_on_pairs ps x
-
-abbrev pub nodes_on_pairs : List OrderPair → List Node → List Node
-nodes_on_pairs pairs [] = []
-nodes_on_pairs pairs (x ∷ xs) = if is_on_pairs pairs x then x ∷ nodes_on_pairs pairs xs else nodes_on_pairs pairs xs
+-- The forms of the pairs that begin with these nodes, by first node and then by second.
+abbrev pub all_covered : List OrderPair → List Node → List Node → List Form
+all_covered covers nodes [] = []
+all_covered covers nodes (x ∷ xs) = covered (led_to covers x) x nodes ++ all_covered covers nodes xs

@@ -1,109 +1,176 @@
 // The covering pairs of a skeleton's order.
-ghost use Rattle.std.specs.Prelude.{◌≡◌, ◌++◌, ◌&&◌, [], map, length, get_or, false, not, IfOk};
+ghost use Rattle.std.specs.Prelude.{◌≡◌, ◌++◌, map, length, false, IfOk, OnOk};
 ghost use Rattle.cp_base.specs.Growing.{Grows, seen};
-ghost use Rattle.cp_language.specs.Problems.{reaches_within};
 ghost use Rattle.cp_language.specs.Report.{nodes_from, covering_pairs};
-ghost use Rattle.cp_model.specs.Same.{same_node};
+ghost use Rattle.cp_model.specs.OrderTests.{any_pair, reaches_within};
 ghost use Rattle.cp_model.specs.Skeleton.{skeleton_trace};
 ghost use Rattle.cp_sexpr.specs.View.{view};
-ghost use Rattle.cp_print.specs.Order.{nodes_counted, ordered_view, in_order, any_between, covers, covered, all_covered, is_on_pair, is_on_pairs, nodes_on_pairs};
+ghost use Rattle.cp_print.specs.Order.{nodes_counted, entry_of, shared, enters_too, implies, is_implied, covers_of, led_to, has_node, covered, all_covered};
 
 use crate::forms::add;
 use crate::items::node_form;
 use crate::makers::{list, two};
 use cp_base::Growing;
-use cp_names::is_flagged;
 use cp_sexpr::Form;
 use cp_skel::{Node, OrderPair, Predecessors, Skeleton, SortedPairs, Strand, StrandShape};
 use std::alloc::{AllocError, Global};
 
-/// A node, and for each node of its skeleton whether that node is before this one.
+/// A pair, and the predecessors of its earlier node.
 #[derive(Drop)]
-struct Ordered {
-    node: Node,
-    before: Vec<bool>,
+struct Entry<'a> {
+    pair: OrderPair,
+    predecessors: Predecessors<'a>,
 }
 
-/// Whether a node reaches the one asked about.
-fn leads(leading: &Predecessors<'_>, x: Node) -> bool
-    ensures { result ≡ reaches_within (length leading.now.pairs) leading.now.pairs x leading.now.node }
+/// Whether another pair ends on the strand on which this one ends.
+fn enters_too(pair: &OrderPair, other: &OrderPair) -> bool
+    ensures { result ≡ enters_too pair.now other.now }
 {
-    leading.has(x)
+    other.later.strand == pair.later.strand
+        && (other.earlier != pair.earlier || other.later != pair.later)
 }
 
-/// Whether x reaches the node asked about, and x is not y.
-fn is_before(leading: &Predecessors<'_>, x: Node, y: Node) -> bool
-    ensures { result ≡ (not (same_node x y) && reaches_within (length leading.now.pairs) leading.now.pairs x leading.now.node) }
+/// Whether one of the pairs is another one that ends on the strand on which this one ends.
+fn some_enters_too(pairs: &[OrderPair], pair: &OrderPair) -> bool
+    ensures { result ≡ any_pair (enters_too pair.now) pairs.now }
 {
-    x != y && leads(leading, x)
-}
-
-/// The node y, and for each of these nodes whether it is before y.
-fn ordered_node(
-    alloc: Global,
-    sorted: &SortedPairs<'_>,
-    nodes: &[Node],
-    y: Node,
-) -> Result<Ordered, AllocError>
-    ensures { IfOk result (λ o. ordered_view o ≡ in_order sorted.now nodes.now y) }
-{
-    let leading = sorted.predecessors_of(alloc, y)?;
-    let mut before = Growing::with_capacity(alloc, nodes.len());
-    for x in nodes {
-        before.push(is_before(&leading, *x, y));
-    }
-    let before = before.finish()?;
-    Ok(Ordered { node: y, before })
-}
-
-/// The nodes with what is before them.
-fn in_order(alloc: Global, pairs: &[OrderPair], nodes: &[Node]) -> Result<Vec<Ordered>, AllocError>
-    ensures { IfOk result (λ all. map ordered_view all.items ≡ map (in_order pairs.now nodes.now) nodes.now) }
-{
-    let sorted = SortedPairs::new(alloc, pairs)?;
-    nodes
-        .iter()
-        .map(|node| ordered_node(alloc, &sorted, nodes, *node))
-        .try_collect(alloc)
-}
-
-/// Whether the node z, of the second number, is after the node of the first and before y.
-fn is_between(first: usize, second: usize, z: &Ordered, y: &Ordered) -> bool
-    ensures { result ≡ (get_or y.now.before.items second false && get_or z.now.before.items first false) }
-{
-    is_flagged(&y.before, second) && is_flagged(&z.before, first)
-}
-
-/// Whether one of the nodes is after the node of this number and before y.
-fn is_any_between(all: &[Ordered], number: usize, y: &Ordered) -> bool
-    ensures { result ≡ any_between number y.now.before.items 0 (map ordered_view all.now) }
-{
-    for between in 0..all.len() {
-        if is_between(number, between, &all[between], y) {
+    for other in pairs {
+        if enters_too(pair, other) {
             return true;
         }
     }
     false
 }
 
-/// Whether y covers the node of this number, x, on another strand.
-fn is_covering(all: &[Ordered], number: usize, x: Node, y: &Ordered) -> bool
-    ensures { result ≡ covers (map ordered_view all.now) number x (ordered_view y.now) }
+/// The pair with the predecessors of its earlier node.
+fn entry_of<'a>(
+    alloc: Global,
+    sorted: &SortedPairs<'a>,
+    pair: OrderPair,
+) -> Result<Entry<'a>, AllocError>
+    ensures { IfOk result (λ e. e ≡ entry_of sorted.now pair) }
 {
-    x.strand != y.node.strand && is_flagged(&y.before, number) && !is_any_between(all, number, y)
+    let predecessors = sorted.predecessors_of(alloc, pair.earlier)?;
+    Ok(Entry { pair, predecessors })
 }
 
-/// Appends the covering pairs that begin with the node of this number, x.
-fn add_covered(alloc: Global, all: &[Ordered], number: usize, x: Node, forms: &mut Growing<Form>)
-    ensures { Grows (seen view forms.old) (seen view forms.new) (covered (map ordered_view all.now) number x (map ordered_view all.now)) }
+/// The pairs that end on a strand on which others end too.
+fn shared(alloc: Global, pairs: &[OrderPair]) -> Result<Vec<OrderPair>, AllocError>
+    ensures { IfOk result (λ ps. ps.items ≡ shared pairs.now) }
 {
-    for y in all {
-        if !is_covering(all, number, x, y) {
+    pairs
+        .iter()
+        .copied()
+        .filter(|pair| some_enters_too(pairs, pair))
+        .collect(alloc)
+}
+
+/// The shared pairs with the predecessors of their earlier nodes along all pairs.
+fn entries<'a>(
+    alloc: Global,
+    pairs: &'a [OrderPair],
+    shared: &[OrderPair],
+) -> Result<Vec<Entry<'a>>, AllocError>
+    ensures { IfOk result (λ es. es.items ≡ map (entry_of pairs.now) shared.now) }
+{
+    let sorted = SortedPairs::new(alloc, pairs)?;
+    shared
+        .iter()
+        .map(|pair| entry_of(alloc, &sorted, *pair))
+        .try_collect(alloc)
+}
+
+/// Whether a node reaches the one asked about.
+fn leads(predecessors: &Predecessors<'_>, node: Node) -> bool
+    ensures { result ≡ reaches_within (length predecessors.now.pairs) predecessors.now.pairs node predecessors.now.node }
+{
+    predecessors.has(node)
+}
+
+/// Whether the order has a way over another pair from the earlier node of this one to the later one: the other ends there or
+/// before that on its strand.
+fn implies(entry: &Entry<'_>, pair: &OrderPair) -> bool
+    ensures { result ≡ implies pair.now entry.now }
+{
+    entry.pair.later.index <= pair.later.index
+        && enters_too(pair, &entry.pair)
+        && leads(&entry.predecessors, pair.earlier)
+}
+
+/// Whether the order has such a way over one of these.
+fn is_implied(entries: &[Entry<'_>], pair: &OrderPair) -> bool
+    ensures { result ≡ is_implied entries.now pair.now }
+{
+    for entry in entries {
+        if implies(entry, pair) {
+            return true;
+        }
+    }
+    false
+}
+
+/// The pairs that the others do not imply.
+fn covers_of(
+    alloc: Global,
+    pairs: &[OrderPair],
+    entries: &[Entry<'_>],
+) -> Result<Vec<OrderPair>, AllocError>
+    ensures { IfOk result (λ ps. ps.items ≡ covers_of pairs.now entries.now) }
+{
+    pairs
+        .iter()
+        .copied()
+        .filter(|pair| !is_implied(entries, pair))
+        .collect(alloc)
+}
+
+/// The later nodes of the pairs that begin at a node.
+fn led_to(alloc: Global, pairs: &[OrderPair], x: Node) -> Result<Vec<Node>, AllocError>
+    ensures { IfOk result (λ ns. ns.items ≡ led_to pairs.now x) }
+{
+    pairs
+        .iter()
+        .filter(|pair| pair.earlier == x)
+        .map(|pair| pair.later)
+        .collect(alloc)
+}
+
+/// Whether a node is one of these.
+fn has_node(ends: &[Node], node: Node) -> bool
+    ensures { result ≡ has_node ends.now node }
+{
+    ends.iter().any(|end| *end == node)
+}
+
+/// Appends the pairs of x and those of the nodes that are among its ends.
+fn add_covered(alloc: Global, ends: &[Node], x: Node, nodes: &[Node], forms: &mut Growing<Form>)
+    ensures { Grows (seen view forms.old) (seen view forms.new) (covered ends.now x nodes.now) }
+{
+    if ends.is_empty() {
+        return;
+    }
+    for y in nodes {
+        if !has_node(ends, *y) {
             continue;
         }
-        let pair = two(alloc, node_form(alloc, x), node_form(alloc, y.node));
+        let pair = two(alloc, node_form(alloc, x), node_form(alloc, *y));
         add(list(pair), forms);
     }
+}
+
+/// Appends the pairs that begin at x.
+fn add_from(
+    alloc: Global,
+    covers: &[OrderPair],
+    nodes: &[Node],
+    x: Node,
+    forms: &mut Growing<Form>,
+) -> Result<(), AllocError>
+    ensures { OnOk result (Grows (seen view forms.old) (seen view forms.new) (covered (led_to covers.now x) x nodes.now)) }
+{
+    let ends = led_to(alloc, covers, x)?;
+    add_covered(alloc, &ends, x, nodes, forms);
+    Ok(())
 }
 
 /// How many events a strand has.
@@ -138,56 +205,20 @@ fn nodes_of(alloc: Global, strands: &[Strand]) -> Result<Vec<Node>, AllocError>
     nodes.finish()
 }
 
-/// Whether the node's strand is one of the pair's.
-fn is_on_pair(pair: &OrderPair, x: Node) -> bool
-    ensures { result ≡ is_on_pair pair.now x }
-{
-    x.strand == pair.earlier.strand || x.strand == pair.later.strand
-}
-
-/// Whether the node's strand is one of some pair's.
-fn is_on_pairs(pairs: &[OrderPair], x: Node) -> bool
-    ensures { result ≡ is_on_pairs pairs.now x }
-{
-    for pair in pairs {
-        if is_on_pair(pair, x) {
-            return true;
-        }
-    }
-    false
-}
-
-/// The nodes on the strands of pairs. No other node covers another, is covered, or stands between two that do.
-fn nodes_on_pairs(
-    alloc: Global,
-    pairs: &[OrderPair],
-    nodes: &[Node],
-) -> Result<Vec<Node>, AllocError>
-    ensures { IfOk result (λ found. found.items ≡ nodes_on_pairs pairs.now nodes.now) }
-{
-    let mut found = Growing::with_capacity(alloc, nodes.len());
-    for node in nodes {
-        if is_on_pairs(pairs, *node) {
-            found.push(*node);
-        }
-    }
-    found.finish()
-}
-
-/// The covering pairs of nodes with what is before them.
+/// The forms of the pairs, in the order of the nodes.
 #[tactic(auto, using(crate::proofs::GrownForms::made_none))]
-fn covered(alloc: Global, all: &[Ordered]) -> Result<Vec<Form>, AllocError>
-    ensures { IfOk result (λ fs. map view fs.items ≡ all_covered (map ordered_view all.now) 0 (map ordered_view all.now)) }
+fn covered(alloc: Global, covers: &[OrderPair], nodes: &[Node]) -> Result<Vec<Form>, AllocError>
+    ensures { IfOk result (λ fs. map view fs.items ≡ all_covered covers.now nodes.now nodes.now) }
 {
-    let mut forms = Growing::with_capacity(alloc, all.len().saturating_add(1));
-    for number in 0..all.len() {
-        add_covered(alloc, all, number, all[number].node, &mut forms);
+    let mut forms = Growing::with_capacity(alloc, covers.len().saturating_add(1));
+    for node in nodes {
+        add_from(alloc, covers, nodes, *node, &mut forms)?;
     }
     forms.finish()
 }
 
-/// The covering pairs between different strands, by first node and then by second.
-#[tactic(auto, using(crate::proofs::NodesOnPairs::covered_on_pairs))]
+/// The covering pairs between different strands, by first node and then by second. They are among the pairs of the
+/// order: those that the others do not imply.
 pub(crate) fn covering_pairs(alloc: Global, skeleton: &Skeleton) -> Result<Vec<Form>, AllocError>
     ensures { IfOk result (λ fs. map view fs.items ≡ covering_pairs skeleton.now) }
 {
@@ -195,8 +226,10 @@ pub(crate) fn covering_pairs(alloc: Global, skeleton: &Skeleton) -> Result<Vec<F
     if pairs.is_empty() {
         return Ok(Vec::new(alloc));
     }
+    skeleton.is_sound();
+    let shared = shared(alloc, pairs)?;
+    let entries = entries(alloc, pairs, &shared)?;
+    let covers = covers_of(alloc, pairs, &entries)?;
     let nodes = nodes_of(alloc, skeleton.strands())?;
-    let paired = nodes_on_pairs(alloc, pairs, &nodes)?;
-    let all = in_order(alloc, pairs, &paired)?;
-    covered(alloc, &all)
+    covered(alloc, &covers, &nodes)
 }

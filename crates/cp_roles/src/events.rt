@@ -8,17 +8,17 @@ ghost use Rattle.cp_scope.specs.FirstFault.{first_onto};
 
 use cp_base::{Code, Place};
 use cp_scope::{
-    EventHead, FirstFault, event_head, fixed, headed, items_behind, lacks, no_term, place_of,
-    term_faults, term_of,
+    EventHead, FirstFault, Variables, event_head, fixed, headed, items_behind, lacks, no_term,
+    place_of, term_faults, term_of,
 };
 use cp_sexpr::Form;
-use cp_strand::{Declaration, Event};
+use cp_strand::Event;
 use cp_term::Term;
 use std::alloc::{AllocError, Global};
 
 /// Notes the faults of the items after the head of a transmission or a reception. There must be one message; two items
 /// mean a channel.
-fn message_faults(variables: &[Declaration], place: Place, items: &[Form], first: &mut FirstFault)
+fn message_faults(variables: &Variables, place: Place, items: &[Form], first: &mut FirstFault)
     ensures { first.new ≡ first_onto first.old (message_faults variables.now place (map view items.now)) }
 {
     match items {
@@ -34,7 +34,7 @@ fn message_faults(variables: &[Declaration], place: Place, items: &[Form], first
 }
 
 /// Notes the faults of an event.
-fn event_faults(variables: &[Declaration], form: &Form, first: &mut FirstFault)
+fn event_faults(variables: &Variables, form: &Form, first: &mut FirstFault)
     ensures { first.new ≡ first_onto first.old (event_faults variables.now (view form.now)) }
 {
     let Some(list) = headed(form) else {
@@ -54,7 +54,7 @@ fn event_faults(variables: &[Declaration], form: &Form, first: &mut FirstFault)
 }
 
 /// Notes the faults of the events of a trace.
-fn events_faults(variables: &[Declaration], items: &[Form], first: &mut FirstFault)
+fn events_faults(variables: &Variables, items: &[Form], first: &mut FirstFault)
     ensures { first.new ≡ first_onto first.old (events_faults variables.now (map view items.now)) }
 {
     for item in items {
@@ -63,7 +63,7 @@ fn events_faults(variables: &[Declaration], items: &[Form], first: &mut FirstFau
 }
 
 /// Notes the faults of a trace.
-pub(crate) fn trace_faults(variables: &[Declaration], form: &Form, first: &mut FirstFault)
+pub(crate) fn trace_faults(variables: &Variables, form: &Form, first: &mut FirstFault)
     ensures { first.new ≡ first_onto first.old (trace_faults variables.now (view form.now)) }
 {
     if let Some(list) = fixed(form, b"trace", first) {
@@ -73,7 +73,7 @@ pub(crate) fn trace_faults(variables: &[Declaration], form: &Form, first: &mut F
 }
 
 /// What a term stands for, or a placeholder if it has faults.
-fn faultless_term(alloc: Global, variables: &[Declaration], form: &Form) -> Result<Term, AllocError>
+fn faultless_term(alloc: Global, variables: &Variables, form: &Form) -> Result<Term, AllocError>
     ensures { IfOk result (λ t. t ≡ where_faultless (term_faults variables.now (view form.now)) (term_of variables.now (view form.now))) }
 {
     let mut faults = FirstFault::new();
@@ -86,7 +86,7 @@ fn faultless_term(alloc: Global, variables: &[Declaration], form: &Form) -> Resu
 }
 
 /// The message of a transmission or a reception with these items after its head.
-fn message_of(alloc: Global, variables: &[Declaration], items: &[Form]) -> Result<Term, AllocError>
+fn message_of(alloc: Global, variables: &Variables, items: &[Form]) -> Result<Term, AllocError>
     ensures { IfOk result (λ t. t ≡ message_of variables.now (map view items.now)) }
 {
     match items {
@@ -97,7 +97,7 @@ fn message_of(alloc: Global, variables: &[Declaration], items: &[Form]) -> Resul
 
 /// The event that a form stands for. What stands for a form with faults has no meaning, but its message has no
 /// variables.
-fn event_of(alloc: Global, variables: &[Declaration], form: &Form) -> Result<Event, AllocError>
+fn event_of(alloc: Global, variables: &Variables, form: &Form) -> Result<Event, AllocError>
     ensures { IfOk result (λ e. e ≡ event_of variables.now (headed (view form.now))) }
 {
     let Some(list) = headed(form) else {
@@ -113,7 +113,7 @@ fn event_of(alloc: Global, variables: &[Declaration], form: &Form) -> Result<Eve
 /// The events of a trace.
 pub(crate) fn events_of(
     alloc: Global,
-    variables: &[Declaration],
+    variables: &Variables,
     form: &Form,
 ) -> Result<Vec<Event>, AllocError>
     ensures { IfOk result (λ v. v.items ≡ events_stated variables.now (view form.now)) }

@@ -7,15 +7,15 @@ ghost use Rattle.cp_scope.specs.FirstFault.{first_onto};
 ghost use Rattle.cp_roles.specs.Named.{shared_roles_view};
 ghost use Rattle.cp_roles.specs.Mapped.{mapped_names};
 
-use crate::event_variables::occurs;
+use crate::event_variables::{Prefix, occurs};
 use crate::role_named;
 use cp_base::{Code, Place};
 use cp_scope::{
-    FirstFault, Variable, exceeds, first_items, is_word, item_at, lacks, list_items, place_of,
-    sort_faults, symbol_or_empty, term_faults, variable_named,
+    FirstFault, Variable, Variables, exceeds, first_items, is_word, item_at, lacks, list_items,
+    place_of, sort_faults, symbol_or_empty, term_faults, variable_named,
 };
 use cp_sexpr::Form;
-use cp_strand::{Declaration, Role, prefix_of};
+use cp_strand::Role;
 use std::rc::Rc;
 
 /// Notes the faults of the name of a role.
@@ -54,7 +54,7 @@ fn height_faults(role: Option<&Rc<Role>>, form: &Form, first: &mut FirstFault)
 fn role_variable_faults(
     role: &Role,
     height: usize,
-    variables: &[Declaration],
+    variables: &Variables,
     place: Place,
     term: Option<&Form>,
     variable: Option<Variable>,
@@ -68,7 +68,7 @@ fn role_variable_faults(
         return;
     };
     first.note_unless(
-        occurs(prefix_of(role, height), variable),
+        occurs(Prefix { role, height }, variable),
         place,
         Code::NotInPrefix,
     );
@@ -95,7 +95,7 @@ fn is_mapped(maplets: &[Form], identifier: &[u8]) -> bool
 fn mapped_faults(
     role: &Role,
     height: usize,
-    variables: &[Declaration],
+    variables: &Variables,
     before: &[Form],
     form: &Form,
     term: Option<&Form>,
@@ -116,7 +116,7 @@ fn mapped_faults(
 }
 
 /// Notes the faults of the term on the right of a maplet, if there is one.
-fn second_term_faults(variables: &[Declaration], term: Option<&Form>, first: &mut FirstFault)
+fn second_term_faults(variables: &Variables, term: Option<&Form>, first: &mut FirstFault)
     ensures { first.new ≡ first_onto first.old (second_term_faults variables.now (option_map (λ f. view f.now) term.entry)) }
 {
     if let Some(term) = term {
@@ -128,7 +128,7 @@ fn second_term_faults(variables: &[Declaration], term: Option<&Form>, first: &mu
 fn maplet_items_faults(
     role: &Role,
     height: usize,
-    variables: &[Declaration],
+    variables: &Variables,
     before: &[Form],
     place: Place,
     items: &[Form],
@@ -152,7 +152,7 @@ fn maplet_items_faults(
 fn maplet_faults(
     role: &Role,
     height: usize,
-    variables: &[Declaration],
+    variables: &Variables,
     before: &[Form],
     form: &Form,
     first: &mut FirstFault,
@@ -171,7 +171,7 @@ fn maplet_faults(
 fn maplets_faults(
     role: &Role,
     height: usize,
-    variables: &[Declaration],
+    variables: &Variables,
     maplets: &[Form],
     first: &mut FirstFault,
 )
@@ -203,7 +203,7 @@ pub(crate) fn number_of(form: &Form) -> usize
 fn maplets_faults_of(
     role: Option<&Rc<Role>>,
     height: &Form,
-    variables: &[Declaration],
+    variables: &Variables,
     maplets: &[Form],
     first: &mut FirstFault,
 )
@@ -217,7 +217,7 @@ fn maplets_faults_of(
 /// Notes the faults of an instance with these items after its head.
 pub fn instance_faults(
     roles: &[Rc<Role>],
-    variables: &[Declaration],
+    variables: &Variables,
     place: Place,
     items: &[Form],
     first: &mut FirstFault,
@@ -235,12 +235,7 @@ pub fn instance_faults(
 }
 
 /// Notes the faults of a listener with these items after its head.
-pub fn listener_faults(
-    variables: &[Declaration],
-    place: Place,
-    items: &[Form],
-    first: &mut FirstFault,
-)
+pub fn listener_faults(variables: &Variables, place: Place, items: &[Form], first: &mut FirstFault)
     ensures { first.new ≡ first_onto first.old (listener_faults variables.now place (map view items.now)) }
 {
     let Some((term, rest)) = items.split_first() else {

@@ -1,18 +1,19 @@
 // What instances of roles stand for.
 ghost use Rattle.std.specs.Prelude.{◌≡◌, ◌++◌, ◌∷◌, [], length, map, option_map, if◌then◌else◌, IfOk, OnOk};
-ghost use Rattle.cp_model.specs.Strand.{variables_of_trace};
+ghost use Rattle.cp_model.specs.Strand.{variables_of_prefix};
 ghost use Rattle.cp_sexpr.specs.View.{view};
 ghost use Rattle.cp_language.specs.Words.{is_one_of};
 ghost use Rattle.cp_language.specs.Problems.{mapped_identifier, second_form, term_mapped, term_or_fresh, is_fresh, instantiated};
 ghost use Rattle.cp_language.specs.Roles.{list_items};
 ghost use Rattle.cp_roles.specs.InstanceTerms.{maplet_named, term_if_there, wants_fresh, IsInstantiated};
 
-use crate::event_variables::occurs;
+use crate::event_variables::{Prefix, occurs};
 use cp_scope::{
-    Variable, is_word, item_at, list_items, no_term, symbol_or_empty, term_of, variable_term,
+    Variable, Variables, is_word, item_at, list_items, no_term, symbol_or_empty, term_of,
+    variable_term,
 };
 use cp_sexpr::Form;
-use cp_strand::{Declaration, Event};
+use cp_strand::Declaration;
 use cp_term::{Sort, Term};
 use std::alloc::{AllocError, Global};
 
@@ -39,7 +40,7 @@ fn maplet_named<'a>(maplets: &'a [Form], identifier: &[u8]) -> Option<&'a Form>
 }
 
 /// The term on the right of a maplet.
-fn right_term(alloc: Global, variables: &[Declaration], maplet: &Form) -> Result<Term, AllocError>
+fn right_term(alloc: Global, variables: &Variables, maplet: &Form) -> Result<Term, AllocError>
     ensures { IfOk result (λ t. t ≡ term_if_there variables.now (second_form (list_items (view maplet.now)))) }
 {
     match item_at(list_items(maplet), 1) {
@@ -52,7 +53,7 @@ fn right_term(alloc: Global, variables: &[Declaration], maplet: &Form) -> Result
 #[tactic(auto, using(crate::proofs::MapletTerms::mapped_some, crate::proofs::MapletTerms::mapped_none))]
 fn term_mapped(
     alloc: Global,
-    variables: &[Declaration],
+    variables: &Variables,
     identifier: &[u8],
     maplets: &[Form],
 ) -> Result<Option<Term>, AllocError>
@@ -82,8 +83,8 @@ fn term_or_fresh(
 }
 
 /// Whether a variable is made for this variable of a role, which is mapped to this term.
-fn is_fresh(prefix: &[Event], mapped: &Option<Term>, variable: Variable) -> bool
-    ensures { result ≡ wants_fresh (variables_of_trace prefix.now) mapped.now variable }
+fn is_fresh(prefix: Prefix<'_>, mapped: &Option<Term>, variable: Variable) -> bool
+    ensures { result ≡ wants_fresh (variables_of_prefix prefix.entry.role.now prefix.entry.height) mapped.now variable }
 {
     mapped.is_none() && occurs(prefix, variable)
 }
@@ -110,18 +111,18 @@ pub fn copies_of(
 /// The term of this variable of a role, with this number. A variable that is made for it is appended to `all`.
 fn variable_value(
     alloc: Global,
-    prefix: &[Event],
-    declared: &[Declaration],
+    prefix: Prefix<'_>,
+    declared: &Variables,
     maplets: &[Form],
     number: usize,
     declaration: &Declaration,
     all: &mut Vec<Declaration>,
 ) -> Result<Term, AllocError>
     ensures term { IfOk result (λ t. t ≡ term_or_fresh (term_mapped declared.now declaration.now.identifier (map view maplets.now))
-        (is_fresh (variables_of_trace prefix.now) declared.now (map view maplets.now) number declaration.now)
+        (is_fresh (variables_of_prefix prefix.entry.role.now prefix.entry.height) declared.now (map view maplets.now) number declaration.now)
         declaration.now.sort (length all.old.items)) }
     ensures fresh { OnOk result (all.new.items ≡ all.old.items
-        ++ (if is_fresh (variables_of_trace prefix.now) declared.now (map view maplets.now) number declaration.now
+        ++ (if is_fresh (variables_of_prefix prefix.entry.role.now prefix.entry.height) declared.now (map view maplets.now) number declaration.now
         then declaration.now ∷ [] else [])) }
 {
     let sort = declaration.sort;
@@ -142,13 +143,13 @@ fn variable_value(
 /// The terms of the variables of a role with this prefix. Variables that are made for it are appended to `all`.
 pub(crate) fn instantiated(
     alloc: Global,
-    prefix: &[Event],
+    prefix: Prefix<'_>,
     variables: &[Declaration],
-    declared: &[Declaration],
+    declared: &Variables,
     maplets: &[Form],
     all: &mut Vec<Declaration>,
 ) -> Result<Vec<Term>, AllocError>
-    ensures { IfOk result (λ v. IsInstantiated (instantiated (variables_of_trace prefix.now) declared.now (map view maplets.now)
+    ensures { IfOk result (λ v. IsInstantiated (instantiated (variables_of_prefix prefix.entry.role.now prefix.entry.height) declared.now (map view maplets.now)
         (length all.old.items) 0 variables.now) v.items all.old.items all.new.items) }
 {
     let mut terms = Vec::new(alloc);

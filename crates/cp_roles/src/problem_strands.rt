@@ -8,12 +8,13 @@ ghost use Rattle.cp_language.specs.Roles.{headed, item_or_none, items_behind};
 ghost use Rattle.cp_roles.specs.Named.{shared_roles_view};
 ghost use Rattle.cp_roles.specs.MadeStrands.{instance_made, IsMade, IsMadeIf, AreMade};
 
+use crate::event_variables::Prefix;
 use crate::faults::number_of;
 use crate::instances::instantiated;
 use crate::role_named;
-use cp_scope::{ItemHead, headed, item_head, no_term, symbol_or_empty, term_of};
+use cp_scope::{ItemHead, Variables, headed, item_head, no_term, symbol_or_empty, term_of};
 use cp_sexpr::Form;
-use cp_strand::{Declaration, Instance, Role, Strand, prefix_of};
+use cp_strand::{Declaration, Instance, Role, Strand};
 use std::alloc::{AllocError, Global};
 use std::rc::Rc;
 
@@ -21,7 +22,7 @@ use std::rc::Rc;
 fn instance_of_role(
     alloc: Global,
     role: &Rc<Role>,
-    declared: &[Declaration],
+    declared: &Variables,
     height: &Form,
     maplets: &[Form],
     all: &mut Vec<Declaration>,
@@ -32,7 +33,7 @@ fn instance_of_role(
     let height = number_of(height);
     let values = instantiated(
         alloc,
-        prefix_of(role, height),
+        Prefix { role, height },
         role.variables(),
         declared,
         maplets,
@@ -50,7 +51,7 @@ fn no_strand(alloc: Global) -> Result<Strand, AllocError>
 }
 
 /// The listener with these items after its head.
-fn listener(alloc: Global, variables: &[Declaration], items: &[Form]) -> Result<Strand, AllocError>
+fn listener(alloc: Global, variables: &Variables, items: &[Form]) -> Result<Strand, AllocError>
     ensures { IfOk result (λ s. s ≡ listener (listened_term variables.now (map view items.now))) }
 {
     match items {
@@ -63,7 +64,7 @@ fn listener(alloc: Global, variables: &[Declaration], items: &[Form]) -> Result<
 fn instance(
     alloc: Global,
     roles: &[Rc<Role>],
-    declared: &[Declaration],
+    declared: &Variables,
     items: &[Form],
     all: &mut Vec<Declaration>,
 ) -> Result<Strand, AllocError>
@@ -83,7 +84,7 @@ fn instance(
 fn strand(
     alloc: Global,
     roles: &[Rc<Role>],
-    declared: &[Declaration],
+    declared: &Variables,
     item: &Form,
     all: &mut Vec<Declaration>,
 ) -> Result<Option<Strand>, AllocError>
@@ -105,7 +106,7 @@ fn strand(
 pub fn strands(
     alloc: Global,
     roles: &[Rc<Role>],
-    declared: &[Declaration],
+    declared: &Variables,
     items: &[Form],
     all: &mut Vec<Declaration>,
 ) -> Result<Vec<Strand>, AllocError>

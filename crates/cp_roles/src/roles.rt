@@ -137,7 +137,7 @@ fn role_of(
     let uniquely_originating = atoms_of(alloc, &variables, Kind::Unique, items)?;
     let role = Role::new(
         name_of(alloc, name)?,
-        variables,
+        variables.into_declarations(),
         trace,
         non_originating,
         penetrator_non_originating,

@@ -6,9 +6,9 @@ ghost use Rattle.cp_language.specs.Roles.{each_faults, role_unique_faults};
 ghost use Rattle.cp_scope.specs.FirstFault.{first_onto};
 
 use cp_base::Code;
-use cp_scope::{FirstFault, atom_faults, place_of, term_of};
+use cp_scope::{FirstFault, Variables, atom_faults, place_of, term_of};
 use cp_sexpr::Form;
-use cp_strand::{Declaration, Event};
+use cp_strand::Event;
 use cp_term::Term;
 use std::alloc::{AllocError, Global};
 
@@ -16,7 +16,7 @@ use std::alloc::{AllocError, Global};
 #[derive(Clone, Copy)]
 pub(crate) struct Scope<'a> {
     pub(crate) alloc: Global,
-    pub(crate) variables: &'a [Declaration],
+    pub(crate) variables: &'a Variables,
     pub(crate) trace: &'a [Event],
 }
 

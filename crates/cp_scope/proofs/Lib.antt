@@ -12,3 +12,4 @@ pub mod Meanings
 pub mod DeclaredIdentifiers
 pub mod Gathered
 pub mod NamesInUse
+pub mod DeclaredVariables

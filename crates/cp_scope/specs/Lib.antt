@@ -6,3 +6,4 @@ pub mod Applied
 pub mod Fixed
 pub mod Kinds
 pub mod Places
+pub mod Tables

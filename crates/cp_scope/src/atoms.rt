@@ -9,9 +9,9 @@ ghost use Rattle.cp_scope.specs.Kinds.{is_of_kind};
 
 use crate::faults::atom_faults;
 use crate::terms::term_of;
-use crate::{FirstFault, ItemHead, headed, item_head, items_behind};
+use crate::{FirstFault, ItemHead, Variables, headed, item_head, items_behind};
 use cp_sexpr::Form;
-use cp_strand::{Atom, Declaration};
+use cp_strand::Atom;
 use cp_term::{Sort, VarId, var};
 use std::alloc::{AllocError, Global};
 
@@ -35,7 +35,7 @@ pub fn no_atom(alloc: Global) -> Result<Atom, AllocError>
 }
 
 /// The atom that a form stands for. What stands for a form with faults has no meaning.
-pub fn atom_of(alloc: Global, variables: &[Declaration], form: &Form) -> Result<Atom, AllocError>
+pub fn atom_of(alloc: Global, variables: &Variables, form: &Form) -> Result<Atom, AllocError>
     ensures { IfOk result (λ a. a ≡ as_atom (term_of variables.now (view form.now))) }
 {
     match Atom::new(term_of(alloc, variables, form)?) {
@@ -45,7 +45,7 @@ pub fn atom_of(alloc: Global, variables: &[Declaration], form: &Form) -> Result<
 }
 
 /// Notes the faults of the items of an assumption.
-pub fn atoms_faults(variables: &[Declaration], items: &[Form], first: &mut FirstFault)
+pub fn atoms_faults(variables: &Variables, items: &[Form], first: &mut FirstFault)
     ensures { first.new ≡ first_onto first.old (each_faults (atom_faults variables.now) (map view items.now)) }
 {
     for item in items {
@@ -71,7 +71,7 @@ fn is_of_kind(kind: Kind, form: &Form) -> bool
 /// Appends the atoms that the items of a list stand for.
 fn add_atoms(
     alloc: Global,
-    variables: &[Declaration],
+    variables: &Variables,
     items: &[Form],
     atoms: &mut Vec<Atom>,
 ) -> Result<(), AllocError>
@@ -87,7 +87,7 @@ fn add_atoms(
 /// The atoms of the assumptions of this kind among these items.
 pub fn atoms_of(
     alloc: Global,
-    variables: &[Declaration],
+    variables: &Variables,
     kind: Kind,
     items: &[Form],
 ) -> Result<Vec<Atom>, AllocError>

@@ -1,10 +1,9 @@
 // Declarations of variables.
-ghost use Rattle.std.specs.Prelude.{◌≡◌, ◌++◌, ◌∷◌, [], List, map, option_map, IfOk, OnOk, MatchOption, Some};
+ghost use Rattle.std.specs.Prelude.{◌≡◌, ◌++◌, [], List, map, option_map, IfOk, OnOk, MatchOption, Some};
 ghost use Rattle.cp_base.specs.declared.place.Place.{Place as PlaceData};
 ghost use Rattle.cp_base.specs.declared.place.Refusal.{Refusal as Fault};
 ghost use Rattle.cp_sexpr.specs.Syntax.{Form as FormData};
 ghost use Rattle.cp_sexpr.specs.View.{view};
-ghost use Rattle.cp_language.specs.Words.{is_one_of};
 ghost use Rattle.cp_language.specs.Names.{identifiers_in};
 ghost use Rattle.cp_language.specs.Roles.{headed, text_of_symbol, list_items, front_of, last_form, sort_named, is_of_messages, sort_or_text, sort_word_faults, last_sort_faults, identifier_faults, identifiers_faults, declaration_faults, declarations_faults, vars_faults, declared_of, declarations_in, declarations_of, fixed_faults};
 ghost use Rattle.cp_scope.specs.FirstFault.{first_onto};
@@ -13,7 +12,7 @@ ghost use Rattle.cp_scope.specs.Fixed.{faults_inside};
 
 use crate::faults::lacks;
 use crate::{
-    FirstFault, HeadedList, SortWord, front_items, headed, is_out_of_profile, is_word,
+    FirstFault, HeadedList, SortWord, Variables, front_items, headed, is_out_of_profile, is_word,
     items_behind, last_item, place_of, sort_word,
 };
 use cp_base::{Code, Place, Text};
@@ -52,18 +51,6 @@ pub fn name_of(alloc: Global, form: &Form) -> Result<Text, AllocError>
         Form::Symbol(_, text) => text.copy(),
         _ => Text::new(alloc, ""),
     }
-}
-
-/// Whether one of the variables has this identifier.
-fn is_declared(variables: &[Declaration], identifier: &[u8]) -> bool
-    ensures { result ≡ is_one_of identifier.now (identifiers_in variables.now) }
-{
-    for variable in variables {
-        if is_word(identifier, variable.identifier.as_str().as_bytes()) {
-            return true;
-        }
-    }
-    false
 }
 
 fn is_of_messages(word: SortWord) -> bool
@@ -118,7 +105,7 @@ fn last_sort_faults(form: Option<&Form>, first: &mut FirstFault)
 }
 
 /// Notes the faults of an identifier that is declared after these variables.
-fn identifier_faults(variables: &[Declaration], word: SortWord, form: &Form, first: &mut FirstFault)
+fn identifier_faults(variables: &Variables, word: SortWord, form: &Form, first: &mut FirstFault)
     ensures { first.new ≡ first_onto first.old
         (identifier_faults (identifiers_in variables.now) word (view form.now)) }
 {
@@ -129,7 +116,7 @@ fn identifier_faults(variables: &[Declaration], word: SortWord, form: &Form, fir
     if is_of_messages(word) {
         first.note(*place, Code::MesgVar);
     }
-    if is_declared(variables, identifier.as_bytes()) {
+    if variables.declares(identifier.as_bytes()) {
         first.note(*place, Code::DuplicateVar);
     }
 }
@@ -137,23 +124,26 @@ fn identifier_faults(variables: &[Declaration], word: SortWord, form: &Form, fir
 /// Declares these identifiers after the variables. Notes their faults.
 fn declare(
     alloc: Global,
-    variables: &mut Vec<Declaration>,
+    variables: &mut Variables,
     word: SortWord,
     identifiers: &[Form],
     first: &mut FirstFault,
 ) -> Result<(), AllocError>
     ensures faults { OnOk result (first.new ≡ first_onto first.old
-        (identifiers_faults (identifiers_in variables.old.items) word (map view identifiers.now))) }
-    ensures declared { OnOk result (variables.new.items
-        ≡ variables.old.items ++ declared_of (sort_or_text word) (map view identifiers.now)) }
+        (identifiers_faults (identifiers_in variables.old) word (map view identifiers.now))) }
+    ensures declared { OnOk result (variables.new
+        ≡ variables.old ++ declared_of (sort_or_text word) (map view identifiers.now)) }
 {
     for form in identifiers {
         identifier_faults(variables, word, form, first);
         let identifier = name_of(alloc, form)?;
-        variables.push(Declaration {
-            identifier,
-            sort: sort_or_text(word),
-        })?;
+        variables.push(
+            alloc,
+            Declaration {
+                identifier,
+                sort: sort_or_text(word),
+            },
+        )?;
     }
     Ok(())
 }
@@ -161,13 +151,13 @@ fn declare(
 /// Declares the identifiers of one declaration after the variables. Notes its faults.
 fn declaration(
     alloc: Global,
-    variables: &mut Vec<Declaration>,
+    variables: &mut Variables,
     form: &Form,
     first: &mut FirstFault,
 ) -> Result<(), AllocError>
     ensures faults { OnOk result (first.new ≡ first_onto first.old
-        (declaration_faults (identifiers_in variables.old.items) (view form.now))) }
-    ensures declared { OnOk result (variables.new.items ≡ variables.old.items
+        (declaration_faults (identifiers_in variables.old) (view form.now))) }
+    ensures declared { OnOk result (variables.new ≡ variables.old
         ++ declared_of (sort_or_text (sort_named (last_form (list_items (view form.now))))) (front_of (list_items (view form.now)))) }
 {
     let Form::List(place, items) = form else {
@@ -193,11 +183,11 @@ fn declarations(
     alloc: Global,
     items: &[Form],
     first: &mut FirstFault,
-) -> Result<Vec<Declaration>, AllocError>
+) -> Result<Variables, AllocError>
     ensures faults { OnOk result (first.new ≡ first_onto first.old (declarations_faults [] (map view items.now))) }
-    ensures declared { IfOk result (λ v. v.items ≡ declarations_in (map view items.now)) }
+    ensures declared { IfOk result (λ v. v ≡ declarations_in (map view items.now)) }
 {
-    let mut variables = Vec::new(alloc);
+    let mut variables = Variables::new(alloc);
     for item in items {
         declaration(alloc, &mut variables, item, first)?;
     }
@@ -210,9 +200,9 @@ pub fn variables_of(
     alloc: Global,
     form: &Form,
     first: &mut FirstFault,
-) -> Result<Vec<Declaration>, AllocError>
+) -> Result<Variables, AllocError>
     ensures faults { OnOk result (first.new ≡ first_onto first.old (vars_faults (view form.now))) }
-    ensures declared { IfOk result (λ v. v.items ≡ declarations_of (view form.now)) }
+    ensures declared { IfOk result (λ v. v ≡ declarations_of (view form.now)) }
 {
     if fixed(form, b"vars", first).is_some() {
         return declarations(alloc, items_behind(form), first);

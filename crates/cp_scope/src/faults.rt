@@ -8,14 +8,13 @@ ghost use Rattle.cp_lists.specs.Lists.{item_at};
 ghost use Rattle.cp_scope.specs.FirstFault.{first_onto};
 ghost use Rattle.cp_scope.specs.OwnFaults.{sort_faults_if, argument_faults, key_name_faults, two_name_faults, own_faults, judged_name, judged, is_purpose};
 
-use crate::sorts::{has_atom_sort, has_key_sort, has_sort, variable_named};
+use crate::sorts::{has_atom_sort, has_key_sort, has_sort};
 use crate::{
-    FirstFault, HeadedList, TermHead, first_items, headed, item_at, last_item, later_items,
-    place_of, term_head,
+    FirstFault, HeadedList, TermHead, Variables, first_items, headed, item_at, last_item,
+    later_items, place_of, term_head,
 };
 use cp_base::{Code, Place};
 use cp_sexpr::Form;
-use cp_strand::Declaration;
 use cp_term::Sort;
 
 /// Notes a fault at this place, that of a list, if the list has fewer than `count` items.
@@ -35,7 +34,7 @@ pub fn exceeds(count: usize, items: &[Form], first: &mut FirstFault)
 }
 
 /// The term must have this sort.
-pub fn sort_faults(variables: &[Declaration], sort: Sort, form: &Form, first: &mut FirstFault)
+pub fn sort_faults(variables: &Variables, sort: Sort, form: &Form, first: &mut FirstFault)
     ensures { first.new ≡ first_onto first.old (sort_faults variables.now sort (view form.now)) }
 {
     first.note_unless(
@@ -47,7 +46,7 @@ pub fn sort_faults(variables: &[Declaration], sort: Sort, form: &Form, first: &m
 
 /// The item at a place, if there is one, must have this sort.
 fn item_sort_faults(
-    variables: &[Declaration],
+    variables: &Variables,
     sort: Sort,
     items: &[Form],
     place: usize,
@@ -61,7 +60,7 @@ fn item_sort_faults(
 }
 
 /// The last item, if there is one, must be a key.
-fn last_key_faults(variables: &[Declaration], items: &[Form], first: &mut FirstFault)
+fn last_key_faults(variables: &Variables, items: &[Form], first: &mut FirstFault)
     ensures { first.new ≡ first_onto first.old (last_key_faults variables.now (map view items.now)) }
 {
     if let Some(item) = last_item(items) {
@@ -71,7 +70,7 @@ fn last_key_faults(variables: &[Declaration], items: &[Form], first: &mut FirstF
 
 /// Notes the faults of an operation of one argument, which must have this sort. Returns the argument.
 fn argument_faults<'a>(
-    variables: &[Declaration],
+    variables: &Variables,
     sort: Sort,
     place: Place,
     items: &'a [Form],
@@ -95,7 +94,7 @@ pub(crate) fn is_purpose(items: &[Form]) -> bool
 
 /// Notes the faults of a name's key. Returns the name, which follows the purpose if there is one.
 fn name_faults<'a>(
-    variables: &[Declaration],
+    variables: &Variables,
     place: Place,
     items: &'a [Form],
     first: &mut FirstFault,
@@ -113,7 +112,7 @@ fn name_faults<'a>(
 
 /// Notes the faults of a long-term key of two names. Returns the names.
 fn two_name_faults<'a>(
-    variables: &[Declaration],
+    variables: &Variables,
     list: HeadedList<'a>,
     first: &mut FirstFault,
 ) -> &'a [Form]
@@ -129,11 +128,7 @@ fn two_name_faults<'a>(
 }
 
 /// Notes the faults of a list in a term, except those inside its items. Returns the items whose own faults count.
-fn own_faults<'a>(
-    variables: &[Declaration],
-    list: HeadedList<'a>,
-    first: &mut FirstFault,
-) -> &'a [Form]
+fn own_faults<'a>(variables: &Variables, list: HeadedList<'a>, first: &mut FirstFault) -> &'a [Form]
     ensures judged { map view result.now ≡ judged (term_head list.entry.head.now) (map view list.entry.items.now) }
     ensures faults { first.new ≡ first_onto first.old
         (own_faults variables.now list.entry.place (term_head list.entry.head.now) (map view list.entry.items.now)) }
@@ -165,13 +160,13 @@ fn own_faults<'a>(
 }
 
 /// Notes the faults of a term that is no list with a head.
-fn leaf_faults(variables: &[Declaration], form: &Form, first: &mut FirstFault)
+fn leaf_faults(variables: &Variables, form: &Form, first: &mut FirstFault)
     ensures { headed (view form.now) ≡ None
         → first.new ≡ first_onto first.old (term_faults variables.now (view form.now)) }
 {
     match form {
         Form::Symbol(place, identifier) => {
-            if variable_named(variables, identifier.as_bytes()).is_none() {
+            if variables.named(identifier.as_bytes()).is_none() {
                 first.note(*place, Code::UnknownVar);
             }
         }
@@ -181,7 +176,7 @@ fn leaf_faults(variables: &[Declaration], form: &Form, first: &mut FirstFault)
 }
 
 /// Notes the faults of a term over these variables.
-pub fn term_faults(variables: &[Declaration], form: &Form, first: &mut FirstFault)
+pub fn term_faults(variables: &Variables, form: &Form, first: &mut FirstFault)
     ensures { first.new ≡ first_onto first.old (term_faults variables.now (view form.now)) }
 {
     let Some(list) = headed(form) else {
@@ -194,7 +189,7 @@ pub fn term_faults(variables: &[Declaration], form: &Form, first: &mut FirstFaul
 }
 
 /// Notes the faults of an item of an assumption, which must be a term of an atom sort.
-pub fn atom_faults(variables: &[Declaration], form: &Form, first: &mut FirstFault)
+pub fn atom_faults(variables: &Variables, form: &Form, first: &mut FirstFault)
     ensures { first.new ≡ first_onto first.old (atom_faults variables.now (view form.now)) }
 {
     first.note_unless(

@@ -13,6 +13,7 @@ mod forms;
 mod name_set;
 mod sorts;
 mod terms;
+mod variables;
 mod words;
 
 pub use atoms::{Kind, atom_of, atoms_faults, atoms_of, no_atom};
@@ -28,6 +29,7 @@ pub use forms::{
 pub use name_set::NameSet;
 pub use sorts::{is_same_sort, variable_named};
 pub use terms::{applied, no_term, term_of, variable_term};
+pub use variables::Variables;
 pub use words::{
     event_head, is_out_of_profile, is_word, item_head, sort_word, term_head, top_head,
 };

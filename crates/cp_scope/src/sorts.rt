@@ -6,7 +6,7 @@ ghost use Rattle.cp_model.specs.Same.{same_sort};
 ghost use Rattle.cp_language.specs.Roles.{headed};
 ghost use Rattle.cp_language.specs.Terms.{variable_named, sort_of, is_sort, admits_atom};
 
-use crate::{TermHead, headed, is_word, term_head};
+use crate::{TermHead, Variables, headed, is_word, term_head};
 use cp_language::TermSort;
 use cp_model::Variable;
 use cp_sexpr::Form;
@@ -36,13 +36,13 @@ pub fn is_same_sort(first: Sort, second: Sort) -> bool
 }
 
 /// The sort of a term that is no list with a head; `None` if it cannot be known.
-fn sort_of_leaf(variables: &[Declaration], form: &Form) -> Option<TermSort>
+fn sort_of_leaf(variables: &Variables, form: &Form) -> Option<TermSort>
     ensures { headed (view form.now) ≡ None
         → result ≡ sort_of variables.now (view form.now) }
 {
     match form {
         Form::Symbol(_, identifier) => {
-            let variable = variable_named(variables, identifier.as_bytes())?;
+            let variable = variables.named(identifier.as_bytes())?;
             Some(TermSort::Atoms(variable.sort))
         }
         Form::String(..) => Some(TermSort::All),
@@ -51,7 +51,7 @@ fn sort_of_leaf(variables: &[Declaration], form: &Form) -> Option<TermSort>
 }
 
 /// The sort of a term, decided by its head alone; `None` if it cannot be known.
-pub(crate) fn sort_of(variables: &[Declaration], form: &Form) -> Option<TermSort>
+pub(crate) fn sort_of(variables: &Variables, form: &Form) -> Option<TermSort>
     ensures { result ≡ sort_of variables.now (view form.now) }
 {
     let Some(list) = headed(form) else {
@@ -71,7 +71,7 @@ pub(crate) fn sort_of(variables: &[Declaration], form: &Form) -> Option<TermSort
 }
 
 /// Whether a term has this sort; also `true` if its sort cannot be known.
-pub(crate) fn has_sort(variables: &[Declaration], sort: Sort, form: &Form) -> bool
+pub(crate) fn has_sort(variables: &Variables, sort: Sort, form: &Form) -> bool
     ensures { result ≡ is_sort sort (sort_of variables.now (view form.now)) }
 {
     match sort_of(variables, form) {
@@ -82,7 +82,7 @@ pub(crate) fn has_sort(variables: &[Declaration], sort: Sort, form: &Form) -> bo
 }
 
 /// Whether a term has a sort of keys; also `true` if its sort cannot be known.
-pub(crate) fn has_key_sort(variables: &[Declaration], form: &Form) -> bool
+pub(crate) fn has_key_sort(variables: &Variables, form: &Form) -> bool
     ensures { result ≡ (is_sort skey_sort (sort_of variables.now (view form.now))
         || is_sort akey_sort (sort_of variables.now (view form.now))) }
 {
@@ -90,7 +90,7 @@ pub(crate) fn has_key_sort(variables: &[Declaration], form: &Form) -> bool
 }
 
 /// Whether a term has an atom sort; also `true` if its sort cannot be known.
-pub(crate) fn has_atom_sort(variables: &[Declaration], form: &Form) -> bool
+pub(crate) fn has_atom_sort(variables: &Variables, form: &Form) -> bool
     ensures { result ≡ admits_atom (sort_of variables.now (view form.now)) }
 {
     match sort_of(variables, form) {

@@ -7,12 +7,10 @@ ghost use Rattle.cp_language.specs.Terms.{variable_named, term_of_variable, pair
 ghost use Rattle.cp_term.specs.Keys.{name_of, key_as_term};
 ghost use Rattle.cp_scope.specs.Applied.{is_name, is_key, purpose_in, key_of_purpose};
 
-use crate::sorts::variable_named;
-use crate::{TermHead, headed, term_head};
+use crate::{TermHead, Variables, headed, term_head};
 use cp_base::Text;
 use cp_model::Variable;
 use cp_sexpr::Form;
-use cp_strand::Declaration;
 use cp_term::{Shape, Sort, Term, VarId, enc, invert, ltk, pair, pubk, tag, var};
 use std::alloc::{AllocError, Global};
 
@@ -202,21 +200,17 @@ pub fn applied(
 }
 
 /// What a symbol stands for.
-fn named_term(
-    alloc: Global,
-    variables: &[Declaration],
-    identifier: &[u8],
-) -> Result<Term, AllocError>
+fn named_term(alloc: Global, variables: &Variables, identifier: &[u8]) -> Result<Term, AllocError>
     ensures { IfOk result (λ t. t ≡ term_of_variable (variable_named variables.now identifier.now)) }
 {
-    match variable_named(variables, identifier) {
+    match variables.named(identifier) {
         Some(variable) => variable_term(alloc, variable),
         None => no_term(alloc),
     }
 }
 
 /// What a term that is no list with a head stands for.
-fn leaf_term(alloc: Global, variables: &[Declaration], form: &Form) -> Result<Term, AllocError>
+fn leaf_term(alloc: Global, variables: &Variables, form: &Form) -> Result<Term, AllocError>
     ensures { IfOk result (λ t. headed (view form.now) ≡ None → t ≡ term_of variables.now (view form.now)) }
 {
     match form {
@@ -227,7 +221,7 @@ fn leaf_term(alloc: Global, variables: &[Declaration], form: &Form) -> Result<Te
 }
 
 /// What a term over these variables stands for.
-pub fn term_of(alloc: Global, variables: &[Declaration], form: &Form) -> Result<Term, AllocError>
+pub fn term_of(alloc: Global, variables: &Variables, form: &Form) -> Result<Term, AllocError>
     ensures { IfOk result (λ t. t ≡ term_of variables.now (view form.now)) }
 {
     let Some(list) = headed(form) else {

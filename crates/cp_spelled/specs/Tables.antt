@@ -1,14 +1,7 @@
--- Tables that find variables by their identifiers, and locals by their numbers.
-use Rattle.std.specs.Prelude.{◌≡◌, ◌==◌, ℕ, suc, List, [], ◌∷◌, Option, Some, None, nat_eq, Vec, if◌then◌else◌}
-use Rattle.std.specs.HashMap.{HashMap, get, get_by}
-use Rattle.std.specs.Str.{bytes_eq}
-use Rattle.cp_model.specs.declared.variable.Declaration.{Declaration}
+-- Tables that find locals by their numbers.
+use Rattle.std.specs.Prelude.{◌≡◌, ◌==◌, ℕ, suc, List, [], ◌∷◌, Option, Some, None, nat_eq, if◌then◌else◌}
+use Rattle.std.specs.HashMap.{HashMap, get}
 use Rattle.cp_model.specs.declared.variable.Variable.{Variable}
-use Rattle.cp_language.specs.Terms.{variable_named}
-
--- The table has for each identifier the variable that is declared by it.
-abbrev pub AreVariablesOf : List Declaration → {A S : Type 0} → HashMap (Vec ℕ A) Variable S → Type 0
-AreVariablesOf ds table = (t : List ℕ) → get_by (λ k. bytes_eq t k.items) table ≡ variable_named ds t
 
 -- The first of the locals with this number: its sort, and its place, where the first of the list has place k.
 abbrev pub local_from : ℕ → List Variable → ℕ → Option Variable

@@ -17,6 +17,7 @@ mod terms;
 mod variables;
 
 pub use cp_report::LocalAt;
+pub use cp_scope::Variables;
 pub use entries::{
     any_number_misfits, entries_under, has_head, lacking, no_more, one_number_misfits,
 };
@@ -28,4 +29,4 @@ pub use misfits::{atom_misfits, term_misfits, value_misfits};
 pub use patterns::{pattern_misfits, pattern_of};
 pub use scope::Scope;
 pub use terms::{atom_in, term_in, term_or_tag};
-pub use variables::{Variables, declarations_of_label, identifier_of, second, variables_of};
+pub use variables::{declarations_of_label, identifier_of, second, variables_of};

@@ -5,7 +5,7 @@ use Rattle.cp_model.specs.Problem.{IsDeclared}
 use Rattle.cp_model.specs.Strand.{Role, prefix_of, variables_of_prefix}
 use Rattle.cp_unify.specs.Bindings.{Binding, Meets}
 use Rattle.cp_collapse.specs.FirstPartitions.{IsExactFor}
-use Rattle.cp_collapse.proofs.Prefixes.{AgreeBelow, variable_at, closed_lower, at_declaration, given_first, below_passes, below_takes, below_never, below_last, equal_below, term_there}
+use Rattle.cp_collapse.proofs.Prefixes.{AgreeBelow, variable_at, closed_lower, at_declaration, given_first, below_passes, below_takes, below_apart, below_never, below_last, equal_below, term_there}
 use Rattle.cp_collapse.proofs.equal_values.unify_instances.Goals.{After-occurs}
 use Rattle.cp_collapse.proofs.equal_values.unify_instances.Goals as goal
 
@@ -40,17 +40,30 @@ loop-number-preserved c =
     let general = rw c.deref-in-loop-number.ensures at (rw c.in-Some.is at c.in_ok-next.ensures.some) in
     let taken = below_takes (λ g. Meets g c.args.given.now.value) a.role (min a.height b.height) (bindings_of a.values) (bindings_of b.values) (closed_lower a.role a.height b.height c.requires.declared) c.loop-number.number c.loop-number.bindings.value c.loop-number.invariant (variable_at c.declaration-item.result c.loop-number.number) refl at.0
     (at.1 ∙ c.if-not-occurs.false) c.in_ok-first.first c.in_ok-second.second
-    (term_there a.values c.values.result.now _ _ c.in_ok-first.first c.values.ensures (ap (variable_at c.declaration-item.result) c.numbered-id.ensures) c.in_ok-first.ensures)
-    (term_there b.values c.values-in-loop-number.result.now _ _ c.in_ok-second.second c.values-in-loop-number.ensures (ap (variable_at c.declaration-item.result) c.numbered-id.ensures) c.in_ok-second.ensures) c.in-Some.next general in
+    (term_there a.values c.values-first_values.result.now _ _ c.in_ok-first.first c.values-first_values.ensures (ap (variable_at c.declaration-item.result) c.numbered-id.ensures) c.in_ok-first.ensures)
+    (term_there b.values c.values-second_values.result.now _ _ c.in_ok-second.second c.values-second_values.ensures (ap (variable_at c.declaration-item.result) c.numbered-id.ensures) c.in_ok-second.ensures) c.in-Some.next general in
     subst (λ (r : List Binding). IsExactFor (AgreeBelow (λ g. Meets g c.args.given.now.value) a.role (min a.height b.height) (bindings_of a.values) (bindings_of b.values) (c.loop-number.number + 1)) r) (sym c.in_ok-bindings-in-Some.ensures.ok) taken
+
+pub returns-then-never_agree : goal.returns-then-never_agree
+returns-then-never_agree c = λ g f.
+    let a = c.args.a.now in
+    let b = c.args.b.now in
+    let at = at_hand (goal.at.returns-then-never_agree c).After-occurs in
+    let numbered = ap (variable_at c.declaration-item.result) c.numbered-id.ensures in
+    below_apart (λ g. Meets g c.args.given.now.value) a.role (min a.height b.height) (bindings_of a.values) (bindings_of b.values) (closed_lower a.role a.height b.height c.requires.declared) c.loop-number.number c.loop-number.bindings.value c.loop-number.invariant (variable_at c.declaration-item.result c.loop-number.number) refl at.0
+    (at.1 ∙ c.if-not-occurs.false) _ _
+    (term_there a.values c.values-first_values.result.now _ _ _ c.values-first_values.ensures numbered refl)
+    (term_there b.values c.values-second_values.result.now _ _ _ c.values-second_values.ensures numbered refl)
+    (c.never_agree.ensures c.if-never_agree.true)
+    g (equal_below (λ g. Meets g c.args.given.now.value) a.role (min a.height b.height) (bindings_of a.values) (bindings_of b.values) _ a.height b.height (omega arith) (omega arith) g f)
 
 pub returns-in-None : goal.returns-in-None
 returns-in-None c = λ g f.
     let a = c.args.a.now in
     let b = c.args.b.now in
     let at = at_hand (goal.at.returns-in-None c).After-occurs in
-    let first = term_there a.values c.values.result.now _ _ c.in_ok-first.first c.values.ensures (ap (variable_at c.declaration-item.result) c.numbered-id.ensures) c.in_ok-first.ensures in
-    let second = term_there b.values c.values-in-loop-number.result.now _ _ c.in_ok-second.second c.values-in-loop-number.ensures (ap (variable_at c.declaration-item.result) c.numbered-id.ensures) c.in_ok-second.ensures in
+    let first = term_there a.values c.values-first_values.result.now _ _ c.in_ok-first.first c.values-first_values.ensures (ap (variable_at c.declaration-item.result) c.numbered-id.ensures) c.in_ok-first.ensures in
+    let second = term_there b.values c.values-second_values.result.now _ _ c.in_ok-second.second c.values-second_values.ensures (ap (variable_at c.declaration-item.result) c.numbered-id.ensures) c.in_ok-second.ensures in
     let none = rw c.deref-in-loop-number.ensures at (rw c.in-None.is at c.in_ok-next.ensures.none) in
     below_never (λ g. Meets g c.args.given.now.value) a.role (min a.height b.height) (bindings_of a.values) (bindings_of b.values) (closed_lower a.role a.height b.height c.requires.declared) c.loop-number.number c.loop-number.bindings.value c.loop-number.invariant (variable_at c.declaration-item.result c.loop-number.number) refl at.0
     (at.1 ∙ c.if-not-occurs.false) c.in_ok-first.first c.in_ok-second.second first second none

@@ -8,7 +8,7 @@ use Rattle.cp_collapse.proofs.partitions.unify_block.Goals as goal
 pub loop-strand-init : goal.loop-strand-init
 loop-strand-init c =
     let same : c.in_ok-bindings.bindings.value ≡ c.args.partial.now.bindings.value = search rules in
-    subst (λ r. IsExactFor (EqualsBlock c.args.k.now c.args.partial.now.lowest.items c.args.number c.args.block 0) r) (sym same)
+    subst (λ r. IsExactFor (EqualsBlock c.args.k.now c.args.partial.now.lowest.items c.args.number c.args.block c.args.block) r) (sym same)
     (exact_block_first c.args.k.now c.args.number c.args.partial.now.lowest.items c.requires.partition c.args.block c.args.partial.now.bindings.value c.requires.exact)
 
 pub loop-strand-preserved-then-not-is_in_block : goal.loop-strand-preserved-then-not-is_in_block

@@ -1,4 +1,4 @@
-use Rattle.std.proofs.Common.{◌++◌, ◌∷◌, [], drop, take, sym, subst, ap, ◌∙◌}
+use Rattle.std.proofs.Common.{◌++◌, ◌∷◌, [], drop, take, refl, sym, subst, ap, ◌∙◌}
 use Rattle.cp_model.proofs.CarriedParts.{not_both}
 use Rattle.cp_model.specs.Derivable.{DerivableAt}
 use Rattle.cp_model.specs.Skeleton.{IsNodeOf}
@@ -27,6 +27,13 @@ move_to-requires c = record {
       (node_there _ _ _ _ _ c.loop-occurrence.invariant c.occurrence-item.result c.loop-occurrence-test.true c.occurrence-item.is
       c.in-Receive.message (sym c.event.ensures ∙ c.in-Receive.is));
 }
+
+pub loop-occurrence-preserved-then-derives_at_once : goal.loop-occurrence-preserved-then-derives_at_once
+loop-occurrence-preserved-then-derives_at_once c =
+    let m = c.in-Receive.message in
+    derivable_passed _ _ _ _ _ c.loop-occurrence.invariant c.occurrence-item.result c.loop-occurrence-test.true c.occurrence-item.is
+    m (sym c.event.ensures ∙ c.in-Receive.is) _ refl
+    (subst (λ n. DerivableAt c.loop-occurrence.known_before.skeleton n m) c.node-at.ensures (c.derives_at_once.ensures c.if-derives_at_once.true))
 
 pub loop-occurrence-preserved-then-buildable : goal.loop-occurrence-preserved-then-buildable
 loop-occurrence-preserved-then-buildable c =

@@ -1,11 +1,12 @@
-use Rattle.cp_fingerprint.proofs.ChainRounds.{risen_more}
+use Rattle.cp_fingerprint.proofs.ChainRounds.{risen_more, settled_by}
 use Rattle.cp_fingerprint.proofs.chain_table.settle.Goals as goal
 
-pub loop-preserved : goal.loop-preserved
-loop-preserved c = risen_more c.args.starts.now c.args.pairs.now c.args.weights.now c.loop.weights c.raise.new.weights c.loop.invariant c.raise.ensures.risen
+pub returns-then-not-raise_onward : goal.returns-then-not-raise_onward
+returns-then-not-raise_onward c =
+    let back = risen_more c.args.starts.now c.args.pairs.now c.args.weights.now c.loop-weights.weights c.raise_back.new.weights c.loop-weights.invariant c.raise_back.ensures.risen in
+    settled_by c.args.starts.now c.args.pairs.now c.args.weights.now c.raise_back.new.weights c.raise_onward.new.weights c.raise_onward.result c.if-not-raise_onward.true back c.raise_onward.ensures
 
-pub returns : goal.returns
-returns c = record {
-  risen = risen_more c.args.starts.now c.args.pairs.now c.args.weights.now c.loop.weights c.raise.new.weights c.loop.invariant c.raise.ensures.risen;
-  settled = c.raise.ensures.settled c.loop-test.false;
-}
+pub loop-weights-preserved : goal.loop-weights-preserved
+loop-weights-preserved c =
+    let back = risen_more c.args.starts.now c.args.pairs.now c.args.weights.now c.loop-weights.weights c.raise_back.new.weights c.loop-weights.invariant c.raise_back.ensures.risen in
+    risen_more c.args.starts.now c.args.pairs.now c.args.weights.now c.raise_back.new.weights c.raise_onward.new.weights back c.raise_onward.ensures.risen

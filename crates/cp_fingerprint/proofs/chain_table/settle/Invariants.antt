@@ -1,8 +1,8 @@
 use Rattle.cp_fingerprint.specs.ChainTable.{room, IsRisen}
 use Rattle.cp_fingerprint.proofs.chain_table.settle.Given as goal
 
-abbrev pub invariant-loop : goal.invariant-loop
-invariant-loop l = IsRisen l.starts l.pairs l.fn.weights l.weights
+abbrev pub invariant-loop-weights : goal.invariant-loop-weights
+invariant-loop-weights l = IsRisen l.starts l.pairs l.fn.weights l.weights
 
-abbrev pub decreases-loop : goal.decreases-loop
-decreases-loop l = room l.weights
+abbrev pub decreases-loop-weights : goal.decreases-loop-weights
+decreases-loop-weights l = room l.weights

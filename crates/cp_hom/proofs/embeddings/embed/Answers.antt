@@ -1,12 +1,11 @@
-use Rattle.std.proofs.Common.{List, sym, subst₂}
-use Rattle.cp_model.specs.Skeleton.{SkeletonStrand}
-use Rattle.cp_model.proofs.CarriedParts.{not_both}
-use Rattle.cp_hom.specs.RoleCounts.{HaveRoom}
-use Rattle.cp_hom.proofs.Crowded.{embedding_has_room}
 use Rattle.cp_hom.proofs.embeddings.embed.Goals as goal
 
-pub returns-then-not-have_room-clause-none : goal.returns-then-not-have_room-clause-none
-returns-then-not-have_room-clause-none c = λ f h.
-    not_both c.if-not-have_room.true
-    (c.have_room.ensures.1 (subst₂ (λ (xs ys : List SkeletonStrand). HaveRoom xs ys) (sym c.strands.ensures) (sym c.strands-2.ensures)
-    (embedding_has_room c.args.a.now c.args.b.now f h)))
+pub returns-then-has_no_choice-clause-none : goal.returns-then-has_no_choice-clause-none
+returns-then-has_no_choice-clause-none c = λ f h.
+    let started = rw c.in-Some.is at c.in_ok-given.ensures in
+    c.has_no_choice.ensures c.if-has_no_choice.true f (started.general f (tt, tt) (record { strands = h.same_strands; values = h.same_values })) h
+
+pub search-requires-clause-started : goal.search-requires-clause-started
+search-requires-clause-started c =
+    let h = rw c.in-Some.is at c.in_ok-given.ensures in
+    record { consistent = h.consistent (tt, tt); problem = h.sound }

@@ -4,8 +4,11 @@ use Rattle.cp_hom.specs.PartialMaps.{IsKnown}
 use Rattle.cp_hom.proofs.PairedItems.{known_two, known_not}
 use Rattle.cp_hom.proofs.known.known_pair.Goals as goal
 
+pub returns-then-is_elsewhere : goal.returns-then-is_elsewhere
+returns-then-is_elsewhere c = rw c.in-Strands.is (λ f follows w. c.is_elsewhere.ensures c.if-is_elsewhere.true f follows w.0)
+
 pub returns-then-is_no_part : goal.returns-then-is_no_part
-returns-then-is_no_part c = rw c.in-Strands.is (λ f follows w. c.is_no_part.ensures c.if-is_no_part.true f.terms w.1)
+returns-then-is_no_part c = rw c.in-Strands.is (λ f follows w. c.is_no_part.ensures c.if-is_no_part.true f follows w.1)
 
 pub returns-in-Terms : goal.returns-in-Terms
 returns-in-Terms c = rw c.in-Terms.is c.known_term.ensures

@@ -1,4 +1,4 @@
-use Rattle.std.proofs.Common.{[], map, take, drop, length, ◌-◌, ap, ◌∙◌}
+use Rattle.std.proofs.Common.{[], map, take, drop, length, ◌-◌, refl, ap, ◌∙◌}
 use Rattle.std.proofs.lemmas.Result.{IfOk-weaker}
 use Rattle.cp_language.specs.Problems.{protocol_named, protocol_or_none, has_strand}
 use Rattle.cp_sexpr.specs.View.{view}
@@ -22,15 +22,15 @@ returns-clause-faults c =
     let above = turned (protocols_view c.args.above.now) [] in
     let body = map view (take (length c.args.items.now - 2) (drop 2 c.args.items.now)) in
     let protocol = c.in_ok-protocol.protocol.value in
-    let ds = c.in_ok-declared.declared.items in
+    let ds = c.in_ok-declared.declared in
     let strands = c.in_ok-strands.strands.items in
     let all = c.in_ok-strands.variables.items in
     let named = c.in_ok-protocol.ensures ∙ ap (λ t. protocol_or_none (protocol_named above t)) c.symbol_or_empty.ensures in
-    let made = remade c.deref.result.now protocol c.deref-2.result.now ds body c.in_ok-strands.field-0.strands.items strands c.in_ok-strands.field-0.variables.items all
-    c.deref.ensures c.deref-2.ensures.value (ap (λ v. v.items) c.in_ok-strands.strands-is) (ap (λ v. v.items) c.in_ok-strands.variables-is)
+    let made = remade c.deref.result.now protocol ds ds body c.in_ok-strands.field-0.strands.items strands c.in_ok-strands.field-0.variables.items all
+    c.deref.ensures refl (ap (λ v. v.items) c.in_ok-strands.strands-is) (ap (λ v. v.items) c.in_ok-strands.variables-is)
     c.in_ok-strands.ensures in
-    let items = bodies-same (shared_roles_view c.roles.result.now) protocol.roles c.deref-4.result.now ds c.deref-5.result.now strands body c.variables_of.new.first
-    (c.roles.ensures ∙ ap (λ q. q.roles) c.deref-3.ensures) c.deref-4.ensures.value (c.deref-5.ensures.value ∙ ap (λ v. v.items) c.in_ok-strands.strands-is) in
+    let items = bodies-same (shared_roles_view c.roles.result.now) protocol.roles ds ds c.deref-3.result.now strands body c.variables_of.new.first
+    (c.roles.ensures ∙ ap (λ q. q.roles) c.deref-2.ensures) refl (c.deref-3.ensures.value ∙ ap (λ v. v.items) c.in_ok-strands.strands-is) in
     problem-read above c.args.place c.args.items.now c.name-item.result c.variables-item.result c.in-len2-up.len_at_least c.name-item.is c.variables-item.is
     protocol named strands ds all c.in_ok-declared.ensures.declared made c.has_strand.result
     c.args.first.now c.note_unless.new.self c.protocol_name_faults.new.first c.variables_of.new.first c.body_faults.new.first

@@ -1,23 +1,27 @@
-use Rattle.std.proofs.Common.{[], ◌∷◌, ◌++◌, map, ap, ◌∙◌}
-use Rattle.cp_base.specs.Growing.{seen}
-use Rattle.cp_language.specs.Printed.{plain_list}
-use Rattle.cp_language.specs.Report.{node_form}
+use Rattle.std.proofs.Common.{List, ◌++◌, sym, ap, ◌∙◌, subst}
+use Rattle.std.proofs.lemmas.List.{get_or_default}
+use Rattle.cp_base.specs.Growing.{Grows, seen}
+use Rattle.cp_base.proofs.Grown.{grows_by_none}
+use Rattle.cp_sexpr.specs.Syntax.{Form}
 use Rattle.cp_sexpr.specs.View.{view}
-use Rattle.cp_print.specs.Order.{ordered_view}
-use Rattle.cp_print.proofs.CoveredForms.{covers_it, covers_not}
+use Rattle.cp_print.proofs.CoveredForms.{covered_here, covered_behind, covered_none}
 use Rattle.cp_print.proofs.GrownForms.{loop_next}
 use Rattle.cp_print.proofs.order.add_covered.Goals as goal
 
-pub loop-y-preserved-then-not-is_covering : goal.loop-y-preserved-then-not-is_covering
-loop-y-preserved-then-not-is_covering c =
+pub returns-then-is_empty : goal.returns-then-is_empty
+returns-then-is_empty c =
+    let old = seen view c.args.forms.now in
+    subst (λ (fs : List Form). Grows old old fs) (sym (covered_none c.args.ends.now c.args.x c.args.nodes.now _ c.is_empty.ensures c.if-is_empty.true)) (grows_by_none old)
+
+pub loop-y-preserved-then-not-has_node : goal.loop-y-preserved-then-not-has_node
+loop-y-preserved-then-not-has_node c =
     let l = c.loop-y in
-    let next = covers_not (map ordered_view c.args.all.now) c.args.number c.args.all.now l.y-index c.y-item.result c.loop-y-test.true c.y-item.is c.args.x c.is_covering.result c.is_covering.ensures c.if-not-is_covering.true in
+    let next = covered_behind c.args.nodes.now l.y-index _ c.loop-y-test.true (get_or_default c.args.nodes.now l.y-index _ _ c.loop-y-test.true) c.args.ends.now c.args.x c.has_node.result c.has_node.ensures c.if-not-has_node.true in
     (l.invariant.0, l.invariant.1, l.invariant.2 ∙ ap (λ t. l.invariant.0 ++ t) next)
 
 pub loop-y-preserved : goal.loop-y-preserved
 loop-y-preserved c =
     let l = c.loop-y in
-    let next = covers_it (map ordered_view c.args.all.now) c.args.number c.args.all.now l.y-index c.y-item.result c.loop-y-test.true c.y-item.is c.args.x c.is_covering.result c.is_covering.ensures c.if-not-is_covering.false in
+    let next = covered_here c.args.nodes.now l.y-index _ c.loop-y-test.true (get_or_default c.args.nodes.now l.y-index _ _ c.loop-y-test.true) c.args.ends.now c.args.x c.has_node.result c.has_node.ensures c.if-not-has_node.false in
     let pair = c.list.ensures _ (c.two-pair.ensures _ _ c.node_form.ensures c.node_form-in-loop-y.ensures) in
-    loop_next (seen view c.args.forms.now) (seen view l.forms) (seen view c.add.new.items) l.invariant.0 _ _ _ (plain_list (node_form c.args.x ∷ node_form c.y-item.result.node ∷ [])) l.invariant.1 l.invariant.2 next
-    (c.add.ensures _ pair)
+    loop_next (seen view c.args.forms.now) (seen view l.forms) (seen view c.add.new.items) l.invariant.0 _ _ _ _ l.invariant.1 l.invariant.2 next (c.add.ensures _ pair)

@@ -1,11 +1,10 @@
-use Rattle.std.proofs.Common.{◌≡◌, List, ◌++◌, map, drop}
+use Rattle.std.proofs.Common.{◌≡◌, List, ◌++◌, drop}
 use Rattle.cp_base.specs.Growing.{Grows, seen}
 use Rattle.cp_sexpr.specs.Syntax.{Form}
 use Rattle.cp_sexpr.specs.View.{view}
-use Rattle.cp_print.specs.Order.{ordered_view, covered}
+use Rattle.cp_print.specs.Order.{covered}
 use Rattle.cp_print.proofs.order.add_covered.Given as goal
 
 abbrev pub invariant-loop-y : goal.invariant-loop-y
 invariant-loop-y l =
-    (done : List Form) × (Grows (seen view l.fn.forms) (seen view l.forms) done)
-    × (covered (map ordered_view l.all) l.number l.x (map ordered_view l.all) ≡ done ++ covered (map ordered_view l.all) l.number l.x (map ordered_view (drop l.y-index l.all)))
+    (done : List Form) × (Grows (seen view l.fn.forms) (seen view l.forms) done) × (covered l.ends l.x l.nodes ≡ done ++ covered l.ends l.x (drop l.y-index l.nodes))

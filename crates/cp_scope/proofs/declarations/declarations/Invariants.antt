@@ -7,5 +7,5 @@ use Rattle.cp_scope.proofs.declarations.declarations.Given as goal
 
 abbrev pub invariant-loop-item : goal.invariant-loop-item
 invariant-loop-item l =
-    (first_onto l.first (declarations_faults (identifiers_in l.variables.items) (map view (drop l.item-index l.items))) ≡ first_onto l.initial.first (declarations_faults [] (map view l.items)))
-    × (l.variables.items ++ declarations_in (map view (drop l.item-index l.items)) ≡ declarations_in (map view l.items))
+    (first_onto l.first (declarations_faults (identifiers_in l.variables) (map view (drop l.item-index l.items))) ≡ first_onto l.initial.first (declarations_faults [] (map view l.items)))
+    × (l.variables ++ declarations_in (map view (drop l.item-index l.items)) ≡ declarations_in (map view l.items))

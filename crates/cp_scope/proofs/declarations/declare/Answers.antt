@@ -18,11 +18,11 @@ pushed old new d t s e f g =
 pub loop-form-preserved : goal.loop-form-preserved
 loop-form-preserved c =
     let word = c.args.word in
-    let ds = c.loop-form.variables.items in
-    let same = pushed c.loop-form.variables.items c.push.new.self.items _ (text_of_symbol (view c.form-item.result)) (sort_or_text word) c.in_ok-push.ensures.items c.in_ok-identifier.ensures c.sort_or_text.ensures in
+    let ds = c.loop-form.variables in
+    let same = pushed c.loop-form.variables c.push.new.self _ (text_of_symbol (view c.form-item.result)) (sort_or_text word) c.in_ok-push.ensures c.in_ok-identifier.ensures c.sort_or_text.ensures in
     let faults : c.identifier_faults.new.first ≡ first_onto c.loop-form.first (identifier_faults (identifiers_in ds) word (view c.form-item.result)) =
-    c.identifier_faults.ensures ∙ ap (λ vs. first_onto c.loop-form.first (identifier_faults (identifiers_in vs) word (view c.form-item.result))) c.deref.ensures.value in (
-      identifiers-taken word c.args.identifiers.now c.loop-form.form-index c.form-item.result c.loop-form-test.true c.form-item.is ds c.push.new.self.items
+    c.identifier_faults.ensures in (
+      identifiers-taken word c.args.identifiers.now c.loop-form.form-index c.form-item.result c.loop-form-test.true c.form-item.is ds c.push.new.self
           c.loop-form.first c.identifier_faults.new.first _ same faults c.loop-form.invariant.0,
-      declared-taken word c.args.identifiers.now c.loop-form.form-index c.form-item.result c.loop-form-test.true c.form-item.is ds c.push.new.self.items _ same c.loop-form.invariant.1,
+      declared-taken word c.args.identifiers.now c.loop-form.form-index c.form-item.result c.loop-form-test.true c.form-item.is ds c.push.new.self _ same c.loop-form.invariant.1,
     )

@@ -7,7 +7,7 @@ use Rattle.cp_scope.proofs.declarations.declare.Given as goal
 
 abbrev pub invariant-loop-form : goal.invariant-loop-form
 invariant-loop-form l =
-    (first_onto l.first (identifiers_faults (identifiers_in l.variables.items) l.word (map view (drop l.form-index l.identifiers)))
-    ≡ first_onto l.initial.first (identifiers_faults (identifiers_in l.initial.variables.items) l.word (map view l.identifiers)))
-    × (l.variables.items ++ declared_of (sort_or_text l.word) (map view (drop l.form-index l.identifiers))
-    ≡ l.initial.variables.items ++ declared_of (sort_or_text l.word) (map view l.identifiers))
+    (first_onto l.first (identifiers_faults (identifiers_in l.variables) l.word (map view (drop l.form-index l.identifiers)))
+    ≡ first_onto l.initial.first (identifiers_faults (identifiers_in l.initial.variables) l.word (map view l.identifiers)))
+    × (l.variables ++ declared_of (sort_or_text l.word) (map view (drop l.form-index l.identifiers))
+    ≡ l.initial.variables ++ declared_of (sort_or_text l.word) (map view l.identifiers))

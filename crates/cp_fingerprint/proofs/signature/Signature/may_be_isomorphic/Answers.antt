@@ -3,10 +3,5 @@ use Rattle.cp_fingerprint.proofs.signature.Signature.may_be_isomorphic.Goals as 
 
 pub returns-then-self-other : goal.returns-then-self-other
 returns-then-self-other c =
-    let told = other_number (λ s. s.bucket_key) (λ s t h. h.bucket_key) _ _ c.args.self.now c.args.other.now c.self.view_is c.other.view_is c.if-self-other.true in
-    record { exact = told.0; kept = told.1 }
-
-pub returns-then-self-other-2 : goal.returns-then-self-other-2
-returns-then-self-other-2 c =
-    let told = other_number (λ s. s.chains) (λ s t h. h.chains) _ _ c.args.self.now c.args.other.now c.self.view_is c.other.view_is c.if-self-other-2.true in
+    let told = other_number (λ s. s.chains) (λ s t h. h.chains) _ _ c.args.self.now c.args.other.now c.self.view_is c.other.view_is c.if-self-other.true in
     record { exact = told.0; kept = told.1 }

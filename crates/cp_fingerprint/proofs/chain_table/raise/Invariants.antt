@@ -1,6 +1,0 @@
-use Rattle.std.proofs.Common.{take}
-use Rattle.cp_fingerprint.proofs.ChainRounds.{IsRaised}
-use Rattle.cp_fingerprint.proofs.chain_table.raise.Given as goal
-
-abbrev pub invariant-loop-number : goal.invariant-loop-number
-invariant-loop-number l = IsRaised l.starts l.pairs (take l.number l.pairs) l.fn.weights l.weights l.rose
