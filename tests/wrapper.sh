@@ -273,14 +273,15 @@ heeded=
 if env --default-signal=INT true 2>"$dir/nothing"; then heeded='env --default-signal=INT'; fi
 
 # Runs the script with these words at a terminal, where after $1 seconds an interrupt is typed if $1 is not 0. What is left
-# on the screen is the output, and of what was there what says that the search goes on.
+# on the screen is the output, and of what was there what says that the search goes on. The terminal is left a second later,
+# since `script` may lose what comes to it just before the end.
 at_terminal() {
     typed=$1
     shift
     status=0
     # shellcheck disable=SC2086
     if [ "$typed" != 0 ]; then sleep "$typed" && printf '\003'; fi |
-        TMPDIR="$tmpdir/at_terminal" $heeded script -q -e -c "$checkout/cpsa $* <$dir/input" /dev/null >"$dir/screen" || status=$?
+        TMPDIR="$tmpdir/at_terminal" $heeded script -q -e -c "trap : INT; $checkout/cpsa $* <$dir/input; ended=\$?; sleep 1; exit \$ended" /dev/null >"$dir/screen" || status=$?
     awk '{
         sub(/\r$/, "")
         count = split($0, parts, "\r")

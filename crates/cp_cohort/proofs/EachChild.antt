@@ -22,14 +22,15 @@ use Rattle.cp_skel.specs.Events.{LocatedEvent, events_of}
 use Rattle.cp_skel.specs.Tables.{HaveTable}
 use Rattle.cp_theory.specs.Covering.{put_before}
 use Rattle.cp_pattern.specs.Unifiers.{UnifiesMostGenerally}
+use Rattle.cp_model.specs.Problem.{numbers_from}
 use Rattle.cp_cohort.specs.Releases.{Release, PartialSolution}
 use Rattle.cp_cohort.specs.Stages.{IsFirstUnder, SolvesRelease, on_the_way}
-use Rattle.cp_cohort.specs.GatheredLists.{terms_onto}
+use Rattle.cp_cohort.specs.GatheredLists.{EachGives, StartsGiving, terms_onto}
 use Rattle.cp_cohort.specs.CoveringChildren.{Child, child, IsTransmissionBefore, HasGrown}
-use Rattle.cp_cohort.specs.Cohort.{GuardedTest, Contracts, AreContracted, release_at, DisplacesEvent, DisplacesStrand, AddsAt, AddsEvent, FreesCritical, by_key, by_body, by_nothing, OpensPattern, Listens, AreListeners, IsCohort, is_before, is_displaced, is_added, of_listener, of_node, of_role, is_inside, is_critical, cyclic}
+use Rattle.cp_cohort.specs.Cohort.{GuardedTest, Contracts, AreContracted, release_at, DisplacesEvent, DisplacesStrand, positions, AddsAt, AddsEvent, StartsEvent, AreFirstAdded, FreesCritical, by_key, by_body, by_nothing, OpensPattern, Listens, AreListeners, IsCohort, is_before, is_displaced, is_added, of_listener, of_node, of_role, is_inside, is_critical, cyclic}
 use Rattle.cp_cohort.specs.Cohort as cohort
 use Rattle.cp_cohort.specs.Released.{SetsFree, critical_key, critical_body, pattern_key}
-use Rattle.cp_cohort.proofs.Listed.{given, those_have, of_terms_onto}
+use Rattle.cp_cohort.proofs.Listed.{IsGiven, given, started, those_have, of_terms_onto}
 
 -- What is listened to may set the critical term free.
 module _ (q : GuardedTest) where
@@ -155,7 +156,24 @@ module _ (protocol : Protocol) (q : GuardedTest) (P : Child → Type 0) where
     added_event role in_roles j children (cohort.is_reception there_is) d i = absurd (not_in_none i)
     added_event role in_roles j children (is_added {t = t} there_is each) d i = let one = given each d i in holds.added role in_roles j t there_is one.giver one.given one.gives_it d one.among
 
-    -- Then it holds of each child.
+    added_role : (role : Role) → IsIn role protocol.roles → (children : List Child) → EachGives (AddsEvent q role) (numbers_from 0 role.trace) children → (d : Child) → IsIn d children → P d
+    added_role role in_roles children each d i = let event = given each d i in added_event role in_roles event.giver event.given event.gives_it d event.among
+
+    first_of_event : (role : Role) → IsIn role protocol.roles → (j : ℕ) (children : List Child) → StartsEvent q role j children → (d : Child) → IsIn d children → P d
+    first_of_event role in_roles j children s d i =
+        let one : IsGiven (AddsAt q role j) (positions s.message) d = ⊎_elim (λ r. r) (λ r. r) (started s.start d i) in
+        holds.added role in_roles j s.message s.sent one.giver one.given one.gives_it d one.among
+
+    first_of_role : (role : Role) → IsIn role protocol.roles → (children : List Child) → StartsGiving (AddsEvent q role) (StartsEvent q role) (numbers_from 0 role.trace) children → (d : Child) → IsIn d children → P d
+    first_of_role role in_roles children start d i =
+        ⊎_elim (λ event. added_event role in_roles event.giver event.given event.gives_it d event.among) (λ event. first_of_event role in_roles event.giver event.given event.gives_it d event.among) (started start d i)
+
+    -- Then it holds of each of the first children with an added strand.
+    pub each_first_added : (children : List Child) → AreFirstAdded protocol q children → (d : Child) → IsIn d children → P d
+    each_first_added children start d i =
+        ⊎_elim (λ role. added_role role.giver role.listed role.given role.gives_it d role.among) (λ role. first_of_role role.giver role.listed role.given role.gives_it d role.among) (started start d i)
+
+    -- And it holds of each child.
     pub each_child : (children : List Child) → IsCohort protocol q children → (d : Child) → IsIn d children → P d
     each_child children is d i =
         ⊎_elim (λ m. each_contracted is.contracted is.are_contracted d m)
@@ -166,10 +184,7 @@ module _ (protocol : Protocol) (q : GuardedTest) (P : Child → Type 0) where
         each_displaced n = let one = given is.are_displaced d n in displaced_strand one.giver one.given one.gives_it d one.among
 
         each_added : IsIn d is.added → P d
-        each_added n =
-            let role = given is.are_added d n in
-            let event = given role.gives_it d role.among in
-            added_event role.giver role.listed event.giver event.given event.gives_it d event.among
+        each_added n = let role = given is.are_added d n in added_role role.giver role.listed role.given role.gives_it d role.among
 
         each_listened : IsIn d is.listeners → P d
         each_listened n = let one = given is.are_listeners.each d n in holds.listened one.giver (heard q is.listeners is.are_listeners one.giver one.listed) one.given one.gives_it d one.among

@@ -7,7 +7,7 @@ use Rattle.cp_cohort.specs.CoveringChildren.{Child}
 use Rattle.cp_cohort.specs.Cohort.{GuardedTest, AreContracted, DisplacesStrand, AddsEvent, AreListeners, IsCohort}
 use Rattle.cp_cohort.specs.Views.{PutsChildren}
 
-pub all_put : (protocol : Protocol) (q : GuardedTest) (none one two three four : List Child) → none ≡ [] → PutsChildren (AreContracted q) none one → PutsChildren (EachGives (DisplacesStrand q) (numbers_from 0 q.skeleton.strands)) one two →
+abbrev pub all_put : (protocol : Protocol) (q : GuardedTest) (none one two three four : List Child) → none ≡ [] → PutsChildren (AreContracted q) none one → PutsChildren (EachGives (DisplacesStrand q) (numbers_from 0 q.skeleton.strands)) one two →
     PutsChildren (EachGives (λ role. EachGives (AddsEvent q role) (numbers_from 0 role.trace)) protocol.roles) two three → PutsChildren (AreListeners q) three four → IsCohort protocol q four
 all_put protocol q none one two three four empty a b c d = record {
   contracted = a.added;

@@ -1,5 +1,5 @@
 -- Grown skeletons in which an event is to release the critical term.
-use Rattle.std.proofs.Common.{◌≡◌, ◌≢◌, ℕ, suc, ◌<◌, List, [], ◌∷◌, ◌++◌, length, get_or, map, Option, Some, None, refl, sym, ap, ◌∙◌, subst, arith, inl, inr}
+use Rattle.std.proofs.Common.{◌≡◌, ◌≢◌, ℕ, suc, ◌<◌, List, [], ◌∷◌, ◌++◌, length, get_or, map, Option, Some, None, false, refl, sym, ap, ◌∙◌, subst, arith, inl, inr}
 use Rattle.std.specs.Borrow.{Bor}
 use Rattle.cp_lists.specs.Lists.{item_at, one_step}
 use Rattle.cp_lists.proofs.Items.{item_still, item_last, item_below, item_of_read}
@@ -34,17 +34,21 @@ use Rattle.cp_theory.specs.Covering.{put_before}
 use Rattle.cp_theory.specs.Fresh.{fresh_terms}
 use Rattle.cp_cohort.specs.Releases.{PartialSolution}
 use Rattle.cp_cohort.specs.Stages.{IsFirstUnder, SolvesRelease, on_the_way}
-use Rattle.cp_cohort.specs.GatheredLists.{EachGives, nothing_given, then_given}
+use Rattle.cp_cohort.specs.GatheredLists.{EachGives, nothing_given, then_given, StartsGiving, starts_here, starts_later}
 use Rattle.cp_cohort.specs.CoveringChildren.{Child, child, declarations_among, HasGrown}
-use Rattle.cp_cohort.specs.Cohort.{GuardedTest, positions, cyclic, never_equal, unified, release_at, DisplacesEvent, is_displaced, AddsAt, AddsEvent, is_added}
+use Rattle.cp_cohort.specs.Cohort.{GuardedTest, positions, cyclic, never_equal, unified, release_at, DisplacesEvent, is_displaced, AddsAt, AddsEvent, StartsEvent, is_added}
 use Rattle.cp_cohort.proofs.GrownEvents.{Sends, grown_sends}
-use Rattle.cp_cohort.specs.Children.{ReleasesAt, ReleasesEach, ReleasesPut}
+use Rattle.cp_cohort.specs.Children.{ReleasesAt, ReleasesEach, ReleasesPut, StartsReleasing}
 use Rattle.cp_cohort.proofs.ChildLists.{each_nothing}
-use Rattle.cp_cohort.proofs.Positions.{wider, positions_under}
+use Rattle.cp_cohort.proofs.Positions.{wider, starts_wider, positions_under}
 
 pub each_other : {A B : Type 0} (P Q : A → List B → Type 0) → ((x : A) (ys : List B) → P x ys → Q x ys) → (xs : List A) (ys : List B) → EachGives P xs ys → EachGives Q xs ys
 each_other P Q f [] _ nothing_given = nothing_given
 each_other P Q f (x ∷ xs) _ (then_given {ys = ys} {zs = zs} h rest) = then_given (f x ys h) (each_other P Q f xs zs rest)
+
+starts_other : {A B : Type 0} (P Q : A → List B → Type 0) → ((x : A) (ys : List B) → P x ys → Q x ys) → {xs : List A} {ys : List B} → StartsGiving P P xs ys → StartsGiving Q Q xs ys
+starts_other P Q f (starts_here {x = x} {ys = ys} s) = starts_here (f x ys s)
+starts_other P Q f (starts_later {x = x} {ys = ys} h rest) = starts_later (f x ys h) (starts_other P Q f rest)
 
 -- ---- put before the node
 
@@ -74,18 +78,37 @@ module _ (q : GuardedTest) (op : Operation) (m : Node) where
       let free : (y : Node) → Before (put_before m q.node grown) y y → ⊥ = subst (λ (k : Skeleton). (y : Node) → Before k y y → ⊥) same acyclic in
       unified free there at unifies (subst (λ (k : Skeleton). IsFirstUnder k s x) same is_first) settles
 
-  -- The positions at which what stands may equal the critical term are enough.
-  pub each_released : (put grown : Skeleton) (message : Term) (paths : List (List Step)) → put ≡ put_before m q.node grown → paths ≡ positions_where (may_equal q.critical) message → ((t : Term) → term_event_at put.strands m ≡ Some (send t) → message ≡ t) →
-      (cs : List Child) → EachGives (ReleasesPut q op m put message) paths cs → ReleasesEach q op m grown cs
-  each_released put grown message paths same all is cs e t there =
-      let here : term_event_at put.strands m ≡ Some (send t) = ap (λ (k : Skeleton). term_event_at k.strands m) same ∙ there in
-      let says : message ≡ t = is t here in
-      let there_message : term_event_at grown.strands m ≡ Some (send message) = there ∙ ap (λ (u : Term). Some (send u)) (sym says) in
-      let some : EachGives (ReleasesAt q op m grown) paths cs = each_other (ReleasesPut q op m put message) (ReleasesAt q op m grown) (λ path ys r. r grown same there_message) paths cs e in
-      let wide : EachGives (ReleasesAt q op m grown) (positions message) cs =
-      wider (may_equal q.critical) message (ReleasesAt q op m grown) (λ path u at fails. never_equal there_message at (differing.never_equal q.critical u fails)) cs
-      (subst (λ ps. EachGives (ReleasesAt q op m grown) ps cs) all some) in
-      subst (λ (u : Term). EachGives (ReleasesAt q op m grown) (positions u) cs) says wide
+  -- What is released in a grown skeleton that has been put before the node: the positions at which what stands may equal the
+  -- critical term are enough.
+  module _ (put grown : Skeleton) (message : Term) (same : put ≡ put_before m q.node grown) (is : (t : Term) → term_event_at put.strands m ≡ Some (send t) → message ≡ t) where
+    abbrev Put : List Step → List Child → Type 0
+    Put = ReleasesPut q op m put message
+
+    abbrev There : List Step → List Child → Type 0
+    There = ReleasesAt q op m grown
+
+    says : (t : Term) → term_event_at grown.strands m ≡ Some (send t) → message ≡ t
+    says t there = is t (ap (λ (k : Skeleton). term_event_at k.strands m) same ∙ there)
+
+    module _ (t : Term) (there : term_event_at grown.strands m ≡ Some (send t)) where
+      sends : term_event_at grown.strands m ≡ Some (send message)
+      sends = there ∙ ap (λ (u : Term). Some (send u)) (sym (says t there))
+
+      put_there_is : (path : List Step) (cs : List Child) → Put path cs → There path cs
+      put_there_is path cs r = r grown same sends
+
+      others_never : (path : List Step) (u : Term) → term_at message path ≡ Some u → may_equal q.critical u ≡ false → There path []
+      others_never path u at fails = never_equal sends at (differing.never_equal q.critical u fails)
+
+    pub released_all : (cs : List Child) → EachGives Put (positions_where (may_equal q.critical) message) cs → ReleasesEach q op m grown cs
+    released_all cs e t there =
+        subst (λ (u : Term). EachGives There (positions u) cs) (says t there)
+        (wider (may_equal q.critical) message There (others_never t there) cs (each_other Put There (put_there_is t there) (positions_where (may_equal q.critical) message) cs e))
+
+    pub released_first : (cs : List Child) → StartsGiving Put Put (positions_where (may_equal q.critical) message) cs → StartsReleasing q op m grown cs
+    released_first cs e t there =
+        subst (λ (u : Term). StartsGiving There There (positions u) cs) (says t there)
+        (starts_wider (may_equal q.critical) message There (others_never t there) cs (starts_other Put There (put_there_is t there) e))
 
 -- ---- the events of a strand
 
@@ -150,18 +173,27 @@ module _ (q : GuardedTest) (role : Role) (j : ℕ) (t : Term) (sent : item_at ro
     between_strands = other;
   }
 
-  pub added_each : grown.variables ≡ q.skeleton.variables ++ declarations_among role (prefix_variables role (suc j)) → (cs : List Child) → ReleasesEach q (by_added_strand (length q.skeleton.strands)) place grown cs → AddsEvent q role j cs
-  added_each same cs r =
-      let each : EachGives (ReleasesAt q (by_added_strand (length q.skeleton.strands)) place grown) (positions t) cs =
-      subst (λ ps. EachGives (ReleasesAt q (by_added_strand (length q.skeleton.strands)) place grown) ps cs) (positions_under (as_substitution added_sends.terms) t) (r (apply_to (as_substitution added_sends.terms) t) added_sends.there) in
-      is_added sent (each_other (ReleasesAt q (by_added_strand (length q.skeleton.strands)) place grown) (AddsAt q role j)
-      (λ path ys h. record {
-        grown = grown;
-        adds = adds;
-        variables = same;
-        releases = h;
-      })
-      (positions t) cs each)
+  abbrev At : List Step → List Child → Type 0
+  At = ReleasesAt q (by_added_strand (length q.skeleton.strands)) place grown
+
+  abbrev message_there : Term
+  message_there = apply_to (as_substitution added_sends.terms) t
+
+  module _ (same : grown.variables ≡ q.skeleton.variables ++ declarations_among role (prefix_variables role (suc j))) (cs : List Child) where
+    adds_at : (path : List Step) (ds : List Child) → At path ds → AddsAt q role j path ds
+    adds_at path ds h = record { grown = grown; adds = adds; variables = same; releases = h }
+
+    pub added_each : ReleasesEach q (by_added_strand (length q.skeleton.strands)) place grown cs → AddsEvent q role j cs
+    added_each r =
+        is_added sent (each_other At (AddsAt q role j) adds_at (positions t) cs
+        (subst (λ ps. EachGives At ps cs) (positions_under (as_substitution added_sends.terms) t) (r message_there added_sends.there)))
+
+    pub added_first : StartsReleasing q (by_added_strand (length q.skeleton.strands)) place grown cs → StartsEvent q role j cs
+    added_first r = record {
+      message = t;
+      sent = sent;
+      start = starts_other At (AddsAt q role j) adds_at (subst (λ ps. StartsGiving At At ps cs) (positions_under (as_substitution added_sends.terms) t) (r message_there added_sends.there));
+    }
 
 -- There is no node beyond the strands.
 pub strand_there : (strands : List SkeletonStrand) (n : Node) (e : Event Term) → term_event_at strands n ≡ Some e → n.strand < length strands
@@ -170,11 +202,6 @@ strand_there strands n e at = by_strand (item_at strands n.strand) refl
     by_strand : (o : Option SkeletonStrand) → item_at strands n.strand ≡ o → n.strand < length strands
     by_strand None none = let fails : item_at (skeleton_trace_or_none None) n.index ≡ Some e = ap (λ (p : Option SkeletonStrand). item_at (skeleton_trace_or_none p) n.index) (sym none) ∙ at in absurd (cc)
     by_strand (Some x) is = item_below strands n.strand x is
-
--- What is released in a grown skeleton that has been put before the node.
-pub released_all : (q : GuardedTest) (op : Operation) (m : Node) (put grown : Skeleton) (message : Term) → put ≡ put_before m q.node grown → ((t : Term) → term_event_at put.strands m ≡ Some (send t) → message ≡ t) →
-    (cs : List Child) → EachGives (ReleasesPut q op m put message) (positions_where (may_equal q.critical) message) cs → ReleasesEach q op m grown cs
-released_all q op m put grown message same is cs e = each_released q op m put grown message (positions_where (may_equal q.critical) message) same refl is cs e
 
 -- ---- events of roles
 
@@ -199,6 +226,9 @@ module _ (q : GuardedTest) (role : Role) (j : ℕ) (t : Term) (sent : item_at ro
       subst (λ (m : ℕ). IsOrderPair grown (record { earlier = record { strand = m; index = j }; later = q.node })) (sym number)
       (added_pair q role j t sent grown adds (λ e. absurd (omega (arith, below, e))) test)
 
-  pub added_at : grown.variables ≡ q.skeleton.variables ++ declarations_among role (prefix_variables role (suc j)) → (cs : List Child) → ReleasesEach q (by_added_strand n) (record { strand = n; index = j }) grown cs → AddsEvent q role j cs
-  added_at same cs r =
-      added_each q role j t sent grown adds same cs (subst (λ (m : ℕ). ReleasesEach q (by_added_strand m) (record { strand = m; index = j }) grown cs) number r)
+  module _ (same : grown.variables ≡ q.skeleton.variables ++ declarations_among role (prefix_variables role (suc j))) (cs : List Child) where
+    pub added_at : ReleasesEach q (by_added_strand n) (record { strand = n; index = j }) grown cs → AddsEvent q role j cs
+    added_at r = added_each q role j t sent grown adds same cs (subst (λ (m : ℕ). ReleasesEach q (by_added_strand m) (record { strand = m; index = j }) grown cs) number r)
+
+    pub first_added_at : StartsReleasing q (by_added_strand n) (record { strand = n; index = j }) grown cs → StartsEvent q role j cs
+    first_added_at r = added_first q role j t sent grown adds same cs (subst (λ (m : ℕ). StartsReleasing q (by_added_strand m) (record { strand = m; index = j }) grown cs) number r)

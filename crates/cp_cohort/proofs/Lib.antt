@@ -8,9 +8,11 @@ pub mod AddedListener
 pub mod OtherTables
 pub mod FitValues
 pub mod FourLists
+pub mod UntilGiven
 pub mod AsMessages
 pub mod UnmatchedEncryptions
 pub mod FurtherMatches
+pub mod KeptConditions
 pub mod Ranked
 pub mod OccurrenceBranches
 pub mod Forms

@@ -8,7 +8,7 @@ use Rattle.cp_model.specs.Problem.{numbers_from}
 use Rattle.cp_model.specs.Same.{same_term}
 use Rattle.cp_model.proofs.SameTests.{term_is}
 use Rattle.cp_model.proofs.NumbersFrom.{number_from}
-use Rattle.cp_cohort.specs.GatheredLists.{EachGives, nothing_given, then_given, AreThoseWith, none_left, taken, left_out, has_term, terms_onto}
+use Rattle.cp_cohort.specs.GatheredLists.{EachGives, nothing_given, then_given, StartsGiving, starts_here, starts_later, AreThoseWith, none_left, taken, left_out, has_term, terms_onto}
 
 -- ---- what items give
 
@@ -38,6 +38,12 @@ pub given : {A B : Type 0} {gives : A → List B → Type 0} {xs : List A} {zs :
 given nothing_given y i = absurd (not_in_none i)
 given (then_given {x = x} {ys = ys} {zs = zs} g rest) y i =
     ⊎_elim (λ j. record { giver = x; listed = here; given = ys; gives_it = g; among = j }) (λ j. later_given (given rest y j)) (in_append ys zs i)
+
+-- So is each item of one that the first items give, or the next one starts to give.
+pub started : {A B : Type 0} {gives starts : A → List B → Type 0} {xs : List A} {zs : List B} → StartsGiving gives starts xs zs → (y : B) → IsIn y zs → IsGiven gives xs y ⊎ IsGiven starts xs y
+started (starts_here {x = x} {ys = ys} s) y i = inr (record { giver = x; listed = here; given = ys; gives_it = s; among = i })
+started (starts_later {x = x} {ys = ys} {zs = zs} g rest) y i =
+    ⊎_elim (λ j. inl (record { giver = x; listed = here; given = ys; gives_it = g; among = j })) (λ j. ⊎_elim (λ r. inl (later_given r)) (λ r. inr (later_given r)) (started rest y j)) (in_append ys zs i)
 
 -- ---- the items with a property
 

@@ -10,7 +10,7 @@ use Rattle.cp_normal.specs.declared.form.Form.{Form}
 use Rattle.cp_cohort.specs.Releases.{Release, PartialSolution, came_by}
 use Rattle.cp_cohort.specs.Stages.{of_form}
 use Rattle.cp_cohort.specs.declared.attempts.Attempt.{Attempt}
-use Rattle.cp_cohort.specs.Candidates.{Tried, on_way, normal_form, OneMatches, trace_in, ComesFrom, MatchesMore, SolvesInto, none_if_inside, into_branches, into_forms, is_solved}
+use Rattle.cp_cohort.specs.Candidates.{Tried, on_way, normal_form, form_or_result, OneMatches, trace_in, ComesFrom, MatchesMore, SolvesInto, none_if_inside, into_branches, into_forms, is_solved}
 use Rattle.cp_cohort.proofs.OccurrenceBranches.{branch_of_choice, matches_more}
 use Rattle.cp_cohort.proofs.Forms.{form_comes}
 use Rattle.cp_cohort.proofs.PairedForms.{has_form}
@@ -77,12 +77,16 @@ form_falls r a b f not_normal comes e =
     subst (λ (c : Attempt). rank r c < rank r a) (same_attempt (record { tried = of_form f; is_normal = true }) b e)
     (no_more a.is_normal (left_unmatched r (of_form f)) (left_unmatched r a.tried) not_normal (no_more_left r a.tried (of_form f) comes))
 
+open_form : (settled : Bool) (f : Form) (b : Attempt) → form_or_result settled f ≡ to_try b → normal_form f ≡ to_try b
+open_form true f b e = absurd (no_result b (of_form f) (sym e))
+open_form false f b e = e
+
 pub step_falls : (r : Release) (a b : Attempt) (made : List Tried) → SolvesInto r a made → IsIn (Open b) made → rank r b < rank r a
 step_falls r a b _ (none_if_inside inside) i = elim i [ ]
 step_falls r a b made (into_branches {t = t} {path = path} outside first are) i =
     let o = branch_of_choice a.tried are (Open b) i in
     branch_falls r a b o.tried (matches_more r a.tried t path first (Open b) o) o.candidate
 step_falls r a b made (into_forms e meets forms) i =
-    let o = from_map normal_form forms.forms (subst (λ (cs : List Tried). IsIn (Open b) cs) forms.all i) in
-    form_falls r a b o.0 e (form_comes r a.tried forms.forms forms.are o.0 (has_form a.tried.skeleton a.tried.substitution forms.forms forms.are.forms forms.are.each o.0 o.1)) o.2
+    let o = from_map (form_or_result forms.settled) forms.forms (subst (λ (cs : List Tried). IsIn (Open b) cs) forms.all i) in
+    form_falls r a b o.0 e (form_comes r a.tried forms.forms forms.are o.0 (has_form a.tried.skeleton a.tried.substitution forms.forms forms.are.forms forms.are.each o.0 o.1)) (open_form forms.settled o.0 b o.2)
 step_falls r a b _ (is_solved e meets) i = absurd (no_result b a.tried (only_item i))

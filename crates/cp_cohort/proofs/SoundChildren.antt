@@ -1,5 +1,5 @@
 -- The children of a test are sound.
-use Rattle.std.proofs.Common.{◌≡◌, ℕ, suc, ◌<◌, ◌≤◌, List, [], ◌++◌, length, Some, refl, sym, ap, ◌∙◌, subst, ◌⊎◌, inl, inr, append_assoc, arith}
+use Rattle.std.proofs.Common.{◌≡◌, ℕ, suc, ◌<◌, ◌≤◌, List, [], ◌++◌, length, Option, Some, None, refl, sym, ap, ◌∙◌, subst, ◌⊎◌, inl, inr, append_assoc, arith}
 use Rattle.std.specs.Prelude.{◌≢◌}
 use Rattle.std.proofs.lemmas.List.{append-nil}
 use Rattle.cp_lists.specs.Lists.{item_at, IsIn}
@@ -40,15 +40,18 @@ use Rattle.cp_theory.specs.Fresh.{fresh_terms}
 use Rattle.cp_theory.proofs.Places.{position_variables}
 use Rattle.cp_cohort.specs.Releases.{PartialSolution}
 use Rattle.cp_cohort.specs.CoveringChildren.{Child, child, declarations_among}
-use Rattle.cp_cohort.specs.Cohort.{GuardedTest, release_at, AddsAt, IsCohort}
+use Rattle.cp_cohort.specs.Cohort.{GuardedTest, release_at, AddsAt, AreFirstAdded, IsCohort}
 use Rattle.cp_skel.specs.Tables.{HaveTable}
 use Rattle.cp_cohort.specs.Cohort as cohort
 use Rattle.cp_cohort.specs.Released.{SetsFree, critical_key, critical_body, pattern_key}
 use Rattle.cp_cohort.specs.Way.{DeclaresMore}
+use Rattle.cp_model.specs.Tree.{Pattern}
+use Rattle.cp_cohort.specs.declared.widening.Widening.{Widening}
+use Rattle.cp_cohort.specs.Widening.{IsCohortUntil}
 use Rattle.cp_cohort.specs.Sound.{KeepsProblems, IsSoundChild}
 use Rattle.cp_cohort.proofs.OnTheWay.{unifier_keeps}
 use Rattle.cp_cohort.proofs.Settled.{event_declared, settles_later}
-use Rattle.cp_cohort.proofs.EachChild.{DisplacesAt, ComesOfContracting, ComesOfReleasing, ComesOfListening, of_contracted, of_released, of_listened, each_child}
+use Rattle.cp_cohort.proofs.EachChild.{DisplacesAt, ComesOfContracting, ComesOfReleasing, ComesOfListening, of_contracted, of_released, of_listened, HoldsOfGiven, each_first_added, each_child}
 use Rattle.cp_cohort.proofs.EventsBefore.{listening_is_skeleton}
 use Rattle.cp_cohort.proofs.CohortCovers.{IsGrown, put_on_the_way, displaced_grown, added_grown}
 use Rattle.cp_cohort.proofs.Problems.{keeps_itself, keeps_then, keeps_under, keeps_alike, keeps_forms, keeps_more, keeps_put, settles_keeps}
@@ -178,13 +181,24 @@ module _ (protocol : Protocol) (q : GuardedTest) (sk : IsSkeleton protocol q.ske
 
   -- ---- all of them
 
-  pub sound : (children : List Child) → IsCohort protocol q children → (d : Child) → IsIn d children → IsSound d
-  sound = each_child protocol q IsSound (record {
+  given_sound : HoldsOfGiven protocol q IsSound
+  given_sound = record {
     contracted = λ o there_is before path. of_contracted q IsSound o path (contracted_sound o there_is path);
     displaced = λ s role height terms on apart j t sent none. displaced_at s role height terms on apart j t sent;
     added = added_at;
     listened = λ t free. of_listened q IsSound t (listened_sound t (heard_declared t free));
-  })
+  }
+
+  pub sound : (children : List Child) → IsCohort protocol q children → (d : Child) → IsIn d children → IsSound d
+  sound = each_child protocol q IsSound given_sound
+
+  pub first_added_sound : (children : List Child) → AreFirstAdded protocol q children → (d : Child) → IsIn d children → IsSound d
+  first_added_sound = each_first_added protocol q IsSound given_sound
+
+  -- So is each that is made until one gives a pattern.
+  pub sound_until : (source : Child → Pattern → Type 0) (children : List Child) (found : Option Widening) → IsCohortUntil source protocol q children found → (d : Child) → IsIn d children → IsSound d
+  sound_until source children None is = sound children is.0
+  sound_until source children (Some w) is = first_added_sound children is.0
 
 pub sound_child : (protocol : Protocol) (q : GuardedTest) (children : List Child) → IsSkeleton protocol q.skeleton → ((role : Role) → IsIn role protocol.roles → DeclaresItsVariables role) → HasDeclaredVariables q.skeleton.variables q.skeleton →
     IsTest q.skeleton q.node q.critical → Guards q.patterns q.skeleton q.node q.critical → IsCohort protocol q children → (d : Child) → IsIn d children → IsSoundChild protocol q d

@@ -10,7 +10,7 @@ use Rattle.cp_model.specs.Skeleton.{skeleton_trace_or_none}
 use Rattle.cp_model.specs.Tree.{Pattern}
 use Rattle.cp_model.specs.declared.step.Step.{Step}
 use Rattle.cp_normal.specs.declared.form.Form.{Form}
-use Rattle.cp_normal.specs.Formed.{AreFormsBeside}
+use Rattle.cp_normal.specs.Formed.{AreFormsBeside, Keeps}
 use Rattle.cp_theory.specs.Above.{encryptions_above}
 use Rattle.cp_theory.specs.Matches.{Matches}
 use Rattle.cp_pattern.specs.Unifiers.{UnifiesMostGenerally, NeverEqual}
@@ -28,6 +28,11 @@ on_way x = Open (record { tried = x; is_normal = false })
 
 abbrev pub normal_form : Form → Tried
 normal_form f = Open (record { tried = of_form f; is_normal = true })
+
+-- What becomes of a normal form: nothing further, if it keeps what the conditions speak of.
+abbrev pub form_or_result : Bool → Form → Tried
+form_or_result true f = Done (of_form f)
+form_or_result false f = normal_form f
 
 -- Whether it is known to be a normal form.
 abbrev pub stage_of : Bool → Stage
@@ -53,11 +58,13 @@ pub data AreBranchesByChoices (x : PartialSolution) : List Choice → List Tried
 
 -- ---- steps
 
--- They are the normal forms of x.
+-- They are the normal forms of x. If these keep its strands and its substitution, they are results.
 pub record BecomesNormalForms (x : PartialSolution) (made : List Tried) : Type 0 where
   pub forms : List Form
   pub are : AreFormsBeside x.skeleton x.substitution forms
-  pub all : made ≡ map normal_form forms
+  pub settled : Bool
+  pub keep : settled ≡ true → (f : Form) → IsIn f forms → Keeps x.skeleton x.substitution f
+  pub all : made ≡ map (form_or_result settled) forms
 
 -- One step. Where the term would be released inside the patterns, nothing is left. Where an earlier event carries it outside
 -- them, the branches by the first such occurrence are. Where both conditions hold, a normal form is solved, and any other

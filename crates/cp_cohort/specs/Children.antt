@@ -18,7 +18,7 @@ use Rattle.cp_skel.specs.Tables.{HaveTable, DiffersInTable}
 use Rattle.cp_skel.specs.Events.{LocatedEvent}
 use Rattle.cp_theory.specs.Covering.{put_before}
 use Rattle.cp_theory.specs.Fresh.{fresh_terms}
-use Rattle.cp_cohort.specs.GatheredLists.{EachGives}
+use Rattle.cp_cohort.specs.GatheredLists.{EachGives, StartsGiving}
 use Rattle.cp_cohort.specs.CoveringChildren.{Child, child, declarations_among, IsTransmissionBefore, HasGrown}
 use Rattle.cp_cohort.specs.Cohort.{GuardedTest, positions, Contracts, Releases, release_at}
 
@@ -74,3 +74,7 @@ ReleasesEach q operation m grown children = (t : Term) → term_event_at grown.s
 -- What it gives at one position of the message, where it has been put before the node.
 abbrev pub ReleasesPut : GuardedTest → Operation → Node → Skeleton → Term → List Step → List Child → Type 0
 ReleasesPut q operation m put t path children = (grown : Skeleton) → put ≡ put_before m q.node grown → term_event_at grown.strands m ≡ Some (send t) → ReleasesAt q operation m grown path children
+
+-- The first of what it gives, up to all that one position of the message gives.
+abbrev pub StartsReleasing : GuardedTest → Operation → Node → Skeleton → List Child → Type 0
+StartsReleasing q operation m grown children = (t : Term) → term_event_at grown.strands m ≡ Some (send t) → StartsGiving (ReleasesAt q operation m grown) (ReleasesAt q operation m grown) (positions t) children

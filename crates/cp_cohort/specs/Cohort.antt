@@ -28,7 +28,7 @@ use Rattle.cp_theory.specs.Covering.{put_before}
 use Rattle.cp_pattern.specs.Unifiers.{UnifiesMostGenerally, NeverEqual}
 use Rattle.cp_cohort.specs.Releases.{Release, PartialSolution}
 use Rattle.cp_cohort.specs.Stages.{IsFirstUnder, SolvesRelease, on_the_way}
-use Rattle.cp_cohort.specs.GatheredLists.{EachGives, AreThoseWith, terms_onto}
+use Rattle.cp_cohort.specs.GatheredLists.{EachGives, AreThoseWith, terms_onto, StartsGiving}
 use Rattle.cp_skel.specs.Tables.{HaveTable}
 use Rattle.cp_cohort.specs.CoveringChildren.{Child, child, declarations_among, IsTransmissionBefore, HasGrown}
 
@@ -109,6 +109,16 @@ pub record AddsAt (q : GuardedTest) (role : Role) (j : ℕ) (path : List Step) (
 pub data AddsEvent (q : GuardedTest) (role : Role) (j : ℕ) : List Child → Type 0 where
   is_reception : {t : Term} → item_at role.trace j ≡ Some (recv t) → AddsEvent q role j []
   is_added : {t : Term} {children : List Child} → item_at role.trace j ≡ Some (send t) → EachGives (AddsAt q role j) (positions t) children → AddsEvent q role j children
+
+-- The first of the children that event j of a role gives, up to all those of one position.
+pub record StartsEvent (q : GuardedTest) (role : Role) (j : ℕ) (children : List Child) : Type 0 where
+  pub message : Term
+  pub sent : item_at role.trace j ≡ Some (send message)
+  pub start : StartsGiving (AddsAt q role j) (AddsAt q role j) (positions message) children
+
+-- The first of the children with an added strand, up to all those of one position.
+abbrev pub AreFirstAdded : Protocol → GuardedTest → List Child → Type 0
+AreFirstAdded protocol q = StartsGiving (λ role. EachGives (AddsEvent q role) (numbers_from 0 role.trace)) (λ role. StartsGiving (AddsEvent q role) (StartsEvent q role) (numbers_from 0 role.trace)) protocol.roles
 
 -- ---- listeners
 

@@ -8,6 +8,11 @@ pub data EachGives {A B : Type 0} (gives : A → List B → Type 0) : List A →
   nothing_given : EachGives gives [] []
   then_given : {x : A} {xs : List A} {ys zs : List B} → gives x ys → EachGives gives xs zs → EachGives gives (x ∷ xs) (ys ++ zs)
 
+-- The second list is what the first items of the first list give, and what a next one starts to give.
+pub data StartsGiving {A B : Type 0} (gives starts : A → List B → Type 0) : List A → List B → Type 0 where
+  starts_here : {x : A} {xs : List A} {ys : List B} → starts x ys → StartsGiving gives starts (x ∷ xs) ys
+  starts_later : {x : A} {xs : List A} {ys zs : List B} → gives x ys → StartsGiving gives starts xs zs → StartsGiving gives starts (x ∷ xs) (ys ++ zs)
+
 -- The second list are the items of the first that have the property, in their order.
 pub data AreThoseWith {A : Type 0} (has : A → Type 0) : List A → List A → Type 0 where
   none_left : AreThoseWith has [] []

@@ -1,5 +1,6 @@
 pub mod Asked
 pub mod Views
+pub mod Widening
 pub mod Children
 pub mod Code
 pub mod HeardTerms

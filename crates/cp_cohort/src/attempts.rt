@@ -1,12 +1,12 @@
 // The steps by which a release is solved.
-ghost use Rattle.std.specs.Prelude.{IfOk};
-ghost use Rattle.cp_cohort.specs.Candidates.{BecomesNormalForms, SolvesInto};
+ghost use Rattle.std.specs.Prelude.{◌≡◌, IfOk};
+ghost use Rattle.cp_cohort.specs.Candidates.{form_or_result, BecomesNormalForms, SolvesInto};
 
 use crate::branches::branches;
 use crate::conditions::{first_outside_before, is_released_inside};
 use crate::encryptions::encryptions_above;
 use crate::release::{PartialSolution, Release};
-use cp_normal::{Candidate, Form, Rewriting, normalise_beside};
+use cp_normal::{Candidate, Form, FormsBeside, Rewriting, forms_beside};
 use std::alloc::{AllocError, Global};
 
 /// A partial solution for which the conditions are to be tested, and whether it is known to be a normal form.
@@ -16,7 +16,29 @@ pub struct Attempt {
     pub is_normal: bool,
 }
 
-/// The normal forms of a partial solution, on which the conditions are tested again.
+/// A normal form of a partial solution, on which the conditions are tested again unless they are known to hold.
+fn form_or_result(form: Form, is_settled: bool) -> Candidate<Attempt, PartialSolution>
+    ensures { result ≡ form_or_result is_settled form }
+{
+    let Form {
+        skeleton,
+        substitution,
+    } = form;
+    let tried = PartialSolution {
+        skeleton,
+        substitution,
+    };
+    if is_settled {
+        return Candidate::Done(tried);
+    }
+    Candidate::Open(Attempt {
+        tried,
+        is_normal: true,
+    })
+}
+
+/// The normal forms of a partial solution for which both conditions hold. The conditions speak of strands and substitution alone,
+/// so if the normal forms keep these, the conditions hold of them too.
 fn normal_forms(
     alloc: Global,
     tried: PartialSolution,
@@ -27,21 +49,11 @@ fn normal_forms(
         skeleton,
         substitution,
     } = tried;
-    let forms = normalise_beside(alloc, skeleton, &substitution)?;
+    let found = forms_beside(alloc, skeleton, substitution)?;
+    let FormsBeside { forms, are_settled } = found;
     let mut made = Vec::with_capacity(alloc, forms.len())?;
     for form in forms {
-        let Form {
-            skeleton,
-            substitution,
-        } = form;
-        let tried = PartialSolution {
-            skeleton,
-            substitution,
-        };
-        made.push(Candidate::Open(Attempt {
-            tried,
-            is_normal: true,
-        }))?;
+        made.push(form_or_result(form, are_settled))?;
     }
     Ok(made)
 }

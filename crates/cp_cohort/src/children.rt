@@ -1,5 +1,5 @@
 // The cohort of a test.
-ghost use Rattle.std.specs.Prelude.{◌≡◌, [], map, IfOk};
+ghost use Rattle.std.specs.Prelude.{◌≡◌, ◌++◌, [], map, IfOk};
 ghost use Rattle.cp_theory.specs.Critical.{IsTest};
 ghost use Rattle.cp_theory.specs.Guards.{Guards};
 ghost use Rattle.cp_lists.specs.Lists.{IsIn};
@@ -12,11 +12,13 @@ ghost use Rattle.cp_cohort.specs.Sound.{IsSoundChild};
 ghost use Rattle.cp_cohort.specs.Released.{HasItsOperation};
 ghost use Rattle.cp_cohort.specs.Through.{GoesThroughChild};
 ghost use Rattle.cp_cohort.specs.Asked.{IsAskedOver};
+ghost use Rattle.cp_cohort.specs.Widening.{IsCohortUntil};
 
 use crate::added::add;
 use crate::child::Child;
 use crate::guarded_test::GuardedTest;
 use crate::listeners::listen;
+use crate::widening::{GivesPatterns, NoPatterns, Widening};
 use crate::{children_are_sound, cohorts_cover, operations_are_true};
 use cp_derive::AtTest;
 use cp_skel::{Node, Protocol, Skeleton};
@@ -26,6 +28,70 @@ use std::alloc::{AllocError, Global};
 /// The initial capacity for children: few tests have more, and a list that outgrows it is moved.
 const ROOM: usize = 8;
 
+/// The children of a test, unless one with an added strand gives a pattern: then the first children with an added strand, and the
+/// first pattern.
+#[derive(Drop)]
+pub struct CohortUntil {
+    pub children: Vec<Child>,
+    pub widening: Option<Widening>,
+}
+
+/// The test with the patterns that guard it.
+fn guarded<'a>(test: &'a AtTest<'_>, patterns: &'a [Pattern]) -> GuardedTest<'a>
+    ensures { result ≡ guarded_test_of test.now.skeleton test.now.node test.now.critical patterns.now }
+{
+    test.is_test();
+    let place = test.at();
+    GuardedTest {
+        skeleton: place.skeleton(),
+        node: place.node(),
+        at: place,
+        critical: test.critical(),
+        patterns,
+    }
+}
+
+/// The second list behind the first.
+fn joined(front: Vec<Child>, rest: Vec<Child>) -> Result<Vec<Child>, AllocError>
+    ensures { IfOk result (λ cs. cs.items ≡ front.items ++ rest.items) }
+{
+    if front.is_empty() {
+        return Ok(rest);
+    }
+    let mut all = front;
+    let mut rest = rest;
+    all.append(&mut rest)?;
+    Ok(all)
+}
+
+/// The children of a test: contracted, displaced, with an added strand, with an added listener. Those with an added strand are
+/// made first, until one of them gives a pattern.
+fn children_until<S: GivesPatterns>(
+    alloc: Global,
+    protocol: &Protocol,
+    guarded_test: &GuardedTest,
+    source: &S,
+) -> Result<CohortUntil, AllocError>
+    ensures { IfOk result (λ r. IsCohortUntil (S.gives source.now) protocol.now guarded_test.now r.children.items r.widening) }
+{
+    let mut added = Vec::with_capacity(alloc, ROOM)?;
+    if let Some(widening) = add(alloc, protocol, guarded_test, source, &mut added)? {
+        return Ok(CohortUntil {
+            children: added,
+            widening: Some(widening),
+        });
+    }
+    let mut front = Vec::new(alloc);
+    guarded_test.contract(alloc, &mut front)?;
+    guarded_test.displace(alloc, &mut front)?;
+    let mut children = joined(front, added)?;
+    listen(alloc, guarded_test, &mut children)?;
+    Ok(CohortUntil {
+        children,
+        widening: None,
+    })
+}
+
 /// The children of a test: contracted, displaced, with an added strand, with an added listener.
 fn children_of(
     alloc: Global,
@@ -34,11 +100,7 @@ fn children_of(
 ) -> Result<Vec<Child>, AllocError>
     ensures { IfOk result (λ cs. IsCohort protocol.now guarded_test.now cs.items) }
 {
-    let mut children = Vec::with_capacity(alloc, ROOM)?;
-    guarded_test.contract(alloc, &mut children)?;
-    guarded_test.displace(alloc, &mut children)?;
-    add(alloc, protocol, guarded_test, &mut children)?;
-    listen(alloc, guarded_test, &mut children).map(|_| children)
+    children_until(alloc, protocol, guarded_test, &NoPatterns).map(|made| made.children)
 }
 
 /// The cohort of a test under patterns that guard it: all children, in this order: contracted, displaced, with an added strand,
@@ -82,14 +144,7 @@ pub fn cohort_at(
     operations_are_true();
     protocol.is_sound();
     test.is_test();
-    let place = test.at();
-    let guarded_test = GuardedTest {
-        skeleton: place.skeleton(),
-        node: place.node(),
-        at: place,
-        critical: test.critical(),
-        patterns,
-    };
+    let guarded_test = guarded(test, patterns);
     children_of(alloc, protocol, &guarded_test)
 }
 
@@ -116,4 +171,24 @@ pub fn cohort(
 {
     let test = AtTest::new(alloc, k, node, critical)?;
     cohort_at(alloc, protocol, &test, patterns)
+}
+
+/// The cohort of a test, as [`cohort_at`] tells it, unless one of the children with an added strand gives a pattern. These are made
+/// first, and no other is made after the first pattern is found: then the children with an added strand up to those of the
+/// position at which it is found are returned, with the pattern.
+pub fn cohort_until<S: GivesPatterns>(
+    alloc: Global,
+    protocol: &Protocol,
+    test: &AtTest<'_>,
+    patterns: &[Pattern],
+    source: &S,
+) -> Result<CohortUntil, AllocError>
+    requires guards { Guards patterns.now test.now.skeleton test.now.node test.now.critical }
+    ensures exact { IfOk result (λ r. IsCohortUntil (S.gives source.now) protocol.now (guarded_test_of test.now.skeleton test.now.node test.now.critical patterns.now) r.children.items r.widening) }
+    ensures sound { IfOk result (λ r. IsAskedOver protocol.now (guarded_test_of test.now.skeleton test.now.node test.now.critical patterns.now) → (c : PlainChild) → IsIn c r.children.items → IsSoundChild protocol.now (guarded_test_of test.now.skeleton test.now.node test.now.critical patterns.now) c) }
+{
+    protocol.is_sound();
+    test.is_test();
+    let guarded_test = guarded(test, patterns);
+    children_until(alloc, protocol, &guarded_test, source)
 }

@@ -12,6 +12,7 @@ use crate::grown_skeletons::with_events;
 use crate::guarded_test::GuardedTest;
 use crate::releases::release;
 use crate::transmissions::is_sent;
+use crate::widening::NoPatterns;
 use cp_skel::{Instance, Node, Strand, StrandShape};
 use std::alloc::{AllocError, Global};
 
@@ -40,7 +41,8 @@ impl<'a> GuardedTest<'a> {
         self.is_test();
         let height = index + 1;
         let grown = with_events(alloc, self, strand, instance, height)?;
-        release(alloc, self, grown, node, Made::Displaced(node), children)
+        let made = Made::Displaced(node);
+        release(alloc, self, grown, node, made, &NoPatterns, children).map(|_| ())
     }
 
     /// Appends the displaced children for one strand.

@@ -28,9 +28,10 @@ mod sent;
 mod solutions;
 mod transmissions;
 mod trials;
+mod widening;
 
 pub use child::Child;
-pub use children::{cohort, cohort_at};
+pub use children::{CohortUntil, cohort, cohort_at, cohort_until};
 pub use cohorts::{children_are_sound, cohorts_cover, operations_are_true};
 pub use encryptions::encryptions_above;
 pub use examples::heard_encryption_has_one_child;
@@ -39,3 +40,4 @@ pub use release::{PartialSolution, Release};
 pub use sent::is_sent_before;
 pub use solutions::solve;
 pub use trials::settling_is_trying;
+pub use widening::{GivesPatterns, Widening};

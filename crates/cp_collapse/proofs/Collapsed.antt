@@ -10,8 +10,8 @@ use Rattle.cp_lists.proofs.Members.{in_append_left, in_append_right, in_append, 
 use Rattle.cp_lists.proofs.Items.{item_below, item_before, place_of, at_place}
 use Rattle.cp_unify.proofs.Free.{free}
 use Rattle.cp_collapse.specs.Partitions.{IsPartitionByRole, finest, IdentifiesValues, IsLower, AreDescending}
-use Rattle.cp_collapse.specs.Collapses.{IsImpossible, IsCollapse, AreCollapsesBy, no_collapses, collapse_by, AreCollapses}
-use Rattle.cp_collapse.specs.FirstPartitions.{HasPairTurned, IsRuledOut, ArePartitionsOfFirst, AreCollapsedTo, EqualAt}
+use Rattle.cp_collapse.specs.Collapses.{HasWayBackward, IsImpossible, IsCollapse, AreCollapsesBy, no_collapses, collapse_by, AreCollapses}
+use Rattle.cp_collapse.specs.FirstPartitions.{IsRuledOut, ArePartitionsOfFirst, AreCollapsedTo, EqualAt}
 use Rattle.cp_collapse.proofs.Lowest.{at_numbers}
 use Rattle.cp_collapse.proofs.DescendingLists.{never_lower, descending_at, descending_with}
 use Rattle.cp_collapse.proofs.RuledOut.{one_block, ruled_out_impossible}
@@ -39,12 +39,12 @@ alone_in_finest : (k : Skeleton) (s : ℕ) (o : Option ℕ) → item_at (finest 
 alone_in_finest k s None e = refl
 alone_in_finest k s (Some l) e = (at_finest k s l e).1
 
-finest_not_turned : (k : Skeleton) → HasPairTurned k (finest k) → ⊥
-finest_not_turned k h =
-    let s = h.0.earlier.strand in
-    let t = h.0.later.strand in
-    h.2.0 (sym (alone_in_finest k s (item_at (finest k) s) refl)
-    ∙ one_block k (length k.strands) (finest k) (of_first_all k (finest k) (finest_is_partition k)) s t h.2.1
+finest_not_turned : (k : Skeleton) → HasWayBackward k (finest k) → ⊥
+finest_not_turned k w =
+    let s = w.from.strand in
+    let t = w.to.strand in
+    w.other_strand (sym (alone_in_finest k s (item_at (finest k) s) refl)
+    ∙ one_block k (length k.strands) (finest k) (of_first_all k (finest k) (finest_is_partition k)) s t w.on_one
     ∙ alone_in_finest k t (item_at (finest k) t) refl)
 
 -- No partition is higher.

@@ -1,15 +1,13 @@
 -- The partition of a standing is possible, so a skeleton and its collapses leave no standing out.
 use Rattle.std.proofs.Common.{◌≡◌, ◌≢◌, ◌⊎◌, inl, inr, ℕ, ◌<◌, ◌≤◌, List, ◌∷◌, Some, refl, sym, ap, ◌∙◌, subst, subst₂, eq-or-lt_of_le}
 use native.Mathlib.Decide.{ℕ_discrete}
-use Rattle.cp_lists.specs.Lists.{item_at, IsIn, here, there, one_step}
+use Rattle.cp_lists.specs.Lists.{item_at, IsIn, here, there}
 use Rattle.cp_model.specs.Message.{Message}
 use Rattle.cp_model.specs.Strand.{Role, Protocol}
 use Rattle.cp_model.specs.declared.strand.Event.{Event}
-use Rattle.cp_model.specs.declared.strand.Event.TheVariants.{Send as send, Receive as recv}
 use Rattle.cp_model.specs.Bindings.{Binding}
 use Rattle.cp_model.specs.Bundle.{node_at, event_at, Bundle, Precedes, IsBundle}
-use Rattle.cp_model.specs.Skeleton.{SkeletonStrand, instance, Skeleton, along_pair, IsSkeleton}
-use Rattle.cp_model.specs.declared.node.OrderPair.{OrderPair}
+use Rattle.cp_model.specs.Skeleton.{SkeletonStrand, instance, Skeleton, IsSkeleton}
 use Rattle.cp_model.specs.Standing.{Standing, image_of, StandsIn, StandsApart}
 use Rattle.cp_model.specs.Homomorphism.{Covers, IsCompleteList}
 use Rattle.cp_lists.proofs.Items.{item_below}
@@ -17,9 +15,11 @@ use Rattle.cp_lists.proofs.Reached.{steps_append}
 use Rattle.cp_model.proofs.LawOrigins.{never_before_itself}
 use Rattle.cp_model.proofs.LawStandings.{strand_of_event, bundle_climb}
 use Rattle.cp_model.proofs.LawMessages.{dec_list}
+use Rattle.cp_skel.proofs.OrderWithout.{way_ends}
 use Rattle.cp_theory.proofs.Images.{image_event_at}
+use Rattle.cp_theory.proofs.Places.{node_before}
 use Rattle.cp_collapse.specs.Partitions.{finest, place_in}
-use Rattle.cp_collapse.specs.Collapses.{LiesOnOne, IsImpossible, IsCollapse, AreCollapsesBy, no_collapses, collapse_by, AreCollapses, StandsThroughCollapse}
+use Rattle.cp_collapse.specs.Collapses.{HasWayBackward, IsImpossible, IsCollapse, AreCollapsesBy, no_collapses, collapse_by, AreCollapses, StandsThroughCollapse}
 use Rattle.cp_collapse.proofs.Lowest.{low}
 use Rattle.cp_collapse.proofs.Places.{own_entry, one_at_place, place_of_entry}
 use Rattle.cp_collapse.proofs.StandingPartition.{together, partition, is_partition, partition_at, alike_or_same, goes_where_low_goes, values_identified, apart_if_finest}
@@ -68,27 +68,28 @@ module _ (protocol : Protocol) (k : Skeleton) (b : Bundle) (h : Standing) (sk : 
       let a = alike_or_same k h b stands t (λ e. ne (own ∙ same ∙ sym e)) in
       (a.role, a.height', a.terms', subst (λ (m : ℕ). item_at k.strands m ≡ Some (instance a.role a.height' a.terms')) (sym (own ∙ same)) a.second)
 
-  pair_forward : (q : OrderPair) → IsIn q k.pairs → LiesOnOne p q → q.later.index ≤ q.earlier.index → ⊥
-  pair_forward q inq lies back =
-      let o = sk.order_pairs q inq in
-      let s = q.earlier.strand in
-      let t = q.later.strand in
-      let st = strand_of_event k.strands q.earlier (send o.sent) o.transmission in
-      let su = strand_of_event k.strands q.later (recv o.received) o.reception in
-      let same = one_lowest s t st.0 su.0 st.1 su.1 lies in
-      let i = on_role s t o.between_strands same (ℕ_discrete s (low (together k h) s)) in
-      let j = on_role t s (λ e. o.between_strands (sym e)) (sym same) (ℕ_discrete t (low (together k h) t)) in
+  never_leads_backward : HasWayBackward k p → ⊥
+  never_leads_backward w =
+      let n = node_before protocol k sk w.way in
+      let m = way_ends k w.from w.to sk.order_pairs w.way in
+      let s = w.from.strand in
+      let t = w.to.strand in
+      let st = strand_of_event k.strands w.from n.0 n.1 in
+      let su = strand_of_event k.strands w.to m.0 m.1 in
+      let same = one_lowest s t st.0 su.0 st.1 su.1 w.on_one in
+      let i = on_role s t w.other_strand same (ℕ_discrete s (low (together k h) s)) in
+      let j = on_role t s (λ e. w.other_strand (sym e)) (sym same) (ℕ_discrete t (low (together k h) t)) in
       let one : (h.nodes s).strand ≡ (h.nodes t).strand = sym (goes_where_low_goes k h s) ∙ ap (λ (u : ℕ). (h.nodes u).strand) same ∙ goes_where_low_goes k h t in
-      let from : image_of k h q.earlier ≡ node_at (h.nodes s).strand q.earlier.index = rw i.3 refl in
-      let to : image_of k h q.later ≡ node_at (h.nodes s).strand q.later.index = rw j.3 (ap (λ (u : ℕ). node_at u q.later.index) (sym one)) in
-      let ev = image_event_at k b h stands q.earlier (send o.sent) o.transmission in
-      never_backward protocol b (h.nodes s).strand q.earlier.index q.later.index ev.event is
-      (ap (event_at b.strands) (sym from) ∙ ev.there) back
-      (subst₂ (Precedes b) from to (stands.ordered q.earlier q.later (one_step (along_pair inq)) o.between_strands))
+      let from : image_of k h w.from ≡ node_at (h.nodes s).strand w.from.index = rw i.3 refl in
+      let to : image_of k h w.to ≡ node_at (h.nodes s).strand w.to.index = rw j.3 (ap (λ (u : ℕ). node_at u w.to.index) (sym one)) in
+      let ev = image_event_at k b h stands w.from n.0 n.1 in
+      never_backward protocol b (h.nodes s).strand w.from.index w.to.index ev.event is
+      (ap (event_at b.strands) (sym from) ∙ ev.there) w.backward
+      (subst₂ (Precedes b) from to (stands.ordered w.from w.to w.way w.other_strand))
 
   possible : IsImpossible k p → ⊥
   possible (inl never) = never h.values (values_identified k h b stands)
-  possible (inr (inl back)) = pair_forward back.0 back.1 back.2.0 back.2.1
+  possible (inr (inl back)) = never_leads_backward back
   possible (inr (inr cycle)) = merged_never_circles k b h stands cycle.merged cycle.collapsed protocol sk is cycle.node cycle.cycle
 
   -- ---- the collapses cover

@@ -1,15 +1,15 @@
 -- A skeleton whose strands say the same as merged ones is collapsed; and what the program's tests say of it.
-use Rattle.std.proofs.Common.{◌≡◌, inl, inr, ℕ, suc, ◌<◌, List, length, refl, sym, ap, ◌∙◌, subst, arith}
+use Rattle.std.proofs.Common.{◌≡◌, inl, inr, ℕ, suc, ◌<◌, ◌≤◌, List, length, refl, sym, ap, ◌∙◌, subst, arith}
 use native.Mathlib.Decide.{dec_lt}
-use Rattle.cp_lists.specs.Lists.{IsIn}
+use Rattle.cp_lists.specs.Lists.{IsIn, one_step}
 use Rattle.cp_model.specs.Term.{Substitution}
 use Rattle.cp_model.specs.Given.{listed}
-use Rattle.cp_model.specs.Skeleton.{SkeletonStrand, Assumptions, Skeleton, IsOrderPair}
+use Rattle.cp_model.specs.Skeleton.{SkeletonStrand, Assumptions, Skeleton, IsOrderPair, along_pair}
 use Rattle.cp_model.specs.declared.node.OrderPair.{OrderPair}
 use Rattle.cp_model.proofs.LawPrefixes.{variables_of_higher}
 use Rattle.cp_unify.specs.Bindings.{Binding, as_substitution}
 use Rattle.cp_collapse.specs.SameSkeletons.{AreSameStrands, no_strands, same_strands}
-use Rattle.cp_collapse.specs.Collapses.{ArePairsIn, LiesOnOne, assumptions_in, IsFromProblemIn, IsCollapsed, HasNoCycle, HasPairBackward, IsImpossible}
+use Rattle.cp_collapse.specs.Collapses.{ArePairsIn, LiesOnOne, assumptions_in, IsFromProblemIn, IsCollapsed, HasNoCycle, IsImpossible}
 use Rattle.cp_collapse.specs.Cycles.{ClosesCycleAt}
 use Rattle.cp_collapse.specs.Property.{Has}
 use Rattle.cp_collapse.specs.FirstPartitions.{IsExactFor}
@@ -70,15 +70,17 @@ listed_collapsed k m l p r ss part exact merged views pairs forward assumptions 
 -- ---- the tests
 
 -- Where no pair lies backward, those that lie on one strand go forward.
-pub all_forward : (k : Skeleton) (p : List ℕ) → (HasPairBackward k p → ⊥) → (q : OrderPair) → IsIn q k.pairs → LiesOnOne p q → q.earlier.index < q.later.index
+pub all_forward : (k : Skeleton) (p : List ℕ) → (Has (λ q. LiesOnOne p q × (q.later.index ≤ q.earlier.index)) k.pairs → ⊥) → (q : OrderPair) → IsIn q k.pairs → LiesOnOne p q → q.earlier.index < q.later.index
 all_forward k p none q i one = by (dec_lt q.earlier.index q.later.index)
   where
     by : Dec (q.earlier.index < q.later.index) → q.earlier.index < q.later.index
     by (yes less) = less
     by (no not) = absurd (none (q, i, (one, omega (arith, not))))
 
-pub backward_impossible : (k : Skeleton) (p : List ℕ) → HasPairBackward k p → IsImpossible k p
-backward_impossible k p b = inr (inl b)
+pub backward_impossible : (k : Skeleton) (p : List ℕ) → ((q : OrderPair) → IsIn q k.pairs → IsOrderPair k q) → Has (λ q. LiesOnOne p q × (q.later.index ≤ q.earlier.index)) k.pairs → IsImpossible k p
+backward_impossible k p order_pairs h =
+    let o = order_pairs h.0 h.1 in
+    inr (inl (record { order_pairs = order_pairs; from = h.0.earlier; to = h.0.later; way = one_step (along_pair h.1); other_strand = o.between_strands; on_one = h.2.0; backward = h.2.1 }))
 
 pub cycle_impossible : (k l : Skeleton) (p : List ℕ) → ((q : OrderPair) → IsIn q k.pairs → IsOrderPair k q) → IsCollapsed k p l → Has (λ q. ClosesCycleAt l.pairs q.earlier) l.pairs → IsImpossible k p
 cycle_impossible k l p order_pairs c h =

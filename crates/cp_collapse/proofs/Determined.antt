@@ -1,7 +1,9 @@
 -- No collapse is by an impossible partition, so that the partitions of the collapses are determined.
-use Rattle.std.proofs.Common.{◌≡◌, ◌⊎◌, inl, inr, ℕ, zero, suc, List, [], ◌∷◌, Some, refl, sym, ap, ap₂, ◌∙◌, subst, arith}
+use Rattle.std.proofs.Common.{◌≡◌, ◌⊎◌, inl, inr, ℕ, zero, suc, ◌<◌, List, [], ◌∷◌, Some, refl, sym, ap, ap₂, ◌∙◌, subst, arith, eq-or-lt_of_le}
 use Rattle.cp_lists.specs.Lists.{item_at, IsIn, here, there, one_step, more_steps}
+use Rattle.cp_lists.proofs.Items.{item_before}
 use Rattle.cp_lists.proofs.Members.{in_cases}
+use Rattle.cp_lists.proofs.Reached.{steps_append}
 use Rattle.cp_model.specs.Term.{Term, after, Substitution, apply_to, composed, variable_term, value_of}
 use Rattle.cp_model.specs.Bindings.{as_substitution}
 use Rattle.cp_model.specs.Strand.{event_map}
@@ -9,13 +11,14 @@ use Rattle.cp_model.specs.declared.strand.Event.{Event}
 use Rattle.cp_model.specs.declared.strand.Event.TheVariants.{Send as send, Receive as recv}
 use Rattle.cp_model.specs.Bundle.{node_at}
 use Rattle.cp_model.specs.declared.node.Node.{Node}
-use Rattle.cp_model.specs.Skeleton.{SkeletonStrand, instance, listener, skeleton_trace, term_event_at, IsNodeOf, Skeleton, OrderStep, along_strand_of, along_pair, Before}
+use Rattle.cp_model.specs.Skeleton.{SkeletonStrand, instance, listener, skeleton_trace, skeleton_trace_or_none, term_event_at, IsNodeOf, Skeleton, OrderStep, along_strand_of, along_pair, Before}
 use Rattle.cp_model.proofs.LawTerms.{term_composed, value_after}
-use Rattle.cp_model.proofs.LawStandings.{strand_of_event, event_of_instance, event_of_higher}
+use Rattle.cp_model.proofs.LawStandings.{strand_of_event, event_of_instance, event_of_higher, skeleton_climb}
 use Rattle.cp_unify.proofs.Free.{free}
 use Rattle.cp_collapse.specs.Partitions.{IsPartitionByRole, place_in, IdentifiesValues, IsLower, AreDescending}
-use Rattle.cp_collapse.specs.Collapses.{IsCollapsed, IsImpossible, IsCollapse, AreCollapsesBy, no_collapses, collapse_by, AreCollapses}
+use Rattle.cp_collapse.specs.Collapses.{IsCollapsed, HasNoCycle, HasWayBackward, IsImpossible, IsCollapse, AreCollapsesBy, no_collapses, collapse_by, AreCollapses}
 use Rattle.cp_collapse.proofs.DescendingLists.{never_lower}
+use Rattle.cp_collapse.proofs.Merged.{event_in, before_in}
 use Rattle.cp_collapse.proofs.OneUnifier.{one_unifier}
 use Rattle.cp_collapse.proofs.Places.{strand_at_place}
 
@@ -78,9 +81,34 @@ module _ (k m l : Skeleton) (p : List ℕ) (part : IsPartitionByRole k p) (c : I
 
 -- ---- no collapse is impossible
 
+module _ (k l : Skeleton) (p : List ℕ) (c : IsCollapsed k p l) (no_cycle : HasNoCycle l) (w : HasWayBackward k p) where
+  -- The way begins at a node.
+  begins_step : {x y : Node} → OrderStep k x y → IsNodeOf k.strands x
+  begins_step (along_strand_of {s = s} {i = i} {e = e} ev) = item_before (skeleton_trace_or_none (item_at k.strands s)) i (suc i) e ev (omega arith)
+  begins_step (along_pair {p = q} i) = let o = w.order_pairs q i in (send o.sent, o.transmission)
+
+  begins : {x y : Node} → Before k x y → IsNodeOf k.strands x
+  begins (one_step s) = begins_step s
+  begins (more_steps s r) = begins_step s
+
+  abbrev ends_at : Node
+  ends_at = node_at (place_in p w.from.strand) w.to.index
+
+  way_in : Before l (node_at (place_in p w.from.strand) w.from.index) ends_at
+  way_in = subst (λ (s : ℕ). Before l (node_at (place_in p w.from.strand) w.from.index) (node_at s w.to.index)) (sym w.on_one) (before_in k l p c w.order_pairs w.way)
+
+  circles : (w.to.index ≡ w.from.index) ⊎ (w.to.index < w.from.index) → ⊥
+  circles (inl same) = no_cycle ends_at (subst (λ (i : ℕ). Before l (node_at (place_in p w.from.strand) i) ends_at) (sym same) way_in)
+  circles (inr less) =
+      let n = begins w.way in
+      no_cycle ends_at (steps_append (skeleton_climb l (place_in p w.from.strand) w.to.index w.from.index (event_map (apply_to c.unifier) n.0) (event_in k l p c w.from n.0 n.1) less) way_in)
+
+  never_leads_backward : ⊥
+  never_leads_backward = circles (eq-or-lt_of_le w.backward)
+
 pub collapse_is_possible : (k l : Skeleton) (p : List ℕ) → IsCollapse k p l → IsImpossible k p → ⊥
 collapse_is_possible k l p c (inl never) = never (after free c.collapsed.unifier) (some_identifies k l p c.collapsed)
-collapse_is_possible k l p c (inr (inl back)) = let f = c.collapsed.forward back.0 back.1 back.2.0 in let b = back.2.1 in omega (arith, f, b)
+collapse_is_possible k l p c (inr (inl back)) = never_leads_backward k l p c.collapsed c.no_cycle back
 collapse_is_possible k l p c (inr (inr cycle)) = c.no_cycle cycle.node (before_too k cycle.merged l p c.partition cycle.collapsed c.collapsed cycle.cycle)
 
 -- ---- descending lists of the same items

@@ -6,7 +6,7 @@ use Rattle.cp_model.specs.Bindings.{Binding}
 use Rattle.cp_model.specs.Strand.{Role}
 use Rattle.cp_model.specs.Bundle.{Bundle}
 use Rattle.cp_model.specs.declared.node.Node.{Node}
-use Rattle.cp_model.specs.Skeleton.{instance, listener, UniqueAt, Assumptions, FromProblem, Skeleton, Before}
+use Rattle.cp_model.specs.Skeleton.{instance, listener, UniqueAt, Assumptions, FromProblem, Skeleton, Before, IsOrderPair}
 use Rattle.cp_model.specs.declared.node.OrderPair.{OrderPair}
 use Rattle.cp_model.specs.Homomorphism.{SkeletonMap, GoesToInstance}
 use Rattle.cp_model.specs.Given.{atoms_onto, uniques_onto, listed}
@@ -89,9 +89,16 @@ HasNoCycle l = (n : Node) → Before l n n → ⊥
 abbrev pub IsNeverIdentified : Skeleton → List ℕ → Type 0
 IsNeverIdentified k p = (g : Assignment) → IdentifiesValues k p g → ⊥
 
--- A pair comes to lie backward on one strand, or on one node.
-abbrev pub HasPairBackward : Skeleton → List ℕ → Type 0
-HasPairBackward k p = Has (λ q. LiesOnOne p q × (q.later.index ≤ q.earlier.index)) k.pairs
+-- The order, each pair of which goes from a transmission to a reception of another strand, leads from a node to one of another
+-- strand, and this comes to lie on the same strand, at the same node or before it.
+pub record HasWayBackward (k : Skeleton) (p : List ℕ) : Type 0 where
+  pub order_pairs : (q : OrderPair) → IsIn q k.pairs → IsOrderPair k q
+  pub from : Node
+  pub to : Node
+  pub way : Before k from to
+  pub other_strand : from.strand ≢ to.strand
+  pub on_one : place_in p from.strand ≡ place_in p to.strand
+  pub backward : to.index ≤ from.index
 
 -- The order of the merged strands has a cycle.
 pub record HasCycleMerged (k : Skeleton) (p : List ℕ) : Type 0 where
@@ -100,9 +107,10 @@ pub record HasCycleMerged (k : Skeleton) (p : List ℕ) : Type 0 where
   pub node : Node
   pub cycle : Before merged node node
 
--- The partition gives no skeleton: its blocks never have equal values, or the merged order has a cycle.
+-- The partition gives no skeleton: its blocks never have equal values, or the order comes to lead backward on one strand, or
+-- that of the merged strands has a cycle.
 abbrev pub IsImpossible : Skeleton → List ℕ → Type 0
-IsImpossible k p = IsNeverIdentified k p ⊎ (HasPairBackward k p ⊎ HasCycleMerged k p)
+IsImpossible k p = IsNeverIdentified k p ⊎ (HasWayBackward k p ⊎ HasCycleMerged k p)
 
 -- l is the collapse of k by a partition, which is not the finest.
 pub record IsCollapse (k : Skeleton) (p : List ℕ) (l : Skeleton) : Type 0 where

@@ -3,13 +3,14 @@ use Rattle.std.specs.Prelude.{◌≡◌, ◌≢◌, ◌⊎◌, ◌≤◌, ◌<�
 use Rattle.cp_lists.specs.Lists.{item_at, IsIn}
 use Rattle.cp_model.specs.Term.{Assignment, after}
 use Rattle.cp_model.specs.Strand.{Role}
-use Rattle.cp_model.specs.Skeleton.{instance, Skeleton}
+use Rattle.cp_model.specs.Skeleton.{instance, Skeleton, Before, IsOrderPair}
 use Rattle.cp_unify.specs.Bindings.{Binding, Meets, as_substitution}
 use Rattle.cp_unify.specs.Unifiers.{AreLaterToEarlier}
+use Rattle.cp_model.specs.declared.node.Node.{Node}
 use Rattle.cp_model.specs.declared.node.OrderPair.{OrderPair}
 use Rattle.cp_collapse.specs.Partitions.{AreOfOneRole, HaveEqualValues, IdentifiesValues, AreDescending, finest}
-use Rattle.cp_collapse.specs.Collapses.{LiesOnOne, IsNeverIdentified, IsImpossible, AreCollapsesBy}
-use Rattle.cp_collapse.specs.Property.{Has}
+use Rattle.cp_collapse.specs.Collapses.{IsNeverIdentified, HasWayBackward, IsImpossible, AreCollapsesBy}
+use Rattle.cp_collapse.specs.declared.kept_apart.Apart.{Apart}
 
 -- A partition of the first n strands into blocks of instances of one role.
 pub record IsPartitionOfFirst (k : Skeleton) (n : ℕ) (p : List ℕ) : Type 0 where
@@ -17,22 +18,24 @@ pub record IsPartitionOfFirst (k : Skeleton) (n : ℕ) (p : List ℕ) : Type 0 w
   pub lowest : (s l : ℕ) → item_at p s ≡ Some l → (l ≤ s) × (item_at p l ≡ Some l)
   pub alike : (s l : ℕ) → item_at p s ≡ Some l → s ≢ l → AreOfOneRole k.strands s l
 
--- A pair between two strands comes to lie backward on one.
-abbrev pub HasPairTurned : Skeleton → List ℕ → Type 0
-HasPairTurned k p = Has (λ q. (q.earlier.strand ≢ q.later.strand) × LiesOnOne p q × (q.later.index ≤ q.earlier.index)) k.pairs
-
--- No partition with these blocks of the first strands gives a skeleton: the blocks never have equal values, or a pair comes to
--- lie backward.
+-- No partition with these blocks of the first strands gives a skeleton: the blocks never have equal values, or the order comes
+-- to lead backward on one strand.
 abbrev pub IsRuledOut : Skeleton → List ℕ → Type 0
-IsRuledOut k p = IsNeverIdentified k p ⊎ HasPairTurned k p
+IsRuledOut k p = IsNeverIdentified k p ⊎ HasWayBackward k p
 
--- The pair lies between strands s and t, and would lie backward if they were one.
-abbrev pub KeepsApart : ℕ → ℕ → OrderPair → Type 0
-KeepsApart s t q = (((q.earlier.strand ≡ s) × (q.later.strand ≡ t)) ⊎ ((q.earlier.strand ≡ t) × (q.later.strand ≡ s))) × (q.later.index ≤ q.earlier.index)
+-- The order leads from a node of one of the strands to a node of the other that has no higher index, so that it would lead
+-- backward if they were one.
+pub record AreKeptApart (k : Skeleton) (s t : ℕ) : Type 0 where
+  pub order_pairs : (q : OrderPair) → IsIn q k.pairs → IsOrderPair k q
+  pub from : Node
+  pub to : Node
+  pub way : Before k from to
+  pub between : ((from.strand ≡ s) × (to.strand ≡ t)) ⊎ ((from.strand ≡ t) × (to.strand ≡ s))
+  pub backward : to.index ≤ from.index
 
--- One of the pairs keeps the strands apart.
-abbrev pub AreKeptApart : List OrderPair → ℕ → ℕ → Type 0
-AreKeptApart pairs s t = Has (KeepsApart s t) pairs
+-- The order keeps the two strands of each item apart.
+abbrev pub AreApart : Skeleton → List Apart → Type 0
+AreApart k apart = (a : Apart) → IsIn a apart → AreKeptApart k a.higher a.lower
 
 -- The lists are the partitions of the first n strands, in descending lexicographic order, all but some that are ruled out.
 pub record ArePartitionsOfFirst (k : Skeleton) (n : ℕ) (ps : List (List ℕ)) : Type 0 where

@@ -7,14 +7,14 @@ ghost use Rattle.cp_model.specs.Skeleton.{instance, Skeleton as PlainSkeleton};
 ghost use Rattle.cp_unify.specs.Bindings.{Meets};
 ghost use Rattle.cp_model.specs.Declares.{HasDeclaredPrefixes};
 ghost use Rattle.cp_strand.specs.View.{instance_view};
-ghost use Rattle.cp_collapse.specs.FirstPartitions.{IsPartitionOfFirst, AreKeptApart, IsExactFor, EqualAt};
+ghost use Rattle.cp_collapse.specs.FirstPartitions.{IsPartitionOfFirst, AreKeptApart, AreApart, IsExactFor, EqualAt};
 ghost use Rattle.cp_collapse.specs.Partials.{AreSolved, IsOfNoAssignment, IsExact, ArePartials, ArePartlyExtended, Joins, MayNotJoin};
 ghost use Rattle.cp_collapse.specs.Partitions.{AreOfOneRole, IdentifiesValues, AreDescending};
 ghost use Rattle.cp_collapse.specs.Collapses.{IsNeverIdentified};
 ghost use Rattle.cp_collapse.specs.Property.{Has};
 
 use crate::equal_values::unify_instances;
-use crate::kept_apart::kept_apart;
+use crate::kept_apart::{Apart, all_apart, apart_from};
 use cp_skel::{Instance, Skeleton, Strand, StrandShape, is_same_role};
 use cp_unify::Subst;
 use std::alloc::{AllocError, Global};
@@ -163,7 +163,7 @@ fn join(
     requires partition { IsPartitionOfFirst k.now number partial.now.lowest.items }
     requires exact { IsExact k.now partial.now }
     requires earlier { block < number }
-    requires apart { (t : ℕ) → IsIn t apart.now → AreKeptApart k.now.pairs number t }
+    requires apart { (t : ℕ) → IsIn t apart.now → AreKeptApart k.now number t }
     ensures { IfOk result (λ found. MatchOption found
         (MayNotJoin k.now number partial.now.lowest.items block)
         (λ q. Joins k.now number partial.now.lowest.items block q)) }
@@ -199,7 +199,7 @@ fn extend(
     requires declared { HasDeclaredPrefixes k.now }
     requires partition { IsPartitionOfFirst k.now number partial.now.lowest.items }
     requires exact { IsExact k.now partial.now }
-    requires apart { (t : ℕ) → IsIn t apart.now → AreKeptApart k.now.pairs number t }
+    requires apart { (t : ℕ) → IsIn t apart.now → AreKeptApart k.now number t }
     ensures { OnOk result ((ps : List (List ℕ)) (i : ℕ) → item_at ps i ≡ Some partial.now.lowest.items → AreDescending ps
         → ArePartlyExtended k.now number ps i (number + 1) next.old.items → ArePartlyExtended k.now number ps i 0 next.new.items) }
 {
@@ -220,12 +220,14 @@ fn round(
     k: &Skeleton,
     partials: &[Partial],
     number: usize,
+    all_apart: &[Apart],
 ) -> Result<Vec<Partial>, AllocError>
     requires declared { HasDeclaredPrefixes k.now }
     requires partials { ArePartials k.now number partials.now }
+    requires apart { AreApart k.now all_apart.now }
     ensures { IfOk result (λ next. ArePartials k.now (number + 1) next.items) }
 {
-    let apart = kept_apart(alloc, k.order().pairs(), number)?;
+    let apart = apart_from(alloc, all_apart, number)?;
     let mut next = Vec::new(alloc);
     for partial in partials {
         extend(alloc, k, partial, number, &apart, &mut next)?;
@@ -234,18 +236,19 @@ fn round(
 }
 
 /// The partitions of the strands into blocks of instances of one role whose values can be equal, in descending order, without
-/// those that make a pair between two strands lie backward.
+/// those that put two strands into one block that the order keeps apart.
 pub(crate) fn partitions(alloc: Global, k: &Skeleton) -> Result<Vec<Partial>, AllocError>
     requires { HasDeclaredPrefixes k.now }
     ensures { IfOk result (λ partials. ArePartials k.now (length k.now.strands) partials.items) }
 {
+    let apart = all_apart(alloc, k)?;
     let mut partials = Vec::new(alloc);
     partials.push(Partial {
         lowest: Vec::new(alloc),
         bindings: Rc::new(alloc, Subst::new(alloc))?,
     })?;
     for number in 0..k.strands().len() {
-        partials = round(alloc, k, &partials, number)?;
+        partials = round(alloc, k, &partials, number, &apart)?;
     }
     Ok(partials)
 }

@@ -7,7 +7,7 @@ use Rattle.cp_model.specs.Tree.{Pattern, Test}
 use Rattle.cp_model.specs.declared.tree.Operation.TheVariants.{AddedStrand as by_added_strand}
 use Rattle.cp_skel.specs.Tables.{DiffersInTable}
 use Rattle.cp_cohort.specs.declared.child.Child.{Child}
-use Rattle.cp_cohort.specs.Cohort.{GuardedTest, guarded_test_of, IsCohort}
+use Rattle.cp_cohort.specs.Cohort.{GuardedTest, guarded_test_of, AreFirstAdded, IsCohort}
 use Rattle.cp_escape.specs.Escape.{IsFirstWith, IsEscape}
 use Rattle.cp_escape.specs.WidenedPattern.{WidensBy}
 use Rattle.cp_expansion.specs.ChosenTest.{IsTestOf}
@@ -28,12 +28,12 @@ abbrev pub most_patterns : ℕ
 most_patterns = 32
 
 -- A test is asked under more and more patterns: the first child with an added strand that gives a pattern adds it, and the
--- children are made anew; until no child gives one, or there are as many patterns as may be. The second test is the last one,
--- and these are its children.
+-- children are made anew; until none gives one, or there are as many patterns as may be. The second test is the last one, and
+-- these are its children.
 pub data AreWidened (protocol : Protocol) : GuardedTest → GuardedTest → List Child → Type 0 where
   has_most : {q : GuardedTest} {children : List Child} → most_patterns ≤ length q.patterns → IsCohort protocol q children → AreWidened protocol q q children
-  none_widens : {q : GuardedTest} {children : List Child} → length q.patterns < most_patterns → IsCohort protocol q children → ((c : Child) → IsIn c children → IsWidening q c → ⊥) → AreWidened protocol q q children
-  one_widens : {q last : GuardedTest} {before children : List Child} {c : Child} → length q.patterns < most_patterns → IsCohort protocol q before → IsFirstWith (IsWidening q) before c → (w : IsWidening q c)
+  none_widens : {q : GuardedTest} {children : List Child} → length q.patterns < most_patterns → (is : IsCohort protocol q children) → ((c : Child) → IsIn c is.added → IsWidening q c → ⊥) → AreWidened protocol q q children
+  one_widens : {q last : GuardedTest} {before children : List Child} {c : Child} → length q.patterns < most_patterns → AreFirstAdded protocol q before → IsFirstWith (IsWidening q) before c → (w : IsWidening q c)
       → AreWidened protocol (asked_under q c w.pattern) last children → AreWidened protocol q last children
 
 -- A test with the patterns under which its children are made, and the skeleton, which declares the locals of the patterns too.

@@ -14,8 +14,8 @@ ghost use Rattle.cp_expansion.specs.Views.{last_test, expansion_by};
 
 use crate::chosen_test::test_of;
 use crate::variable_tables::with_variables;
-use crate::widening_child::first_widening;
-use cp_cohort::{Child, cohort_at};
+use crate::widening_child::Widenings;
+use cp_cohort::{Child, CohortUntil, cohort_until};
 use cp_derive::AtTest;
 use cp_escape::{escape_at, widening_keeps_guards};
 use cp_skel::{ListedSkeleton, Node, Protocol, Skeleton, Test};
@@ -31,8 +31,8 @@ pub struct Expansion {
     pub children: Vec<Child>,
 }
 
-/// Makes the children of a test under patterns that guard it. As long as one of the children widens the set of patterns, makes
-/// them anew under the widened set. Returns the test with its expansion.
+/// Makes the children of a test under patterns that guard it, until one with an added strand widens the set of patterns; then
+/// makes them anew under the widened set. Returns the test with its expansion.
 fn widened(
     alloc: Global,
     protocol: &Protocol,
@@ -51,8 +51,11 @@ fn widened(
     test.is_test();
     let place = test.at();
     let k = place.skeleton();
-    let children = cohort_at(alloc, protocol, &test, &patterns)?;
-    let Some(widening) = first_widening(alloc, k, &patterns, &children)? else {
+    let source = Widenings::of(k, &patterns);
+    let CohortUntil { children, widening } = cohort_until(
+        alloc, protocol, &test, &patterns, &source,
+    )?;
+    let Some(widening) = widening else {
         let skeleton = k.copy(alloc)?;
         let expansion = Expansion {
             skeleton,

@@ -1,9 +1,10 @@
-// Finds the first child that widens a set of patterns.
-ghost use Rattle.std.specs.Prelude.{IfOk, IfNone, IfSome};
+// Children that widen a set of patterns.
+ghost use Rattle.std.specs.Prelude.{◌≡◌, ◌↔◌, ◌<◌, length, true, IfOk, IfNone, IfSome};
 ghost use Rattle.cp_model.specs.Tree.{Pattern as PlainPattern};
-ghost use Rattle.cp_expansion.specs.Widened.{GivesPattern, FindsNext};
+ghost use Rattle.cp_expansion.specs.Expansion.{most_patterns};
+ghost use Rattle.cp_expansion.specs.Widened.{GivesPattern, GivesWhileOpen};
 
-use cp_cohort::Child;
+use cp_cohort::{Child, GivesPatterns};
 use cp_escape::widen;
 use cp_skel::{Operation, Skeleton};
 use cp_term::Pattern;
@@ -12,11 +13,24 @@ use std::alloc::{AllocError, Global};
 /// A set of patterns is widened only while it has fewer patterns than this.
 const MOST_PATTERNS: usize = 32;
 
-/// The pattern that widens a set, and the child that gives it.
-#[derive(Drop)]
-pub(crate) struct Widening {
-    pub child: usize,
-    pub pattern: Pattern,
+/// What may widen a set of patterns for a test of a skeleton, and whether the set may still be widened.
+#[derive(Clone, Copy)]
+pub(crate) struct Widenings<'a> {
+    pub skeleton: &'a Skeleton,
+    pub is_open: bool,
+}
+
+impl<'a> Widenings<'a> {
+    /// What may widen this set of patterns for a test of a skeleton.
+    pub(crate) fn of(k: &'a Skeleton, patterns: &[Pattern]) -> Widenings<'a>
+        ensures skeleton { result.skeleton.now ≡ k.now }
+        ensures open { (result.is_open ≡ true) ↔ (length patterns.now < most_patterns) }
+    {
+        Widenings {
+            skeleton: k,
+            is_open: patterns.len() < MOST_PATTERNS,
+        }
+    }
 }
 
 /// The pattern that a child gives, if the child adds a strand and gives one.
@@ -30,25 +44,13 @@ fn pattern_of(alloc: Global, k: &Skeleton, child: &Child) -> Result<Option<Patte
     }
 }
 
-/// The first child that gives a pattern, if the set of patterns may still be widened.
-pub(crate) fn first_widening(
-    alloc: Global,
-    k: &Skeleton,
-    patterns: &[Pattern],
-    children: &[Child],
-) -> Result<Option<Widening>, AllocError>
-    ensures { IfOk result (FindsNext k.now patterns.now children.now) }
-{
-    if patterns.len() >= MOST_PATTERNS {
-        return Ok(None);
-    }
-    for (number, child) in children.iter().enumerate() {
-        if let Some(pattern) = pattern_of(alloc, k, child)? {
-            return Ok(Some(Widening {
-                child: number,
-                pattern,
-            }));
+impl<'a> GivesPatterns for Widenings<'a> {
+    ghost gives = { GivesWhileOpen };
+
+    fn pattern_of(&self, alloc: Global, child: &Child) -> Result<Option<Pattern>, AllocError> {
+        if !self.is_open {
+            return Ok(None);
         }
+        pattern_of(alloc, self.skeleton, child)
     }
-    Ok(None)
 }

@@ -1,7 +1,7 @@
+mod AddedPlaces
 mod FoundInTurn
 mod GrownHeights
 mod PlaceShares
-mod PlaceWeights
 mod RolesByPlace
 mod SkeletonHeights
 mod SortedLists

@@ -1,18 +1,17 @@
 -- Sums of weights beside values, as places are added.
-use Rattle.std.proofs.Common.{◌≡◌, ℕ, zero, suc, ◌+◌, ◌-◌, ◌^◌, ◌<◌, ◌≤◌, Bool, true, false, if◌then◌else◌, List, [], ◌∷◌, ◌++◌, length, map, drop, get_or, set, refl, sym, ap, ◌∙◌, subst, arith, inl, inr}
-use Rattle.std.specs.Prelude.{Vec}
-use Rattle.std.proofs.lemmas.List.{drop_all, append-nil, append_assoc, length-map, map-set, map-append, set-get_or, get_or-map}
-use Rattle.cp_lists.proofs.Members.{drop_read}
+use Rattle.std.proofs.Common.{◌≡◌, ℕ, zero, suc, ◌+◌, ◌-◌, ◌^◌, ◌<◌, ◌≤◌, Bool, true, false, if◌then◌else◌, List, [], ◌∷◌, ◌++◌, length, map, get_or, set, refl, sym, ap, ◌∙◌, subst, arith, inl, inr}
+use Rattle.std.proofs.lemmas.List.{append-nil, append_assoc, length-append, length-map, map-set, map-append, set-get_or, get_or-map}
 use Rattle.std.proofs.Math.Nat.{min-eq_left}
 use Rattle.cp_model.specs.Term.{Term}
 use Rattle.cp_model.specs.Same.{same_term}
 use Rattle.cp_model.proofs.SameTests.{term_is, is_term}
-use Rattle.cp_fingerprint.specs.SharedValues.{kept, weight_from, strung, lists_of}
+use Rattle.cp_fingerprint.specs.SharedValues.{kept, weight_from}
 use Rattle.cp_fingerprint.specs.Slots.{Slot}
 use Rattle.cp_fingerprint.specs.Values.{IsPlaceOf, IsAbsent, HasEntered}
 use Rattle.cp_fingerprint.specs.Weights.{sum_beside, AreNumbered, values_of, sums_of, AreSumsOf, AreAdded}
-use Rattle.cp_fingerprint.specs.declared.weights.Sums.{Sums}
-use Rattle.cp_fingerprint.specs.declared.weights.ValueSum.{ValueSum}
+use Rattle.cp_fingerprint.specs.declared.shares.Place.{Place}
+use Rattle.cp_fingerprint.specs.declared.sums.Sums.{Sums}
+use Rattle.cp_fingerprint.specs.declared.sums.ValueSum.{ValueSum}
 use Rattle.cp_fingerprint.proofs.ValuePlaces.{first_within}
 use Rattle.cp_fingerprint.proofs.SharedMore.{weight_with}
 
@@ -149,23 +148,25 @@ place_behind : (t : Term) (us : List Term) → IsAbsent t us → IsPlaceOf t (us
 place_behind t [] h = is_term t t refl
 place_behind t (u ∷ us) h = (h.0, place_behind t us h.1)
 
-numbered_kept : (xs : List Slot) (is : List ℕ) (us ws : List Term) → AreNumbered xs is us → AreNumbered xs is (us ++ ws)
+numbered_kept : (xs : List Slot) (ps : List Place) (us ws : List Term) → AreNumbered xs ps us → AreNumbered xs ps (us ++ ws)
 numbered_kept [] [] us ws h = tt
-numbered_kept [] (i ∷ is) us ws h = absurd h
+numbered_kept [] (p ∷ ps) us ws h = absurd h
 numbered_kept (x ∷ xs) [] us ws h = absurd h
-numbered_kept (x ∷ xs) (i ∷ is) us ws h = (place_kept x.value us ws i h.0, numbered_kept xs is us ws h.1)
+numbered_kept (x ∷ xs) (p ∷ ps) us ws h = ((h.0.0, place_kept x.value us ws p.number h.0.1), numbered_kept xs ps us ws h.1)
 
-numbered_more : (xs : List Slot) (is : List ℕ) (us : List Term) (x : Slot) (i : ℕ) → AreNumbered xs is us → IsPlaceOf x.value us i → AreNumbered (xs ++ x ∷ []) (is ++ i ∷ []) us
-numbered_more [] [] us x i h p = (p, tt)
-numbered_more [] (j ∷ is) us x i h p = absurd h
-numbered_more (y ∷ xs) [] us x i h p = absurd h
-numbered_more (y ∷ xs) (j ∷ is) us x i h p = (h.0, numbered_more xs is us x i h.1 p)
+numbered_more : (xs : List Slot) (ps : List Place) (us : List Term) (x : Slot) (p : Place) → AreNumbered xs ps us → (p.weight ≡ x.weight) × IsPlaceOf x.value us p.number →
+    AreNumbered (xs ++ x ∷ []) (ps ++ p ∷ []) us
+numbered_more [] [] us x p h here = (here, tt)
+numbered_more [] (q ∷ ps) us x p h here = absurd h
+numbered_more (y ∷ xs) [] us x p h here = absurd h
+numbered_more (y ∷ xs) (q ∷ ps) us x p h here = (h.0, numbered_more xs ps us x p h.1 here)
 
-entered_numbered : (x : Slot) (us vs : List Term) (i : ℕ) → HasEntered x.value us vs i → (xs : List Slot) (is : List ℕ) → AreNumbered xs is us → AreNumbered (xs ++ x ∷ []) (is ++ i ∷ []) vs
-entered_numbered x us vs i (inl (same, first)) xs is h = subst (AreNumbered (xs ++ x ∷ []) (is ++ i ∷ [])) (sym same) (numbered_more xs is us x i h first)
-entered_numbered x us vs i (inr (pushed, q, absent)) xs is h =
-    let here : IsPlaceOf x.value (us ++ x.value ∷ []) i = subst (IsPlaceOf x.value (us ++ x.value ∷ [])) (sym q) (place_behind x.value us absent) in
-    subst (AreNumbered (xs ++ x ∷ []) (is ++ i ∷ [])) (sym pushed) (numbered_more xs is (us ++ x.value ∷ []) x i (numbered_kept xs is us (x.value ∷ []) h) here)
+entered_numbered : (x : Slot) (us vs : List Term) (p : Place) → p.weight ≡ x.weight → HasEntered x.value us vs p.number → (xs : List Slot) (ps : List Place) → AreNumbered xs ps us →
+    AreNumbered (xs ++ x ∷ []) (ps ++ p ∷ []) vs
+entered_numbered x us vs p w (inl (same, first)) xs ps h = subst (AreNumbered (xs ++ x ∷ []) (ps ++ p ∷ [])) (sym same) (numbered_more xs ps us x p h (w, first))
+entered_numbered x us vs p w (inr (pushed, q, absent)) xs ps h =
+    let here : IsPlaceOf x.value (us ++ x.value ∷ []) p.number = subst (IsPlaceOf x.value (us ++ x.value ∷ [])) (sym q) (place_behind x.value us absent) in
+    subst (AreNumbered (xs ++ x ∷ []) (ps ++ p ∷ [])) (sym pushed) (numbered_more xs ps (us ++ x.value ∷ []) x p (numbered_kept xs ps us (x.value ∷ []) h) (w, here))
 
 -- ---- the values, as one enters
 
@@ -180,41 +181,51 @@ entered_new t us vs i (inr (pushed, q, absent)) past = pushed
 -- ---- a place is added to sums
 
 pub as_many : (xs : List Slot) (s : Sums) → AreSumsOf xs s → length s.sums.items ≡ length s.values
-as_many xs s h = sym (length-map s.sums.items (λ v. v.value.now)) ∙ ap length h.0
+as_many xs s h = sym (length-map s.sums.items (λ v. v.value)) ∙ ap length h.0
 
 as_many_sums : (xs : List Slot) (s : Sums) → AreSumsOf xs s → length (sums_of s) ≡ length s.values
 as_many_sums xs s h = length-map s.sums.items (λ v. v.sum) ∙ as_many xs s h
 
-module _ (x : Slot) (s r : Sums) (i : ℕ) (entered : HasEntered x.value s.values r.values i) (numbers : r.numbers.items ≡ s.numbers.items ++ i ∷ []) where
+module _ (x : Slot) (s r : Sums) (i : ℕ) (entered : HasEntered x.value s.values r.values i) (places : r.places.items ≡ s.places.items ++ record { weight = x.weight; number = i } ∷ []) where
+  one_more : length r.places.items ≡ length s.places.items + 1
+  one_more = ap length places ∙ length-append s.places.items (record { weight = x.weight; number = i } ∷ [])
+
   one_added : (before : List Slot) → AreSumsOf before s → values_of r ≡ r.values → HaveGrown (x ∷ []) s.values (sums_of s) r.values (sums_of r) → AreSumsOf (before ++ x ∷ []) r
   one_added before h values grown = (
     values,
     λ t. (grown (as_many_sums before s h)).1 t ∙ (ap (λ (n : ℕ). weight_from n t (x ∷ [])) (h.1 t) ∙ weights_joined 0 t before (x ∷ [])),
-    subst (λ (is : List ℕ). AreNumbered (before ++ x ∷ []) is r.values) (sym numbers) (entered_numbered x s.values r.values i entered before s.numbers.items h.2),
+    subst (λ (ps : List Place). AreNumbered (before ++ x ∷ []) ps r.values) (sym places)
+        (entered_numbered x s.values r.values (record { weight = x.weight; number = i }) refl entered before s.places.items h.2),
   )
 
-  pub known_added : (own grown : ValueSum) → i < length s.sums.items → own ≡ get_or s.sums.items i own → grown.value.now ≡ own.value.now → grown.sum ≡ kept (own.sum + x.weight) →
+  pub known_added : (own grown : ValueSum) → i < length s.sums.items → own ≡ get_or s.sums.items i own → grown.value ≡ own.value → grown.sum ≡ kept (own.sum + x.weight) →
       r.sums.items ≡ set s.sums.items i grown → AreAdded (x ∷ []) s r
-  known_added own grown below at value sum now before h =
-      let same : r.values ≡ s.values = entered_known x.value s.values r.values i entered (omega (arith, below, as_many before s h)) in
-      let read : get_or (values_of s) i own.value.now ≡ own.value.now = get_or-map (λ (v : ValueSum). v.value.now) s.sums.items i own own.value.now below ∙ ap (λ (v : ValueSum). v.value.now) (sym at) in
-      let kept_values : values_of r ≡ values_of s =
-      ap (map (λ (v : ValueSum). v.value.now)) now ∙ map-set (λ (v : ValueSum). v.value.now) s.sums.items i grown ∙ ap (set (values_of s) i) (value ∙ sym read) ∙ set-get_or (values_of s) i own.value.now in
-      let sum_read : get_or (sums_of s) i own.sum ≡ own.sum = get_or-map (λ (v : ValueSum). v.sum) s.sums.items i own own.sum below ∙ ap (λ (v : ValueSum). v.sum) (sym at) in
-      let sums : sums_of r ≡ set (sums_of s) i (kept (get_or (sums_of s) i own.sum + x.weight)) =
-      ap (map (λ (v : ValueSum). v.sum)) now ∙ map-set (λ (v : ValueSum). v.sum) s.sums.items i grown ∙ ap (set (sums_of s) i) (sum ∙ ap (λ (n : ℕ). kept (n + x.weight)) (sym sum_read)) in
-      let within : i < length (sums_of s) = subst (λ (n : ℕ). i < n) (sym (length-map s.sums.items (λ (v : ValueSum). v.sum))) below in
-      one_added before h (kept_values ∙ h.0 ∙ sym same) (known_grown x s.values r.values (sums_of s) (sums_of r) i entered own.sum within sums)
+  known_added own grown below at value sum now = record {
+    count = one_more;
+    sums = λ before h.
+        let same : r.values ≡ s.values = entered_known x.value s.values r.values i entered (omega (arith, below, as_many before s h)) in
+        let read : get_or (values_of s) i own.value ≡ own.value = get_or-map (λ (v : ValueSum). v.value) s.sums.items i own own.value below ∙ ap (λ (v : ValueSum). v.value) (sym at) in
+        let kept_values : values_of r ≡ values_of s =
+        ap (map (λ (v : ValueSum). v.value)) now ∙ map-set (λ (v : ValueSum). v.value) s.sums.items i grown ∙ ap (set (values_of s) i) (value ∙ sym read) ∙ set-get_or (values_of s) i own.value in
+        let sum_read : get_or (sums_of s) i own.sum ≡ own.sum = get_or-map (λ (v : ValueSum). v.sum) s.sums.items i own own.sum below ∙ ap (λ (v : ValueSum). v.sum) (sym at) in
+        let sums : sums_of r ≡ set (sums_of s) i (kept (get_or (sums_of s) i own.sum + x.weight)) =
+        ap (map (λ (v : ValueSum). v.sum)) now ∙ map-set (λ (v : ValueSum). v.sum) s.sums.items i grown ∙ ap (set (sums_of s) i) (sum ∙ ap (λ (n : ℕ). kept (n + x.weight)) (sym sum_read)) in
+        let within : i < length (sums_of s) = subst (λ (n : ℕ). i < n) (sym (length-map s.sums.items (λ (v : ValueSum). v.sum))) below in
+        one_added before h (kept_values ∙ h.0 ∙ sym same) (known_grown x s.values r.values (sums_of s) (sums_of r) i entered own.sum within sums);
+  }
 
-  pub new_added : (own : ValueSum) → length s.sums.items ≤ i → x.weight ≤ 2 ^ 64 - 1 → own.value.now ≡ x.value → own.sum ≡ x.weight → r.sums.items ≡ s.sums.items ++ own ∷ [] → AreAdded (x ∷ []) s r
-  new_added own past small value sum now before h =
-      let pushed : r.values ≡ s.values ++ x.value ∷ [] = entered_new x.value s.values r.values i entered (omega (arith, past, as_many before s h)) in
-      let values : values_of r ≡ values_of s ++ x.value ∷ [] =
-      ap (map (λ (v : ValueSum). v.value.now)) now ∙ map-append (λ (v : ValueSum). v.value.now) s.sums.items (own ∷ []) ∙ ap (λ (t : Term). values_of s ++ t ∷ []) value in
-      let sums : sums_of r ≡ sums_of s ++ x.weight ∷ [] =
-      ap (map (λ (v : ValueSum). v.sum)) now ∙ map-append (λ (v : ValueSum). v.sum) s.sums.items (own ∷ []) ∙ ap (λ (n : ℕ). sums_of s ++ n ∷ []) sum in
-      let behind : length (sums_of s) ≤ i = subst (λ (n : ℕ). n ≤ i) (sym (length-map s.sums.items (λ (v : ValueSum). v.sum))) past in
-      one_added before h (values ∙ ap (λ (us : List Term). us ++ x.value ∷ []) h.0 ∙ sym pushed) (new_grown x s.values r.values (sums_of s) (sums_of r) i entered behind small sums)
+  pub new_added : (own : ValueSum) → length s.sums.items ≤ i → x.weight ≤ 2 ^ 64 - 1 → own.value ≡ x.value → own.sum ≡ x.weight → r.sums.items ≡ s.sums.items ++ own ∷ [] → AreAdded (x ∷ []) s r
+  new_added own past small value sum now = record {
+    count = one_more;
+    sums = λ before h.
+        let pushed : r.values ≡ s.values ++ x.value ∷ [] = entered_new x.value s.values r.values i entered (omega (arith, past, as_many before s h)) in
+        let values : values_of r ≡ values_of s ++ x.value ∷ [] =
+        ap (map (λ (v : ValueSum). v.value)) now ∙ map-append (λ (v : ValueSum). v.value) s.sums.items (own ∷ []) ∙ ap (λ (t : Term). values_of s ++ t ∷ []) value in
+        let sums : sums_of r ≡ sums_of s ++ x.weight ∷ [] =
+        ap (map (λ (v : ValueSum). v.sum)) now ∙ map-append (λ (v : ValueSum). v.sum) s.sums.items (own ∷ []) ∙ ap (λ (n : ℕ). sums_of s ++ n ∷ []) sum in
+        let behind : length (sums_of s) ≤ i = subst (λ (n : ℕ). n ≤ i) (sym (length-map s.sums.items (λ (v : ValueSum). v.sum))) past in
+        one_added before h (values ∙ ap (λ (us : List Term). us ++ x.value ∷ []) h.0 ∙ sym pushed) (new_grown x s.values r.values (sums_of s) (sums_of r) i entered behind small sums);
+  }
 
 -- ---- the weight of a value
 
@@ -237,35 +248,26 @@ module _ (t : Term) (s : Sums) (slots all : List Slot) (sound : AreSumsOf slots 
 pub found_below : (t : Term) (s : Sums) (slots : List Slot) (i : ℕ) → AreSumsOf slots s → IsPlaceOf t s.values i → i < length s.sums.items
 found_below t s slots i sound first = let l = first_within t s.values i first in omega (arith, l, as_many slots s sound)
 
--- ---- loops over places
+-- ---- one place after another
 
-pub empty_sums : (s : Sums) → s.values ≡ [] → s.sums.items ≡ [] → s.numbers.items ≡ [] → AreSumsOf [] s
-empty_sums s values sums numbers =
-    (ap (map (λ (v : ValueSum). v.value.now)) sums ∙ sym values, λ t. ap (λ (us : List Term). sum_beside t us (sums_of s)) values, subst (λ (is : List ℕ). AreNumbered [] is s.values) (sym numbers) tt)
+pub empty_sums : (s : Sums) → s.values ≡ [] → s.sums.items ≡ [] → s.places.items ≡ [] → AreSumsOf [] s
+empty_sums s values sums places =
+    (ap (map (λ (v : ValueSum). v.value)) sums ∙ sym values, λ t. ap (λ (us : List Term). sum_beside t us (sums_of s)) values, subst (λ (ps : List Place). AreNumbered [] ps s.values) (sym places) tt)
 
-none_added : (s : Sums) → AreAdded [] s s
-none_added s before h = subst (λ (xs : List Slot). AreSumsOf xs s) (sym (append-nil before)) h
+pub none_added : (s : Sums) → AreAdded [] s s
+none_added s = record { count = omega arith; sums = λ before h. subst (λ (xs : List Slot). AreSumsOf xs s) (sym (append-nil before)) h }
 
-both_added : (xs ys : List Slot) (s m r : Sums) → AreAdded xs s m → AreAdded ys m r → AreAdded (xs ++ ys) s r
-both_added xs ys s m r one other before h = subst (λ (zs : List Slot). AreSumsOf zs r) (append_assoc before xs ys) (other (before ++ xs) (one before h))
+pub both_added : (xs ys : List Slot) (s m r : Sums) → AreAdded xs s m → AreAdded ys m r → AreAdded (xs ++ ys) s r
+both_added xs ys s m r one other =
+    let long = length-append xs ys in record {
+      count = omega (arith, long, one.count, other.count);
+      sums = λ before h. subst (λ (zs : List Slot). AreSumsOf zs r) (append_assoc before xs ys) (other.sums (before ++ xs) (one.sums before h));
+    }
 
-pub place_added : (all : List Slot) (i : ℕ) (x : Slot) → i < length all → x ≡ get_or all i x → (s m r : Sums) → AreAdded (x ∷ []) s m → AreAdded (drop (i + 1) all) m r → AreAdded (drop i all) s r
-place_added all i x l at s m r one rest = subst (λ (xs : List Slot). AreAdded xs s r) (sym (drop_read all i x l at)) (both_added (x ∷ []) (drop (i + 1) all) s m r one rest)
+-- The places xs are added, if none are left of them.
+pub all_added : (xs : List Slot) (s : Sums) → xs ≡ [] → AreAdded xs s s
+all_added xs s none = subst (λ (ys : List Slot). AreAdded ys s s) (sym none) (none_added s)
 
-pub all_added : (all : List Slot) (i : ℕ) → length all ≤ i → (s : Sums) → AreAdded (drop i all) s s
-all_added all i past s = subst (λ (xs : List Slot). AreAdded xs s s) (sym (drop_all i all past)) (none_added s)
-
-pub list_added : {A : Type 0} (lists : List (Vec Slot A)) (i : ℕ) (next : Vec Slot A) → i < length lists → next ≡ get_or lists i next → (given : List Slot) → given ≡ next.items →
-    (s m r : Sums) → AreAdded given s m → AreAdded (strung (lists_of (drop (i + 1) lists))) m r → AreAdded (strung (lists_of (drop i lists))) s r
-list_added {A} lists i next l at given is s m r one rest =
-    subst (λ (yss : List (Vec Slot A)). AreAdded (strung (lists_of yss)) s r) (sym (drop_read lists i next l at))
-    (subst (λ (xs : List Slot). AreAdded (xs ++ strung (lists_of (drop (i + 1) lists))) s r) is (both_added given (strung (lists_of (drop (i + 1) lists))) s m r one rest))
-
-pub lists_added : {A : Type 0} (lists : List (Vec Slot A)) (i : ℕ) → length lists ≤ i → (s : Sums) → AreAdded (strung (lists_of (drop i lists))) s s
-lists_added {A} lists i past s = subst (λ (yss : List (Vec Slot A)). AreAdded (strung (lists_of yss)) s s) (sym (drop_all i lists past)) (none_added s)
-
-pub begun : {A : Type 0} (given values : List Slot) (lists strands : List (Vec Slot A)) → given ≡ values → lists ≡ strands → (s m r : Sums) → AreSumsOf [] s → AreAdded given s m →
-    AreAdded (strung (lists_of lists)) m r → AreSumsOf (values ++ strung (lists_of strands)) r
-begun {A} given values lists strands is are s m r start one rest =
-    subst (λ (xs : List Slot). AreSumsOf (xs ++ strung (lists_of strands)) r) is
-    (subst (λ (yss : List (Vec Slot A)). AreSumsOf (given ++ strung (lists_of yss)) r) are (both_added given (strung (lists_of lists)) s m r one rest [] start))
+-- The places xs are added, of which some come first.
+pub next_added : (xs first rest : List Slot) → xs ≡ first ++ rest → (s m r : Sums) → AreAdded first s m → AreAdded rest m r → AreAdded xs s r
+next_added xs first rest are s m r one other = subst (λ (ys : List Slot). AreAdded ys s r) (sym are) (both_added first rest s m r one other)

@@ -13,7 +13,6 @@ use Rattle.cp_model.specs.Skeleton.{SkeletonStrand, instance, listener, Skeleton
 use Rattle.cp_model.specs.Same.{same_term, has_variable}
 use Rattle.cp_fingerprint.specs.PartitionNumber.{mixed}
 use Rattle.cp_fingerprint.specs.Slots.{Slot}
-use Rattle.cp_fingerprint.specs.declared.slots.Places.{Places}
 
 -- The number of a text.
 abbrev pub text_number : ℕ → List ℕ → ℕ
@@ -61,10 +60,6 @@ slots_of k = value_slots 0 k.from_problem.values ++ strung (map strand_slots k.s
 -- The places of each strand that the program holds, as lists.
 abbrev pub lists_of : {A : Type 0} → List (Vec Slot A) → List (List Slot)
 lists_of = map (λ v. v.items)
-
--- All places that the program holds.
-abbrev pub slots_in : Places → List Slot
-slots_in p = p.values.items ++ strung (lists_of p.strands.items)
 
 -- The greatest number that is kept.
 abbrev pub kept : ℕ → ℕ

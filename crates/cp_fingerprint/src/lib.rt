@@ -9,10 +9,11 @@ mod first_places;
 mod heard;
 mod heights;
 mod partition;
-mod shared_values;
+mod shares;
 mod signature;
 mod slots;
 mod sorted_heights;
+mod sums;
 mod values;
 mod weights;
 

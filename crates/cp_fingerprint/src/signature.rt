@@ -8,8 +8,8 @@ ghost use Rattle.cp_fingerprint.specs.Isomorphic.{IsIsomorphic};
 use crate::chains::chains_of;
 use crate::fingerprints::{fingerprint, may_embed};
 use crate::partition::Partition;
-use crate::shared_values::share_numbers;
 use crate::sorted_heights::Fingerprint;
+use crate::weights::Weights;
 use cp_skel::Skeleton;
 use std::alloc::{AllocError, Global};
 use std::marker::Model;
@@ -42,7 +42,7 @@ impl Signature {
     pub fn of(alloc: Global, k: &Skeleton) -> Result<Signature, AllocError>
         ensures exact { IfOk result (λ f. f ≡ signature_of k.now) }
     {
-        let shared = share_numbers(alloc, k)?;
+        let shared = Weights::of(alloc, k)?.share_numbers(alloc)?;
         Ok(Signature {
             fingerprint: fingerprint(alloc, k)?,
             partition: Partition::of(alloc, k)?,

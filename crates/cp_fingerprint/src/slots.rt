@@ -1,5 +1,5 @@
 // The values that role strands share, each with the weight of its place.
-ghost use Rattle.std.specs.Prelude.{◌≡◌, ◌↔◌, ◌-◌, map, IsTrue, IfOk};
+ghost use Rattle.std.specs.Prelude.{◌≡◌, ◌↔◌, map, IsTrue, IfOk};
 ghost use Rattle.cp_model.specs.Homomorphism.{substitution_by};
 ghost use Rattle.cp_fingerprint.specs.Slots.{slot_key};
 ghost use Rattle.cp_fingerprint.specs.SharedValues.{text_number, place_weight, value_slots, prefix_slots, strand_slots, lists_of};
@@ -56,20 +56,6 @@ impl Slot {
         }
     }
 
-    /// The weight of the place.
-    pub(crate) fn weight(&self) -> usize
-        ensures { result ≡ self.now.weight }
-    {
-        self.weight
-    }
-
-    /// A weight that is the less the more the place weighs.
-    pub(crate) fn lightness(&self) -> usize
-        ensures { result ≡ 4093 - self.now.weight }
-    {
-        4093usize.saturating_sub(self.weight)
-    }
-
     /// The value.
     pub fn value(&self) -> &Term
         ensures { result.now ≡ self.now.value }
@@ -95,7 +81,7 @@ pub struct Places {
 }
 
 /// A number computed from a text.
-fn text_number(bytes: &[u8]) -> usize
+pub(crate) fn text_number(bytes: &[u8]) -> usize
     ensures { result ≡ text_number 1 bytes.now }
 {
     let mut number: usize = 1;
@@ -106,7 +92,7 @@ fn text_number(bytes: &[u8]) -> usize
 }
 
 /// The weight of the place with this number, under a name with this number.
-fn place_weight(name: usize, place: usize) -> usize
+pub(crate) fn place_weight(name: usize, place: usize) -> usize
     ensures { result ≡ place_weight name place }
 {
     name.wrapping_mul(1_000_003).wrapping_add(place) % 4093

@@ -1,82 +1,48 @@
-// The weights of the values that stand at the places of a skeleton. The sums saturate.
-ghost use Rattle.std.specs.Prelude.{◌≡◌, ◌∷◌, [], map, IfOk, OnOk};
-ghost use Rattle.cp_fingerprint.specs.SharedValues.{slots_in, weight_from, named_from, value_weight};
-ghost use Rattle.cp_fingerprint.specs.Weights.{weight_beside, AreAdded};
+// The weights of the values that stand at the places of a skeleton, and how its role strands share them. The sums saturate.
+ghost use Rattle.std.specs.Prelude.{◌≡◌, map, IfOk};
+ghost use Rattle.cp_fingerprint.specs.SharedValues.{slots_of, weight_from, named_from, bucket_key_of, light_share_of};
+ghost use Rattle.cp_fingerprint.specs.Weights.{weight_beside};
 
-use crate::heard::heard_weight;
-use crate::slots::{Places, Slot};
-use crate::values::{FEW, Values};
-use cp_skel::Event;
+use crate::heard::{heard_weight, listened};
+use crate::shares::shares_of;
+use crate::sums::{Sums, ValueSum};
+use cp_skel::{Event, Skeleton};
 use cp_term::{Shape, Sort, Term, var};
 use std::alloc::{AllocError, Global};
 use std::marker::Model;
 
-/// A value, and the sum of the weights of some places at which it stands.
-#[derive(Drop)]
-pub(crate) struct ValueSum<'a> {
-    pub(crate) value: &'a Term,
-    pub(crate) sum: usize,
-}
-
-/// The values that stand at some places, each once, with their sums, and for each place the number of its value.
-#[derive(Drop)]
-pub(crate) struct Sums<'a> {
-    pub(crate) values: Values,
-    pub(crate) sums: Vec<ValueSum<'a>>,
-    pub(crate) numbers: Vec<usize>,
-}
-
-impl<'a> Sums<'a> {
-    /// Adds the weight of a place to the sum of the value that stands there.
-    fn add(&mut self, slot: &'a Slot) -> Result<(), AllocError>
-        ensures { OnOk result (AreAdded (slot.now ∷ []) self.old self.new) }
-    {
-        let number = self.values.intern(slot.value())?;
-        self.numbers.push(number)?;
-        if number < self.sums.len() {
-            let own = &mut self.sums[number];
-            own.sum = own.sum.saturating_add(slot.weight());
-            return Ok(());
-        }
-        let own = ValueSum {
-            value: slot.value(),
-            sum: slot.weight(),
-        };
-        self.sums.push(own).map_err(AllocError::from)
-    }
-
-    /// Adds the weights of some places to the sums of the values that stand there.
-    fn add_all(&mut self, slots: &'a [Slot]) -> Result<(), AllocError>
-        ensures { OnOk result (AreAdded slots.now self.old self.new) }
-    {
-        for slot in slots {
-            self.add(slot)?;
-        }
-        Ok(())
-    }
-}
-
-/// The values that stand at the places of a skeleton, and beside each the weight of all places at which it stands.
+/// The values that stand at the places of a skeleton, beside each the weight of all places at which it stands, and for each
+/// strand how many places it has.
 #[derive(Drop)]
 pub(crate) struct Weights<'a> {
-    places: &'a Places,
-    sums: Sums<'a>,
+    skeleton: &'a Skeleton,
+    sums: Sums,
+    counts: Vec<usize>,
 }
 
 impl<'a> Model for Weights<'a> {
-    ghost use Rattle.std.specs.Prelude.{List};
-    ghost use Rattle.std.specs.Coded.{coded_list};
-    ghost use Rattle.cp_fingerprint.specs.Slots.{Slot, coded_slot};
-    ghost use Rattle.cp_fingerprint.specs.SharedValues.{slots_in};
+    ghost use Rattle.std.specs.Prelude.{◌≡◌, length, map};
+    ghost use Rattle.cp_model.specs.Skeleton.{Skeleton as Plain};
+    ghost use Rattle.cp_skel.specs.Code.{coded_skeleton};
+    ghost use Rattle.cp_fingerprint.specs.SharedValues.{slots_of, strand_slots};
     ghost use Rattle.cp_fingerprint.specs.Weights.{AreSumsOf};
 
-    ghost Value = { List Slot };
+    ghost Value = { Plain };
 
-    ghost coded = { coded_list coded_slot };
+    ghost coded = { coded_skeleton };
 
-    ghost view = { λ w. slots_in w.places.now };
+    ghost view = { λ w. w.skeleton.now };
 
-    ghost invariant = { λ w. AreSumsOf (slots_in w.places.now) w.sums };
+    ghost invariant = { λ w. AreSumsOf (slots_of w.skeleton.now) w.sums × (w.counts.items ≡ map length (map strand_slots w.skeleton.now.strands)) };
+}
+
+/// The numbers for how the role strands of a skeleton share values.
+#[derive(Clone, Copy)]
+pub(crate) struct ShareNumbers {
+    /// The share of the problem's places, plus the square of the share of each strand's places.
+    pub(crate) bucket_key: usize,
+    /// The share of each strand's places, light ones counting for more.
+    pub(crate) light_share: usize,
 }
 
 /// The weight `first` plus the weights of the places at which the names of a key stand. The second name of a long-term key counts
@@ -87,7 +53,7 @@ fn names_weight(
     value: &Term,
     weights: &Weights,
 ) -> Result<usize, AllocError>
-    ensures { IfOk result (λ n. n ≡ named_from first value.now weights.now) }
+    ensures { IfOk result (λ n. n ≡ named_from first value.now (slots_of weights.now)) }
 {
     match value.shape() {
         Shape::Ltk(a, b) => {
@@ -113,10 +79,10 @@ fn value_weight(
     weights: &Weights,
     own: &ValueSum,
 ) -> Result<usize, AllocError>
-    ensures { IfOk result (λ n. n ≡ weight_beside heard.now weights.now own.now) }
+    ensures { IfOk result (λ n. n ≡ weight_beside heard.now (slots_of weights.now) own.now) }
 {
-    let first = heard_weight(heard, own.value);
-    let weight = names_weight(alloc, first, own.value, weights)?;
+    let first = heard_weight(heard, &own.value);
+    let weight = names_weight(alloc, first, &own.value, weights)?;
     Ok(weight.saturating_add(own.sum))
 }
 
@@ -127,7 +93,7 @@ fn value_weights(
     weights: &Weights,
     sums: &[ValueSum],
 ) -> Result<Vec<usize>, AllocError>
-    ensures { IfOk result (λ v. v.items ≡ map (weight_beside heard.now weights.now) sums.now) }
+    ensures { IfOk result (λ v. v.items ≡ map (weight_beside heard.now (slots_of weights.now)) sums.now) }
 {
     sums.iter()
         .map(|own| value_weight(alloc, heard, weights, own))
@@ -135,25 +101,23 @@ fn value_weights(
 }
 
 impl<'a> Weights<'a> {
-    /// The weights of the values at these places.
-    pub(crate) fn of(alloc: Global, places: &'a Places) -> Result<Weights<'a>, AllocError>
-        ensures { IfOk result (λ w. w ≡ slots_in places.now) }
+    /// The weights of the values at the places of a skeleton.
+    pub(crate) fn of(alloc: Global, k: &'a Skeleton) -> Result<Weights<'a>, AllocError>
+        ensures { IfOk result (λ w. w ≡ k.now) }
     {
-        let mut sums = Sums {
-            values: Values::new(alloc)?,
-            sums: Vec::with_capacity(alloc, FEW)?,
-            numbers: Vec::with_capacity(alloc, FEW)?,
-        };
-        sums.add_all(&places.values)?;
-        for slots in &places.strands {
-            sums.add_all(slots)?;
-        }
-        Ok(Weights { places, sums })
+        let mut sums = Sums::new(alloc)?;
+        sums.add_values(k.from_problem().values())?;
+        let counts = sums.add_strands(alloc, k.strands())?;
+        Ok(Weights {
+            skeleton: k,
+            sums,
+            counts,
+        })
     }
 
     /// The weight `first` plus the weights of the places at which the value stands.
     fn with(&self, first: usize, value: &Term) -> usize
-        ensures { result ≡ weight_from first value.now self.now }
+        ensures { result ≡ weight_from first value.now (slots_of self.now) }
     {
         match self.sums.values.find(value) {
             Some(number) => first.saturating_add(self.sums.sums[number].sum),
@@ -161,16 +125,27 @@ impl<'a> Weights<'a> {
         }
     }
 
-    /// For each place the weight of the value that stands there.
-    pub(crate) fn at_places(self, alloc: Global, heard: &[Event]) -> Result<Vec<usize>, AllocError>
-        ensures { IfOk result (λ v. v.items ≡ map (λ x. value_weight heard.now self.entry x.value) self.entry) }
+    /// The numbers for how the role strands share values.
+    pub(crate) fn share_numbers(&self, alloc: Global) -> Result<ShareNumbers, AllocError>
+        ensures bucket_key { IfOk result (λ n. n.bucket_key ≡ bucket_key_of self.now) }
+        ensures light_share { IfOk result (λ n. n.light_share ≡ light_share_of self.now) }
     {
-        let of_values = value_weights(alloc, heard, &self, &self.sums.sums)?;
-        let sums = self.sums;
-        let mut weights = sums.numbers;
-        for weight in weights.iter_mut() {
-            *weight = of_values[*weight];
+        let heard = listened(alloc, self.skeleton.strands())?;
+        let weights = value_weights(alloc, &heard, self, &self.sums.sums)?;
+        let given = self.skeleton.from_problem().values().len();
+        let (own, mut rest) = self.sums.places.split_at(given);
+        let mut bucket_key = shares_of(own, &weights).heavy;
+        let mut light_share: usize = 0;
+        for count in &self.counts {
+            let (own, later) = rest.split_at(*count);
+            let shares = shares_of(own, &weights);
+            bucket_key = bucket_key.saturating_add(shares.heavy.saturating_mul(shares.heavy));
+            light_share = light_share.saturating_add(shares.light);
+            rest = later;
         }
-        Ok(weights)
+        Ok(ShareNumbers {
+            bucket_key,
+            light_share,
+        })
     }
 }

@@ -33,11 +33,11 @@ realised_if k nodes count empty lists size test = by_list nodes lists size
         let more : (count == 0) ≡ false = grind (arith, nat_tests) in
         (λ e. absurd (not_both (test ∙ more) e), λ a. absurd (u.underivable (a n u.message u.reception)))
 
-pub fit_if : (k : Skeleton) (realised : Bool) → IsNormal k → (realised ≡ true) ↔ AllDerivable k → (realised ≡ true) ↔ IsFit k
-fit_if k realised n h = (λ e. record { normal = n; realised = h.0 e }, λ f. h.1 f.realised)
+pub fit_if : (k : Skeleton) (normal : Bool) → AllDerivable k → (normal ≡ true) ↔ IsNormal k → (normal ≡ true) ↔ IsFit k
+fit_if k normal all h = (λ e. record { normal = h.0 e; realised = all }, λ f. h.1 f.normal)
 
-pub unfit_if : (k : Skeleton) (b : Bool) → (b ≡ true) ↔ IsNormal k → b ≡ false → (false ≡ true) ↔ IsFit k
-unfit_if k b h f = (λ e. absurd (not_both refl e), λ fit. absurd (not_both f (h.1 fit.normal)))
+pub unfit_if : (k : Skeleton) (b : Bool) → (b ≡ true) ↔ AllDerivable k → b ≡ false → (false ≡ true) ↔ IsFit k
+unfit_if k b h f = (λ e. absurd (not_both refl e), λ fit. absurd (not_both f (h.1 fit.realised)))
 
 abbrev pub no_pair : OrderPair
 no_pair = record { earlier = record { strand = 0; index = 0 }; later = record { strand = 0; index = 0 } }

@@ -25,7 +25,7 @@ use Rattle.cp_general.proofs.StatedWithoutPair.{dropped_keeps_stated, dropped_ca
 
 -- ---- fit, and most general
 
-step_is_fit : {k g : Skeleton} → StepsTo k g → IsFit g
+pub step_is_fit : {k g : Skeleton} → StepsTo k g → IsFit g
 step_is_fit (deletes {h = h} del fit first) = fit_listed h fit
 step_is_fit (drops none drop fit first) = fit
 

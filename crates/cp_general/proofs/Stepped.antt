@@ -10,12 +10,13 @@ use Rattle.cp_model.specs.Skeleton.{Skeleton, Before}
 use Rattle.cp_model.specs.Given.{listed}
 use Rattle.cp_skel.specs.Ordered.{IsOrdered, ordered_by}
 use Rattle.cp_derive.specs.Unrealised.{IsListedBefore}
+use Rattle.cp_normal.specs.Findings.{IsAddedPair}
 use Rattle.cp_general.specs.Fit.{IsFit}
 use Rattle.cp_general.specs.Steps.{IsPairOfOrder, Weakens, IsLowerPair}
 use Rattle.cp_general.specs.Generalisation.{DeletesNone, WeakensNone, StepsTo, deletes, drops, GeneralisesTo, last_step, next_step}
-use Rattle.cp_general.specs.ListedPairs.{AreRisingPairs, ListsOrder}
+use Rattle.cp_general.specs.ListedPairs.{AreRisingPairs, ListsAdded, ListsOrder}
 use Rattle.cp_general.specs.ProgramSteps.{NeverDeletes, NeverDrops, LeavesFit, WeakensFirst, ComesBySteps, IsReachedByWeakening}
-use Rattle.cp_general.proofs.Alike.{fit_alike}
+use Rattle.cp_general.proofs.Alike.{assume_the_same, was_added, is_added, fit_alike}
 use Rattle.cp_general.proofs.Deleted.{deletes_none_still}
 use Rattle.cp_general.proofs.Dropped.{fit_before}
 
@@ -138,6 +139,14 @@ drops_to k ps before p h d =
 -- the same the other way: the skeleton has its own pairs in place of those
 drops_from : (k : Skeleton) (ps : List OrderPair) → ((x y : Node) → Before (ordered_by k ps) x y ↔ Before k x y) → (p : OrderPair) (h : Skeleton) → Weakens p k h → Weakens p (ordered_by k ps) h
 drops_from k ps before p h d = drops_to (ordered_by k ps) k.pairs (λ x y. ((before x y).1, (before x y).0)) p h d
+
+-- the same pairs that unique values add
+pub added_still : (k h : Skeleton) → h ≡ ordered_by k h.pairs → (added : List OrderPair) → ListsAdded k added → ListsAdded h added
+added_still k h same added are p =
+    subst (λ (z : Skeleton). IsIn p added ↔ IsAddedPair z p) (sym same) (
+      λ m. is_added k k.variables h.pairs k.assumptions k.from_problem (assume_the_same k.assumptions) p ((are p).0 m),
+      λ a. (are p).1 (was_added k k.variables h.pairs k.assumptions k.from_problem (assume_the_same k.assumptions) p a),
+    )
 
 -- ---- steps, one after the other
 

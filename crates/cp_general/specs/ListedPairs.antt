@@ -12,6 +12,7 @@ use Rattle.cp_model.specs.declared.node.OrderPair.{OrderPair}
 use Rattle.cp_model.specs.OrderTests.{reaches_within}
 use Rattle.cp_model.specs.Skeleton.{Skeleton}
 use Rattle.cp_general.specs.declared.pairs.Reception.{Reception}
+use Rattle.cp_normal.specs.Findings.{IsAddedPair}
 use Rattle.cp_general.specs.Steps.{IsPairOfOrder, IsLowerPair}
 
 -- Each pair stands before all that are higher, and once.
@@ -23,6 +24,10 @@ AreRisingPairs (p ∷ ps) = ((q : OrderPair) → IsIn q ps → IsLowerPair p q) 
 pub record ListsOrder (k : Skeleton) (pairs : List OrderPair) : Type 0 where
   pub each : (q : OrderPair) → IsIn q pairs ↔ IsPairOfOrder k q
   pub rising : AreRisingPairs pairs
+
+-- The list holds exactly the pairs that unique values add to the skeleton's order.
+abbrev pub ListsAdded : Skeleton → List OrderPair → Type 0
+ListsAdded k pairs = (p : OrderPair) → IsIn p pairs ↔ IsAddedPair k p
 
 -- ---- how they are gathered
 

@@ -2,7 +2,6 @@
 ghost use Rattle.std.specs.Prelude.{◌≡◌, ◌↔◌, drop, IsTrue, Some, IfOk, IfSome, IfNone};
 ghost use Rattle.std.specs.List.{filter};
 ghost use Rattle.cp_lists.specs.Lists.{IsIn};
-ghost use Rattle.cp_model.specs.declared.node.OrderPair.{OrderPair as Plain};
 ghost use Rattle.cp_model.specs.OrderTests.{any_pair};
 ghost use Rattle.cp_model.specs.Term.{Term};
 ghost use Rattle.cp_model.specs.declared.strand.Event.TheVariants.{Receive as recv};
@@ -11,17 +10,16 @@ ghost use Rattle.cp_model.specs.Derivable.{DerivableAt};
 ghost use Rattle.cp_skel.specs.Ordered.{ordered_by};
 ghost use Rattle.cp_skel.specs.Sound.{IsSound};
 ghost use Rattle.cp_collapse.specs.Property.{Has};
-ghost use Rattle.cp_normal.specs.Findings.{IsAddedPair};
 ghost use Rattle.cp_normal.specs.OwnPairs.{AllLead};
 ghost use Rattle.cp_general.specs.Fit.{IsFit};
 ghost use Rattle.cp_general.specs.Generalisation.{WeakensNone};
-ghost use Rattle.cp_general.specs.ListedPairs.{ListsOrder, IsInNeither, is_same_pair, is_other_pair};
+ghost use Rattle.cp_general.specs.ListedPairs.{ListsAdded, ListsOrder, IsInNeither, is_same_pair, is_other_pair};
 ghost use Rattle.cp_general.specs.ProgramSteps.{NeverDrops, MayDrop, HasFreePair, LeavesFitOrder, WeakensFirst};
 
 use crate::covering_pairs::is_covered;
 use crate::pairs::reordered;
 use cp_derive::critical;
-use cp_normal::{added_pairs, all_lead};
+use cp_normal::all_lead;
 use cp_skel::{Node, Order, OrderPair, Skeleton};
 use std::alloc::{AllocError, Global};
 
@@ -78,14 +76,15 @@ fn some_is_in_neither(first: &[OrderPair], second: &[OrderPair], pairs: &[OrderP
     false
 }
 
-/// Whether one of the skeleton's pairs is neither stated by the problem nor added by a unique value. Only such a pair can be
-/// dropped.
-pub(crate) fn some_may_drop(alloc: Global, k: &Skeleton) -> Result<bool, AllocError>
-    ensures { IfOk result (λ some. IsTrue some ↔ HasFreePair k.now) }
+/// Whether one of the skeleton's pairs is neither stated by the problem nor one of those that unique values add. Only such a pair
+/// can be dropped.
+pub(crate) fn some_may_drop(k: &Skeleton, added: &[OrderPair]) -> bool
+    requires { ListsAdded k.now added.now }
+    ensures { IsTrue result ↔ HasFreePair k.now }
 {
     let own = k.from_problem().pairs();
     let pairs = k.order().pairs();
-    added_pairs(alloc, k).map(|added| some_is_in_neither(own, &added, pairs))
+    some_is_in_neither(own, added, pairs)
 }
 
 /// The pairs except this one.
@@ -108,7 +107,7 @@ fn may_drop(
     pair: OrderPair,
 ) -> Result<bool, AllocError>
     requires lists { ListsOrder k.now k.now.pairs }
-    requires added { (p : Plain) → IsIn p added.now ↔ IsAddedPair k.now p }
+    requires added { ListsAdded k.now added.now }
     requires listed { IsIn pair k.now.pairs }
     ensures { IfOk result (λ may. IsTrue may ↔ MayDrop pair k.now) }
 {
@@ -180,17 +179,21 @@ fn try_drop(alloc: Global, k: &Skeleton, pair: OrderPair) -> Result<Option<Skele
 }
 
 /// The step that drops a pair: of all pairs that can be dropped, the lowest. The skeleton must be fit and list all pairs of its
-/// order. `None` if no pair can be dropped so that the rest is fit.
-pub(crate) fn first_drop(alloc: Global, k: &Skeleton) -> Result<Option<Skeleton>, AllocError>
+/// order; the pairs that unique values add are given. `None` if no pair can be dropped so that the rest is fit.
+pub(crate) fn first_drop(
+    alloc: Global,
+    k: &Skeleton,
+    added: &[OrderPair],
+) -> Result<Option<Skeleton>, AllocError>
     requires lists { ListsOrder k.now k.now.pairs }
     requires fit { IsFit k.now }
+    requires added { ListsAdded k.now added.now }
     ensures some { IfOk result (λ found. IfSome found (λ h. WeakensFirst k.now h)) }
     ensures none { IfOk result (λ found. IfNone found (WeakensNone k.now)) }
     ensures variables { IfOk result (λ found. IfSome found (λ h. h.variables ≡ k.now.variables)) }
 {
-    let added = added_pairs(alloc, k)?;
     for pair in k.order().pairs() {
-        if !may_drop(alloc, k, &added, *pair)? {
+        if !may_drop(alloc, k, added, *pair)? {
             continue;
         }
         match try_drop(alloc, k, *pair)? {

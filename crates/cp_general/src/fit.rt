@@ -15,12 +15,24 @@ fn is_realised(alloc: Global, k: &Skeleton) -> Result<bool, AllocError>
     unrealised(alloc, k).map(|nodes| nodes.is_empty())
 }
 
-/// Whether the skeleton is normal, and all its receptions are derivable.
+/// Whether the skeleton is normal, and all its receptions are derivable. Where it is not fit, mostly some reception is not
+/// derivable, so this is asked first.
 pub(crate) fn is_fit(alloc: Global, k: &Skeleton) -> Result<bool, AllocError>
     ensures { IfOk result (λ fit. IsTrue fit ↔ IsFit k.now) }
 {
-    if !is_normal(alloc, k)? {
+    if !is_realised(alloc, k)? {
         return Ok(false);
     }
-    is_realised(alloc, k)
+    is_normal(alloc, k)
+}
+
+/// Whether a skeleton is fit that may be known to be.
+pub(crate) fn is_known_or_fit(alloc: Global, k: &Skeleton, known: bool) -> Result<bool, AllocError>
+    requires { IsTrue known → IsFit k.now }
+    ensures { IfOk result (λ fit. IsTrue fit ↔ IsFit k.now) }
+{
+    if known {
+        return Ok(true);
+    }
+    is_fit(alloc, k)
 }

@@ -5,6 +5,7 @@ pub mod Beforehand
 pub mod Blocked
 pub mod Embedded
 pub mod Extended
+pub mod FirstChoices
 pub mod Images
 pub mod Itemised
 pub mod PartValues

@@ -1,4 +1,5 @@
 pub mod Choices
+pub mod FirstChoices
 pub mod PartialMaps
 pub mod Maps
 pub mod OpenMaps

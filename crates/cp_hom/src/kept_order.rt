@@ -62,9 +62,9 @@ fn meet(strands: &[Strand], mapping: &Map, strand: usize, other: usize) -> bool
         × IsRoleStrand strands.now other
         × ((map_view mapping.now).strands other ≡ (map_view mapping.now).strands strand)) }
 {
-    is_role_strand(strands, strand)
+    mapping.strand(other) == mapping.strand(strand)
+        && is_role_strand(strands, strand)
         && is_role_strand(strands, other)
-        && mapping.strand(other) == mapping.strand(strand)
 }
 
 /// Whether a strand is an instance of a role and maps to the image of an earlier instance.

@@ -50,7 +50,7 @@ fn is_apart(from: &Term, to: &Term, given: &Partial) -> bool
 }
 
 /// The value with a variable's number, if it has the variable's sort.
-fn value_at(values: &[Term], id: VarId, sort: Sort) -> Option<&Term>
+pub(crate) fn value_at(values: &[Term], id: VarId, sort: Sort) -> Option<&Term>
     ensures { IfSome result (λ t. apply_to (substitution_by values.now) (variable_of_sort sort id) ≡ t.now) }
 {
     match item_at(values, id.number()) {
@@ -146,7 +146,7 @@ fn known_pair(pair: Pairing<'_>, given: &Partial) -> Option<bool>
 }
 
 /// Whether an item of the first skeleton maps to the item with this number of the second; `None` if that is not known.
-fn known_place(
+pub(crate) fn known_place(
     a: &Skeleton,
     b: &Skeleton,
     item: Item,

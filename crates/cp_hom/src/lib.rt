@@ -4,6 +4,7 @@
 
 mod broken;
 mod embeddings;
+mod first_choices;
 mod from_problem;
 mod items;
 mod kept_order;

@@ -28,7 +28,7 @@ pub(crate) struct Branch {
 }
 
 /// The embedding given by a partial map that places all items, if it is one.
-fn finish(
+pub(crate) fn finish(
     alloc: Global,
     a: &Skeleton,
     b: &Skeleton,

@@ -7,6 +7,7 @@ ghost use Rattle.cp_term.specs.Variables.{variable_of_sort};
 ghost use Rattle.cp_hom.specs.PartialMaps.{partial_view, FindsMaps};
 ghost use Rattle.cp_hom.specs.Counterparts.{MakesValues, MakesPart};
 
+use crate::known::value_at;
 use crate::partials::{Partial, match_terms};
 use cp_skel::{Role, Strand, StrandShape, is_same_role, value_of_variable};
 use cp_term::{Sort, Term, VarId};
@@ -25,6 +26,9 @@ fn match_variable(
         (λ f. apply_to f.terms (apply_to (substitution_by from.now) (variable_of_sort sort id)) ≡ apply_to (substitution_by to.now) (variable_of_sort sort id))
         (partial_view given)) }
 {
+    if let (Some(first), Some(second)) = (value_at(from, id, sort), value_at(to, id, sort)) {
+        return match_terms(alloc, first, second, given);
+    }
     let first = value_of_variable(alloc, from, id, sort)?;
     let second = value_of_variable(alloc, to, id, sort)?;
     match_terms(alloc, &first, &second, given)

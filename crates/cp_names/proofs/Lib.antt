@@ -1,9 +1,7 @@
 pub mod MarkMeanings
-pub mod DeclaredFlags
 pub mod FreeNames
 pub mod Tables
 pub mod NamesByFlags
 pub mod LaterNames
 pub mod LocalsInOrder
 pub mod LocalsFound
-pub mod PrefixFlags

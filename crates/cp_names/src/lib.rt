@@ -9,7 +9,7 @@ mod locals;
 mod names;
 mod occurrences;
 
-pub use flags::{is_flagged, prefix_flags};
+pub use flags::is_flagged;
 pub use labels::{LabelVariables, variables_of_label};
 pub use locals::locals_of;
 pub use names::problem_names;

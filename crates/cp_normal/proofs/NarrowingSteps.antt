@@ -1,12 +1,13 @@
 -- Steps of narrowing, and the normal forms to which they lead.
-use Rattle.std.proofs.Common.{◌≡◌, ◌⊎◌, inl, inr, ◌<◌, List, [], ◌∷◌, map, refl, sym, ap, ◌∙◌, subst, ⊎_elim}
+use Rattle.std.proofs.Common.{◌≡◌, ◌⊎◌, inl, inr, ◌<◌, Bool, true, false, List, [], ◌∷◌, map, refl, sym, ap, ◌∙◌, subst, ⊎_elim}
+use Rattle.std.specs.Prelude.{not}
 use Rattle.std.proofs.lemmas.List.{map-append}
 use Rattle.cp_lists.specs.Lists.{IsIn, here, there}
 use Rattle.cp_lists.proofs.Items.{at_place}
 use Rattle.cp_lists.proofs.Members.{in_append, from_map, only_item}
 use Rattle.cp_normal.specs.declared.rewriting.Candidate.{Candidate}
 use Rattle.cp_normal.specs.declared.rewriting.Candidate.TheVariants.{Open, Done}
-use Rattle.cp_normal.specs.Leaves.{LeavesOf, of_result, of_item, EachHasLeaves, of_none, of_first}
+use Rattle.cp_normal.specs.Leaves.{LeavesOf, of_result, of_item, EachHasLeaves, of_none, of_first, HasOpen}
 use Rattle.cp_model.specs.Term.{AtomTerm, atom_term}
 use Rattle.cp_model.specs.declared.node.Node.{Node}
 use Rattle.cp_model.specs.declared.node.OrderPair.{OrderPair}
@@ -22,7 +23,7 @@ use Rattle.cp_normal.specs.Branched.{IsBranch}
 use Rattle.cp_normal.specs.Candidates.{ComesOn, IsNormalFormOfSettled, AreOpenBranches, NarrowsInto, none_if_refuted, into_branches, none_if_cyclic, into_form}
 use Rattle.cp_normal.specs.Exact.{IsRefuted, HasForms, refuted, branching, cyclic, normal, EachHasForms, no_more, and_then}
 use Rattle.cp_normal.specs.Findings.{AreNormalPairs, IsContradictory}
-use Rattle.cp_normal.specs.Formed.{AreFormsBeside}
+use Rattle.cp_normal.specs.Formed.{AreFormsBeside, Keeps}
 use Rattle.cp_normal.specs.MisplacedValues.{IsFirstMisplaced}
 use Rattle.cp_normal.specs.ReceivedAtomLists.{heard_before}
 use Rattle.cp_normal.proofs.Distinct.{distinct}
@@ -133,19 +134,23 @@ made_further f g r follows m = record { last = m.last; comes_on = comes_then f g
 made_at_once : (f r : Form) → IsNormalFormOfSettled f r → IsMadeFrom f r
 made_at_once f r n = record { last = f; comes_on = comes_itself f; form = n; variables = n.variables }
 
--- A result of what f becomes is one of f.
-made_by_step : (f r : Form) (made : List (Candidate Form Form)) → NarrowsInto f made → (c : Candidate Form Form) → IsIn c made → IsMadeOf c r → IsMadeFrom f r
-made_by_step f r made n (Open g) i m = made_further f g r (step_follows f g made n i) m
-made_by_step f r _ (none_if_refuted q) (Done g) i m = elim i [ ]
-made_by_step f r made (into_branches n q are) (Done g) i m = absurd (none_done (from_map Open are.branches (subst (λ (cs : List (Candidate Form Form)). IsIn (Done g) cs) are.all_open i)))
+-- A result among what f becomes is its normal form.
+done_settles : (f g : Form) (made : List (Candidate Form Form)) → NarrowsInto f made → IsIn (Done g) made → IsNormalFormOfSettled f g
+done_settles f g _ (none_if_refuted q) i = elim i [ ]
+done_settles f g made (into_branches n q are) i = absurd (none_done (from_map Open are.branches (subst (λ (cs : List (Candidate Form Form)). IsIn (Done g) cs) are.all_open i)))
   where
     none_done : (h : Form) × IsIn h are.branches × (to_narrow h ≡ result_of g) → ⊥
     none_done o = no_result o.0 g o.2
-made_by_step f r _ (none_if_cyclic s q) (Done g) i m = elim i [ ]
-made_by_step f r _ (into_form {r = s} n) (Done g) i m = made_at_once f r (subst (λ (h : Form). IsNormalFormOfSettled f h) (same_result g s (only_item i) m) n)
+done_settles f g _ (none_if_cyclic s q) i = elim i [ ]
+done_settles f g _ (into_form {r = s} n) i = subst (λ (h : Form). IsNormalFormOfSettled f h) (same_result g s (only_item i)) n
   where
-    same_result : (g s : Form) → result_of g ≡ result_of s → r ≡ g → s ≡ r
-    same_result g s e q = cc
+    same_result : (g s : Form) → result_of g ≡ result_of s → s ≡ g
+    same_result g s e = cc
+
+-- A result of what f becomes is one of f.
+made_by_step : (f r : Form) (made : List (Candidate Form Form)) → NarrowsInto f made → (c : Candidate Form Form) → IsIn c made → IsMadeOf c r → IsMadeFrom f r
+made_by_step f r made n (Open g) i m = made_further f g r (step_follows f g made n i) m
+made_by_step f r made n (Done g) i m = made_at_once f r (subst (λ (h : Form). IsNormalFormOfSettled f h) (sym m) (done_settles f g made n i))
 
 mutual
   leaf_is_made : {c : Candidate Form Form} {rs : List Form} → LeavesOf NarrowsInto c rs → (r : Form) → IsIn r rs → IsMadeOf c r
@@ -159,6 +164,20 @@ mutual
 
 pub leaves_are_beside : (f : Form) (rs : List Form) → LeavesOf NarrowsInto (Open f) rs → AreFormsBeside f.skeleton f.substitution rs
 leaves_are_beside f rs leaves = are_forms_beside f rs (leaves_are_forms leaves) (λ r i. leaf_is_made leaves r i)
+
+pub is_shut : (is_open : Bool) → not is_open ≡ true → is_open ≡ true → ⊥
+is_shut true settled open_too = let e : false ≡ true = settled in cc
+is_shut false settled open_too = let e : false ≡ true = open_too in cc
+
+-- Where nothing is left to narrow, the results keep strands and substitution.
+kept_by : (f r : Form) (made : List (Candidate Form Form)) → NarrowsInto f made → (HasOpen made → ⊥) → (c : Candidate Form Form) → IsIn c made → IsMadeOf c r → Keeps f.skeleton f.substitution r
+kept_by f r made n shut (Open g) i m = absurd (shut (Open g, i, tt))
+kept_by f r made n shut (Done g) i m =
+    let settled = subst (λ (h : Form). IsNormalFormOfSettled f h) (sym m) (done_settles f g made n i) in
+    record { strands = ap (λ (k : Skeleton). k.strands) settled.same; substitution = settled.substitution }
+
+pub settled_keep : (f : Form) (made : List (Candidate Form Form)) (rs : List Form) → NarrowsInto f made → EachHasLeaves NarrowsInto made rs → (HasOpen made → ⊥) → (r : Form) → IsIn r rs → Keeps f.skeleton f.substitution r
+settled_keep f made rs n each shut r i = let m : IsMadeOfOne made r = each_is_made each r i in kept_by f r made n shut m.0 m.1 m.2
 
 -- ---- what the program makes
 

@@ -138,15 +138,15 @@ module _ {I D : Type 0} (becomes : I → List (Candidate I D) → Type 0) (f : I
   pub round_falls : HasOpen old → greatest (rank_of f) new < greatest (rank_of f) old
   round_falls h = greatest_falls (rank_of f) old new h.0 h.1 (open_rank f h.0 h.2) below
 
--- The results of the candidates are those of the first item.
-pub record IsReached {I D : Type 0} (becomes : I → List (Candidate I D) → Type 0) (x : I) (candidates : List (Candidate I D)) : Type 0 where
-  pub leads : (ds : List D) → EachHasLeaves becomes candidates ds → LeavesOf becomes (Open x) ds
+-- The results of the candidates are those of the first ones.
+pub record IsReached {I D : Type 0} (becomes : I → List (Candidate I D) → Type 0) (first candidates : List (Candidate I D)) : Type 0 where
+  pub leads : (ds : List D) → EachHasLeaves becomes candidates ds → EachHasLeaves becomes first ds
 
-module _ {I D : Type 0} (becomes : I → List (Candidate I D) → Type 0) (x : I) where
-  pub reached_at_first : (candidates : List (Candidate I D)) → becomes x candidates → IsReached becomes x candidates
-  reached_at_first candidates b = record { leads = λ ds h. of_item b h }
+module _ {I D : Type 0} (becomes : I → List (Candidate I D) → Type 0) (first : List (Candidate I D)) where
+  pub reached_at_first : IsReached becomes first first
+  reached_at_first = record { leads = λ ds h. h }
 
-  pub reached_next : (old new : List (Candidate I D)) → IsReached becomes x old → IsRound becomes old new → IsReached becomes x new
+  pub reached_next : (old new : List (Candidate I D)) → IsReached becomes first old → IsRound becomes old new → IsReached becomes first new
   reached_next old new reached r = record { leads = λ ds h. reached.leads ds (r.leads ds h) }
 
   themselves : (cs : List (Candidate I D)) → (HasOpen cs → ⊥) → EachHasLeaves becomes cs (results_in cs)
@@ -154,9 +154,9 @@ module _ {I D : Type 0} (becomes : I → List (Candidate I D) → Type 0) (x : I
   themselves (Open y ∷ cs) shut = absurd (shut (Open y, here, tt))
   themselves (Done d ∷ cs) shut = of_first of_result (themselves cs (λ h. shut (h.0, there h.1, h.2)))
 
-  pub reached_at_last : (candidates read : List (Candidate I D)) (all : List D) (b : Bool) → IsReached becomes x candidates → b ≡ false → (HasOpen read → b ≡ true) → read ≡ candidates → all ≡ results_in candidates → LeavesOf becomes (Open x) all
+  pub reached_at_last : (candidates read : List (Candidate I D)) (all : List D) (b : Bool) → IsReached becomes first candidates → b ≡ false → (HasOpen read → b ≡ true) → read ≡ candidates → all ≡ results_in candidates → EachHasLeaves becomes first all
   reached_at_last candidates read all b reached closed finds same e =
-      subst (LeavesOf becomes (Open x)) (sym e)
+      subst (EachHasLeaves becomes first) (sym e)
       (reached.leads (results_in candidates) (themselves candidates (λ h. not_both closed (finds (subst (λ (cs : List (Candidate I D)). HasOpen cs) (sym same) h)))))
     where
       not_both : b ≡ false → b ≡ true → ⊥

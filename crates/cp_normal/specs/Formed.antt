@@ -52,3 +52,8 @@ pub record AreFormsBeside (k : Skeleton) (given : List Binding) (answers : List 
   pub forms : List Formed
   pub normal : AreFormedNormalForms k forms
   pub each : ArePaired (IsFormBeside k given) answers forms
+
+-- The form has the strands of k, and the given substitution.
+pub record Keeps (k : Skeleton) (given : List Binding) (answer : Form) : Type 0 where
+  pub strands : answer.skeleton.strands ≡ k.strands
+  pub substitution : answer.substitution ≡ given

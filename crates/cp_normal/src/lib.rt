@@ -4,6 +4,7 @@
 //! too. Every call that returns `AllocError` fails only when memory runs out.
 #![tactic(auto)]
 
+mod beside;
 mod carried_values;
 mod examples;
 mod form;
@@ -21,6 +22,7 @@ mod rewriting;
 mod unified_branches;
 mod variables_laws;
 
+pub use beside::{FormsBeside, forms_beside};
 pub use carried_values::carries_non_originating;
 pub use cp_collapse::{
     agreeing_skeletons_stand_alike, collapses, collapses_are_determined, collapses_are_listed,

@@ -1,6 +1,6 @@
 // Rewriting, and the results to which an item comes by it.
 ghost use Rattle.std.specs.Prelude.{◌≡◌, ◌↔◌, ℕ, List, IsTrue, IfOk};
-ghost use Rattle.cp_normal.specs.Leaves.{LeavesOf, Falls, IsRound, IsUnfinished, HasOpen, results_in};
+ghost use Rattle.cp_normal.specs.Leaves.{LeavesOf, EachHasLeaves, Falls, IsRound, IsUnfinished, HasOpen, results_in};
 ghost use Rattle.cp_normal.specs.declared.rewriting.Candidate.{Candidate};
 ghost use Rattle.cp_normal.specs.declared.rewriting.Candidate.TheVariants as variants;
 
@@ -66,7 +66,7 @@ fn is_open<I, D>(candidate: &Candidate<I, D>) -> bool
 }
 
 /// Whether some candidate is open.
-fn some_is_open<I, D>(candidates: &[Candidate<I, D>]) -> bool
+pub(crate) fn some_is_open<I, D>(candidates: &[Candidate<I, D>]) -> bool
     ensures { IsTrue result ↔ HasOpen candidates.now }
 {
     for candidate in candidates {
@@ -93,6 +93,22 @@ fn results<I: Drop, D: Drop>(
     Ok(results)
 }
 
+/// The results to which candidates come, those of the first and then those of the others. The proof of a call picks a number for
+/// each item that falls with each step.
+pub(crate) fn each_leaves<R: Rewriting, N: Ranking<R::Item>>(
+    alloc: Global,
+    rewriting: &R,
+    mut candidates: Vec<Candidate<R::Item, R::Done>>,
+) -> Result<Vec<R::Done>, AllocError>
+    requires { Falls (R.becomes rewriting.now) N.rank }
+    ensures { IfOk result (λ leaves. EachHasLeaves (R.becomes rewriting.now) candidates.items leaves.items) }
+{
+    while some_is_open(&candidates) {
+        candidates = round(alloc, rewriting, candidates)?;
+    }
+    results(alloc, candidates)
+}
+
 /// The results to which an item comes, branch by branch. The proof of a call picks a number for each item that falls with each
 /// step.
 pub fn leaves<R: Rewriting, N: Ranking<R::Item>>(
@@ -103,9 +119,6 @@ pub fn leaves<R: Rewriting, N: Ranking<R::Item>>(
     requires { Falls (R.becomes rewriting.now) N.rank }
     ensures { IfOk result (λ leaves. LeavesOf (R.becomes rewriting.now) (variants.Open item) leaves.items) }
 {
-    let mut candidates = rewriting.step(alloc, item)?;
-    while some_is_open(&candidates) {
-        candidates = round(alloc, rewriting, candidates)?;
-    }
-    results(alloc, candidates)
+    let candidates = rewriting.step(alloc, item)?;
+    each_leaves::<R, N>(alloc, rewriting, candidates)
 }

@@ -3,7 +3,7 @@ use Rattle.std.proofs.Common.{◌≡◌, ◌⊎◌, inl, inr, ℕ, ◌+◌, ◌<
 use Rattle.std.specs.Prelude.{◌↔◌}
 use Rattle.std.proofs.lemmas.Bool.{false_from_ne_true}
 use Rattle.std.proofs.lemmas.List.{drop_all}
-use Rattle.cp_lists.specs.Lists.{IsIn, here, there}
+use Rattle.cp_lists.specs.Lists.{IsIn}
 use Rattle.cp_lists.proofs.Members.{in_cases, not_in_none, only_item, in_append, drop_read}
 use Rattle.cp_model.specs.Term.{skey_variable, ltk_term, PairTerm, akey_variable, pubk_term, symmetric_term, asymmetric_term, AtomTerm, text_variable, datum_variable, name_variable, key_term, Term, tag_term, atom_term, pair_term, enc_term, variable_term, variables_of_key, variables_of_atom, variables_of, flag_of, Substitution, apply_to_key, apply_to_atom, apply_to}
 use Rattle.cp_model.specs.declared.sort.Sort.{Sort}
@@ -17,7 +17,7 @@ use Rattle.cp_model.proofs.SameTests.{variable_in, in_has_variable}
 use Rattle.cp_model.proofs.LawTerms.{flag_same}
 use Rattle.cp_unify.specs.Beside.{Agrees, MatchesBeside}
 use Rattle.cp_unify.specs.Bindings.{Binding}
-use Rattle.cp_pattern.specs.Ready.{AgreesBut, AgreesOnFree}
+use Rattle.cp_pattern.specs.Said.{AgreesBut, AgreesOnFree}
 
 -- ---- what two substitutions make the same of a term, they make the same of its variables
 

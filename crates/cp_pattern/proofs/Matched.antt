@@ -1,14 +1,14 @@
--- What patterns that are ready match.
-use Rattle.std.proofs.Common.{◌≡◌, ⊎_elim, ℕ, ◌+◌, ◌<◌, ◌≤◌, Bool, true, false, List, [], ◌∷◌, ◌++◌, Option, Some, None, IfSome, IfNone, length, get_or, drop, refl, sym, ap, ◌∙◌, subst, append_assoc}
-use Rattle.std.specs.Prelude.{◌↔◌, ◌&&◌, ◌==◌, IsTrue, is_some}
+-- What patterns match, with locals and without.
+use Rattle.std.proofs.Common.{◌≡◌, ⊎_elim, ℕ, ◌+◌, ◌<◌, ◌≤◌, Bool, true, false, List, [], ◌∷◌, Option, Some, None, IfSome, IfNone, length, get_or, drop, refl, sym, ap, ◌∙◌, subst}
+use Rattle.std.specs.Prelude.{◌↔◌, ◌&&◌, ◌==◌, IsTrue, is_some, not}
 use Rattle.std.proofs.lemmas.Bool.{eq-eqb, and_from}
-use Rattle.std.proofs.lemmas.List.{append-nil, drop_all}
-use Rattle.cp_lists.specs.Lists.{IsIn, here, there}
-use Rattle.cp_lists.proofs.Members.{head_or_behind, item_is_in, next_or_rest, none_left, not_in_none, drop_read}
+use Rattle.cp_lists.specs.Lists.{IsIn}
+use Rattle.cp_lists.proofs.Members.{none_in_empty, in_append_right, item_is_in, next_or_rest, none_left}
 use Rattle.cp_model.proofs.CarriedParts.{not_both}
+use Rattle.cp_model.proofs.LawAgreement.{agree_term}
 use Rattle.cp_model.proofs.SameTests.{variable_is, same_sort_itself}
 use Rattle.cp_model.specs.Same.{same_sort}
-use Rattle.cp_model.specs.Term.{Term, variable_term, Substitution, apply_to}
+use Rattle.cp_model.specs.Term.{KeyTerm, key_as_term, Term, enc_term, variable_term, variables_of_key, variables_of, Substitution, apply_to_key, apply_to}
 use Rattle.cp_model.specs.declared.variable.Variable.{Variable}
 use Rattle.cp_model.specs.Tree.{Pattern}
 use Rattle.cp_term.specs.Sorts.{is_of_sort}
@@ -16,8 +16,9 @@ use Rattle.cp_unify.specs.Beside.{Agrees, MatchesBeside, NeverMatchesBeside}
 use Rattle.cp_unify.specs.Bindings.{Binding, HasItsSort, put_term, as_substitution}
 use Rattle.cp_unify.proofs.VariablesUnder.{sort_matches, bound, other}
 use Rattle.cp_theory.specs.Matches.{Matches}
-use Rattle.cp_pattern.specs.Ready.{IsReadyFor, AreReadyFor, HasMatch}
-use Rattle.cp_pattern.specs.declared.pattern_matches.Ready.{Ready}
+use Rattle.cp_pattern.specs.Said.{AgreesOnFree, HasMatch}
+use Rattle.cp_pattern.specs.Within.{has_some}
+use Rattle.cp_pattern.proofs.Patterns.{none_of}
 
 -- ---- bindings with which some substitution agrees agree with themselves
 
@@ -49,92 +50,72 @@ agrees_itself f [] h = tt
 agrees_itself f (b ∷ bs) h =
     (bound b (as_substitution bs) (first_sorted b (as_substitution bs) f h.0), all_behind_first b (as_substitution bs) f h.0 bs h.1 (agrees_itself f bs h.1))
 
--- ---- one pattern that is ready
+-- ---- one pattern
 
-module _ (r : Ready) (t : Term) (given : List Binding) (is : given ≡ r.said) where
-  matched_ready : (q : List Binding) → MatchesBeside r.term t given q → (p : Pattern) (s : Substitution) → IsReadyFor s p r → Matches p s t
-  matched_ready q m0 p s ready =
-      let m : MatchesBeside r.term t r.said q = subst (λ (g : List Binding). MatchesBeside r.term t g q) is m0 in
-      let own : Agrees (as_substitution q) q = m.own (agrees_itself s r.said ((ready.said s).1 (λ x free. refl))) in
-      record {
-        filled = as_substitution q;
-        as_said = (ready.said (as_substitution q)).0 (m.extends (as_substitution q) own);
-        same = ap (apply_to (as_substitution q)) (sym ready.term) ∙ m.sound (as_substitution q) own;
-      }
+module _ (p : Pattern) (s : Substitution) (t : Term) (r : List Binding) (said : (f : Substitution) → Agrees f r ↔ AgreesOnFree p s f) where
+  filled_by : (q : List Binding) → MatchesBeside p.term t r q → Matches p s t
+  filled_by q m =
+      let own : Agrees (as_substitution q) q = m.own (agrees_itself s r ((said s).1 (λ x free. refl))) in
+      record { filled = as_substitution q; as_said = (said (as_substitution q)).0 (m.extends (as_substitution q) own); same = m.sound (as_substitution q) own }
 
-  unmatched_ready : NeverMatchesBeside r.term t given → (p : Pattern) (s : Substitution) → IsReadyFor s p r → Matches p s t → ⊥
-  unmatched_ready never0 p s ready m =
-      let never : NeverMatchesBeside r.term t r.said = subst (λ (g : List Binding). NeverMatchesBeside r.term t g) is never0 in
-      never m.filled ((ready.said m.filled).1 m.as_said) (ap (apply_to m.filled) ready.term ∙ m.same)
+  never_filled : NeverMatchesBeside p.term t r → Matches p s t → ⊥
+  never_filled never m = never m.filled ((said m.filled).1 m.as_said) m.same
+
+  tells_match : (found : Option (List Binding)) (answer : Bool) → answer ≡ is_some found → IfSome found (MatchesBeside p.term t r) → IfNone found (NeverMatchesBeside p.term t r) → IsTrue answer ↔ Matches p s t
+  tells_match (Some q) answer e some none = (λ h. filled_by q some, λ m. e)
+  tells_match None answer e some none = (λ h. absurd (not_both e h), λ m. absurd (never_filled none m))
 
   -- What matching answers tells whether the pattern matches.
-  pub tells_match : (found : Option (List Binding)) (answer : Bool) → answer ≡ is_some found → IfSome found (MatchesBeside r.term t given) → IfNone found (NeverMatchesBeside r.term t given) →
-      (p : Pattern) (s : Substitution) → IsReadyFor s p r → IsTrue answer ↔ Matches p s t
-  tells_match (Some q) answer e some none p s ready = (λ h. matched_ready q some p s ready, λ m. e)
-  tells_match None answer e some none p s ready = (λ h. absurd (not_both e h), λ m. absurd (unmatched_ready none p s ready m))
+  pub tells_filled : (term : Term) → term ≡ p.term → (found : Option (List Binding)) (answer : Bool) → answer ≡ is_some found → IfSome found (MatchesBeside term t r) → IfNone found (NeverMatchesBeside term t r) → IsTrue answer ↔ Matches p s t
+  tells_filled term is found answer e some none =
+      tells_match found answer e (subst (λ (u : Term). IfSome found (MatchesBeside u t r)) is some) (subst (λ (u : Term). IfNone found (NeverMatchesBeside u t r)) is none)
+
+-- A pattern without locals matches its image alone.
+pub tells_image : (p : Pattern) (s : Substitution) (t : Term) → p.locals ≡ [] → (answer : Bool) → IsTrue answer ↔ (apply_to s p.term ≡ t) → IsTrue answer ↔ Matches p s t
+tells_image p s t none answer image = (
+  λ e. record { filled = s; as_said = λ x free. refl; same = image.0 e },
+  λ m. image.1 (agree_term s m.filled p.term (λ x i. sym (m.as_said x (record { occurs = i; no_local = none_in_empty none }))) ∙ m.same),
+)
+
+-- ---- keys
+
+is_off : (same differ : Bool) → differ ≡ not same → differ ≡ true → same ≡ false
+is_off false differ e h = refl
+is_off true differ e h = absurd (not_both e h)
+
+module _ (p : Pattern) (s : Substitution) (t a b : Term) (k j : KeyTerm) (is : p.term ≡ enc_term a k) (other : t ≡ enc_term b j) where
+  same_keys : ((x : Variable) → IsIn x (variables_of_key k) → IsIn x p.locals → ⊥) → Matches p s t → apply_to s (key_as_term k) ≡ key_as_term j
+  same_keys none m =
+      let made : enc_term (apply_to m.filled a) (apply_to_key m.filled k) ≡ enc_term b j = ap (apply_to m.filled) (sym is) ∙ m.same ∙ other in
+      let of_key : apply_to_key m.filled k ≡ j = cc in
+      agree_term s m.filled (key_as_term k)
+      (λ x i. sym (m.as_said x (record { occurs = subst (λ (u : Term). IsIn x (variables_of u)) (sym is) (in_append_right (variables_of a) i); no_local = none x i })))
+      ∙ ap key_as_term of_key
+
+  -- What the comparison of a key with another tells, where no variable of the key is a local.
+  pub keys_tell : (key under : Term) → key ≡ key_as_term k → under ≡ key_as_term j → (locals : List Variable) → locals ≡ p.locals → has_some locals (variables_of_key k) ≡ false
+      → (same differ : Bool) → differ ≡ not same → IsTrue same ↔ (apply_to s key ≡ under) → IsTrue differ → Matches p s t → ⊥
+  keys_tell key under of_key of_under locals of_locals none same differ told compared h m =
+      let none_local = none_of p.locals (variables_of_key k) (ap (λ xs. has_some xs (variables_of_key k)) (sym of_locals) ∙ none) in
+      not_both (is_off same differ told h) (compared.1 (ap (apply_to s) of_key ∙ same_keys none_local m ∙ sym of_under))
 
 -- ---- several
 
-pattern_of : (s : Substitution) (ps : List Pattern) (rs : List Ready) → AreReadyFor s ps rs → (r : Ready) → IsIn r rs → (p : Pattern) × IsIn p ps × IsReadyFor s p r
-pattern_of s [] [] h r i = absurd (not_in_none i)
-pattern_of s [] (q ∷ rs) h r i = elim h [ ]
-pattern_of s (p ∷ ps) [] h r i = elim h [ ]
-pattern_of s (p ∷ ps) (q ∷ rs) h r i =
-    ⊎_elim (λ (e : r ≡ q). (p, here, subst (IsReadyFor s p) (sym e) h.0)) (λ j. let o = pattern_of s ps rs h.1 r j in (o.0, there o.1, o.2)) (head_or_behind i)
+-- If one matches, it is one of those that are left.
+abbrev pub IsStillThere : Substitution → Term → List Pattern → List Pattern → Type 0
+IsStillThere s t all rest = HasMatch all s t → HasMatch rest s t
 
-ready_of : (s : Substitution) (ps : List Pattern) (rs : List Ready) → AreReadyFor s ps rs → (p : Pattern) → IsIn p ps → (r : Ready) × IsIn r rs × IsReadyFor s p r
-ready_of s [] [] h p i = absurd (not_in_none i)
-ready_of s [] (q ∷ rs) h p i = elim h [ ]
-ready_of s (o ∷ ps) [] h p i = elim h [ ]
-ready_of s (o ∷ ps) (q ∷ rs) h p i =
-    ⊎_elim (λ (e : p ≡ o). (q, here, subst (λ (z : Pattern). IsReadyFor s z q) (sym e) h.0)) (λ j. let r = ready_of s ps rs h.1 p j in (r.0, there r.1, r.2)) (head_or_behind i)
+module _ (s : Substitution) (t : Term) (all : List Pattern) (i : ℕ) where
+  module _ (p : Pattern) (below : i < length all) (read : p ≡ get_or all i p) (answer : Bool) (tells : IsTrue answer ↔ Matches p s t) where
+    pub one_matches : answer ≡ true → HasMatch all s t
+    one_matches e = record { pattern = p; listed = item_is_in all i p below read; matches = tells.0 e }
 
--- A pattern that matches is ready among these.
-pub record HasReady (t : Term) (rs : List Ready) (s : Substitution) : Type 0 where
-  pub ready : Ready
-  pub listed : IsIn ready rs
-  pub pattern : Pattern
-  pub is_ready : IsReadyFor s pattern ready
-  pub matches : Matches pattern s t
+    pub next_is_there : answer ≡ false → IsStillThere s t all (drop i all) → IsStillThere s t all (drop (i + 1) all)
+    next_is_there e so_far h =
+        let m = so_far h in
+        ⊎_elim (λ (same : p ≡ m.pattern). absurd (not_both e (tells.1 (subst (λ (o : Pattern). Matches o s t) (sym same) m.matches))))
+        (λ j. record { pattern = m.pattern; listed = j; matches = m.matches })
+        (next_or_rest all i m.pattern p below read m.listed)
 
-has_ready : (t : Term) (s : Substitution) (ps : List Pattern) (rs : List Ready) → AreReadyFor s ps rs → HasMatch ps s t → HasReady t rs s
-has_ready t s ps rs h m =
-    let r = ready_of s ps rs h m.pattern m.listed in record { ready = r.0; listed = r.1; pattern = m.pattern; is_ready = r.2; matches = m.matches }
-
--- Where one matches, it is one of those that are left.
-abbrev pub IsStillThere : Term → List Ready → List Ready → Type 0
-IsStillThere t all rest = (s : Substitution) → HasReady t all s → HasReady t rest s
-
-module _ (t : Term) (all : List Ready) (i : ℕ) (r : Ready) (below : i < length all) (read : r ≡ get_or all i r) (answer : Bool)
-    (tells : (p : Pattern) (s : Substitution) → IsReadyFor s p r → IsTrue answer ↔ Matches p s t) where
-  pub one_matches : answer ≡ true → (ps : List Pattern) (s : Substitution) → AreReadyFor s ps all → HasMatch ps s t
-  one_matches e ps s h =
-      let o = pattern_of s ps all h r (item_is_in all i r below read) in
-      record { pattern = o.0; listed = o.1; matches = (tells o.0 s o.2).0 e }
-
-  pub next_is_there : answer ≡ false → IsStillThere t all (drop i all) → IsStillThere t all (drop (i + 1) all)
-  next_is_there e so_far s h =
-      let m = so_far s h in
-      ⊎_elim (λ (same : r ≡ m.ready). absurd (not_both e ((tells m.pattern s (subst (IsReadyFor s m.pattern) (sym same) m.is_ready)).1 m.matches)))
-      (λ j. record { ready = m.ready; listed = j; pattern = m.pattern; is_ready = m.is_ready; matches = m.matches })
-      (next_or_rest all i m.ready r below read m.listed)
-
-pub none_matches : (t : Term) (all : List Ready) (i : ℕ) → length all ≤ i → IsStillThere t all (drop i all) → (ps : List Pattern) (s : Substitution) → AreReadyFor s ps all → HasMatch ps s t → ⊥
-none_matches t all i end so_far ps s h m =
-    let left = so_far s (has_ready t s ps all h m) in none_left all i left.ready end left.listed
-
--- ---- the loop that makes them ready
-
--- Whatever is ready for the patterns that are left, with what is ready already it is ready for all.
-abbrev pub AreReadySoFar : Substitution → List Pattern → List Pattern → List Ready → Type 0
-AreReadySoFar s all rest done = (more : List Ready) → AreReadyFor s rest more → AreReadyFor s all (done ++ more)
-
-pub next_ready : (s : Substitution) (all : List Pattern) (done : List Ready) (i : ℕ) (p : Pattern) (r : Ready) → i < length all → p ≡ get_or all i p → IsReadyFor s p r →
-    AreReadySoFar s all (drop i all) done → AreReadySoFar s all (drop (i + 1) all) (done ++ (r ∷ []))
-next_ready s all done i p r below read ready so_far more h =
-    subst (AreReadyFor s all) (sym (append_assoc done (r ∷ []) more))
-    (so_far (r ∷ more) (subst (λ (ps : List Pattern). AreReadyFor s ps (r ∷ more)) (sym (drop_read all i p below read)) (ready, h)))
-
-pub all_are_ready : (s : Substitution) (all : List Pattern) (done : List Ready) (i : ℕ) → length all ≤ i → AreReadySoFar s all (drop i all) done → AreReadyFor s all done
-all_are_ready s all done i end so_far =
-    subst (AreReadyFor s all) (append-nil done) (so_far [] (subst (λ (ps : List Pattern). AreReadyFor s ps []) (sym (drop_all i all end)) tt))
+  pub none_matches : length all ≤ i → IsStillThere s t all (drop i all) → HasMatch all s t → ⊥
+  none_matches end so_far h = let m = so_far h in none_left all i m.pattern end m.listed

@@ -13,7 +13,8 @@ use Rattle.cp_model.proofs.SameTests.{variable_in, in_has_variable}
 use Rattle.cp_pattern.specs.Within.{has_all_but, has_some, MayGuard}
 use Rattle.cp_pattern.proofs.AllWithin.{are_within, within_all}
 
-none_of : (locals xs : List Variable) → has_some locals xs ≡ false → (x : Variable) → IsIn x xs → IsIn x locals → ⊥
+-- None of these variables is a local.
+pub none_of : (locals xs : List Variable) → has_some locals xs ≡ false → (x : Variable) → IsIn x xs → IsIn x locals → ⊥
 none_of locals [] e x i l = not_in_none i
 none_of locals (y ∷ ys) e x i l =
     of_each (λ (z : Variable). IsIn z locals → ⊥)

@@ -1,7 +1,7 @@
 pub mod Candidates
 pub mod Unifiers
 pub mod Opened
-pub mod Ready
+pub mod Said
 pub mod Outside
 pub mod HeardTerms
 pub mod Within

@@ -1,15 +1,13 @@
 // Positions of a term inside and outside patterns.
-ghost use Rattle.std.specs.Prelude.{◌≡◌, ◌↔◌, List, IsTrue, IfOk, IfSome, IfNone};
+ghost use Rattle.std.specs.Prelude.{◌≡◌, ◌↔◌, IsTrue, IfOk, IfSome, IfNone};
 ghost use Rattle.std.specs.Option.{option_copied};
-ghost use Rattle.cp_model.specs.Term.{Substitution};
-ghost use Rattle.cp_model.specs.Tree.{Pattern as Plain};
 ghost use Rattle.cp_model.specs.Positions.{part_at};
 ghost use Rattle.cp_unify.specs.Bindings.{as_substitution};
 ghost use Rattle.cp_theory.specs.Inside.{IsInside, CarriesInsideAlone};
 ghost use Rattle.cp_pattern.specs.Outside.{IsFirstPositionOutside};
-ghost use Rattle.cp_pattern.specs.Ready.{AreReadyFor, HasMatch};
+ghost use Rattle.cp_pattern.specs.Said.{HasMatch};
 
-use crate::pattern_matches::{Ready, all_ready, some_match};
+use crate::pattern_matches::some_match;
 use cp_term::{Path, Pattern, Shape, Step, Term, paths_of};
 use cp_unify::Subst;
 use std::alloc::{AllocError, Global};
@@ -26,37 +24,21 @@ fn part_of(term: &Term, step: Step) -> Option<&Term>
     }
 }
 
-/// Whether the step leads into the plaintext of a term that one of the prepared patterns matches.
-fn enters(alloc: Global, all: &[Ready], term: &Term, step: Step) -> Result<bool, AllocError>
-    ensures { IfOk result (λ answer. (ps : List Plain) (s : Substitution) → AreReadyFor s ps all.now → IsTrue answer ↔ ((step ≡ Step.Plaintext) × HasMatch ps s term.now)) }
+/// Whether the step leads into the plaintext of a term that one of the patterns matches.
+fn enters(
+    alloc: Global,
+    patterns: &[Pattern],
+    from: &Subst,
+    term: &Term,
+    step: Step,
+) -> Result<bool, AllocError>
+    ensures { IfOk result (λ answer. IsTrue answer ↔ ((step ≡ Step.Plaintext) × HasMatch patterns.now (as_substitution from.now) term.now)) }
 {
     if step == Step::Plaintext {
-        some_match(alloc, all, term)
+        some_match(alloc, patterns, from, term)
     } else {
         Ok(false)
     }
-}
-
-/// Whether an encryption around the position matches one of the prepared patterns.
-fn leads_inside(
-    alloc: Global,
-    all: &[Ready],
-    term: &Term,
-    path: &[Step],
-) -> Result<bool, AllocError>
-    ensures { IfOk result (λ answer. (ps : List Plain) (s : Substitution) → AreReadyFor s ps all.now → IsTrue answer ↔ IsInside ps s term.now path.now) }
-{
-    let mut rest = term;
-    for step in path {
-        let Some(part) = part_of(rest, *step) else {
-            return Ok(false);
-        };
-        if enters(alloc, all, rest, *step)? {
-            return Ok(true);
-        }
-        rest = part;
-    }
-    Ok(false)
 }
 
 /// Whether the carried position of the term is inside the patterns: an encryption around it matches one of them, where the
@@ -70,8 +52,17 @@ pub fn is_inside(
 ) -> Result<bool, AllocError>
     ensures { IfOk result (λ answer. IsTrue answer ↔ IsInside patterns.now (as_substitution from.now) term.now path.now) }
 {
-    let all = all_ready(alloc, patterns, from)?;
-    leads_inside(alloc, &all, term, path)
+    let mut rest = term;
+    for step in path {
+        let Some(part) = part_of(rest, *step) else {
+            return Ok(false);
+        };
+        if enters(alloc, patterns, from, rest, *step)? {
+            return Ok(true);
+        }
+        rest = part;
+    }
+    Ok(false)
 }
 
 /// The first position, in preorder, at which the term carries the critical one outside the patterns; `None` if it carries it
@@ -86,10 +77,9 @@ pub fn first_outside(
     ensures some { IfOk result (λ answer. IfSome answer (λ path. IsFirstPositionOutside patterns.now (as_substitution from.now) critical.now term.now path)) }
     ensures none { IfOk result (λ answer. IfNone answer (CarriesInsideAlone patterns.now (as_substitution from.now) critical.now term.now)) }
 {
-    let all = all_ready(alloc, patterns, from)?;
     let paths = paths_of(alloc, term, critical)?;
     for path in &paths {
-        if leads_inside(alloc, &all, term, path.as_slice())? {
+        if is_inside(alloc, patterns, from, term, path.as_slice())? {
             continue;
         }
         let first = path.copy()?;

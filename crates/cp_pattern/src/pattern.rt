@@ -13,7 +13,7 @@ use cp_skel::Event;
 use cp_term::{Pattern, Shape, Sort, Term};
 
 /// Whether a variable of the key is one of these.
-fn holds_local(locals: &[Variable], key: &Term) -> bool
+pub(crate) fn holds_local(locals: &[Variable], key: &Term) -> bool
     ensures { (k : KeyTerm) → key.now ≡ key_as_term k → result ≡ has_some locals.now (variables_of_key k) }
 {
     match key.shape() {

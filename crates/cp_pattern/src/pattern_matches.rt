@@ -1,25 +1,17 @@
 // Matches patterns under a substitution of their variables except their locals.
-ghost use Rattle.std.specs.Prelude.{◌≡◌, ◌↔◌, List, IsTrue, IfOk};
-ghost use Rattle.cp_model.specs.Term.{Substitution};
-ghost use Rattle.cp_model.specs.Tree.{Pattern as Plain};
+ghost use Rattle.std.specs.Prelude.{◌≡◌, ◌↔◌, IsTrue, IfOk};
+ghost use Rattle.cp_model.specs.Term.{Substitution, apply_to};
 ghost use Rattle.cp_unify.specs.Beside.{Agrees};
 ghost use Rattle.cp_model.specs.Same.{has_variable};
 ghost use Rattle.cp_unify.specs.Bindings.{as_substitution};
 ghost use Rattle.cp_theory.specs.Matches.{Matches};
-ghost use Rattle.cp_pattern.specs.Ready.{AgreesBut, AgreesOnFree, IsReadyFor, AreReadyFor, HasMatch};
+ghost use Rattle.cp_pattern.specs.Said.{AgreesBut, AgreesOnFree, HasMatch};
 
+use crate::pattern::holds_local;
 use cp_model::{Variable, has_variable};
-use cp_term::{Pattern, Term};
+use cp_term::{Pattern, Shape, Term};
 use cp_unify::{Binding, Subst, apply, matching_beside};
 use std::alloc::{AllocError, Global};
-
-/// A pattern prepared for matching: its term, and bindings of its variables, except the locals, to what a substitution gives
-/// them.
-#[derive(Drop)]
-pub(crate) struct Ready {
-    term: Term,
-    said: Subst,
-}
 
 /// Whether the binding is of one of these variables.
 fn is_of_local(binding: &Binding, locals: &[Variable]) -> bool
@@ -54,48 +46,46 @@ fn said_of(alloc: Global, pattern: &Pattern, from: &Subst) -> Result<Subst, Allo
     }
 }
 
-/// Prepares the pattern for matching under the substitution.
-fn made_ready(alloc: Global, pattern: &Pattern, from: &Subst) -> Result<Ready, AllocError>
-    ensures { IfOk result (λ r. IsReadyFor (as_substitution from.now) pattern.now r) }
+/// Whether the substitution makes the part the term.
+fn is_image(alloc: Global, from: &Subst, part: &Term, term: &Term) -> Result<bool, AllocError>
+    ensures { IfOk result (λ answer. IsTrue answer ↔ (apply_to (as_substitution from.now) part.now ≡ term.now)) }
 {
-    let term = pattern.term().copy()?;
-    said_of(alloc, pattern, from).map(|said| Ready { term, said })
+    let image = apply(alloc, from, part)?;
+    Ok(image.same(term))
 }
 
-/// Prepares the patterns for matching under the substitution.
-pub(crate) fn all_ready(
+/// Fast test: true only if the pattern does not match the term. A key that holds no local becomes its image alone.
+fn keys_differ(
     alloc: Global,
-    patterns: &[Pattern],
+    pattern: &Pattern,
     from: &Subst,
-) -> Result<Vec<Ready>, AllocError>
-    ensures { IfOk result (λ rs. AreReadyFor (as_substitution from.now) patterns.now rs.items) }
+    term: &Term,
+) -> Result<bool, AllocError>
+    ensures { IfOk result (λ differ. IsTrue differ → Matches pattern.now (as_substitution from.now) term.now → ⊥) }
 {
-    let mut all = Vec::new(alloc);
-    for pattern in patterns {
-        let ready = made_ready(alloc, pattern, from)?;
-        all.push(ready)?;
+    let Shape::Encryption(_, key) = pattern.term().shape() else {
+        return Ok(false);
+    };
+    let Shape::Encryption(_, other) = term.shape() else {
+        return Ok(false);
+    };
+    if holds_local(pattern.locals(), key) {
+        return Ok(false);
     }
-    Ok(all)
+    is_image(alloc, from, key, other).map(|same| !same)
 }
 
-/// Whether the prepared pattern matches the term.
-fn is_matched(alloc: Global, ready: &Ready, term: &Term) -> Result<bool, AllocError>
-    ensures { IfOk result (λ answer. (p : Plain) (s : Substitution) → IsReadyFor s p ready.now → IsTrue answer ↔ Matches p s term.now) }
+/// Whether some values of the pattern's locals make it the term.
+fn is_filled(
+    alloc: Global,
+    pattern: &Pattern,
+    from: &Subst,
+    term: &Term,
+) -> Result<bool, AllocError>
+    ensures { IfOk result (λ answer. IsTrue answer ↔ Matches pattern.now (as_substitution from.now) term.now) }
 {
-    let said = ready.said.copy(alloc)?;
-    matching_beside(alloc, &ready.term, term, said).map(|found| found.is_some())
-}
-
-/// Whether one of the prepared patterns matches the term.
-pub(crate) fn some_match(alloc: Global, all: &[Ready], term: &Term) -> Result<bool, AllocError>
-    ensures { IfOk result (λ answer. (ps : List Plain) (s : Substitution) → AreReadyFor s ps all.now → IsTrue answer ↔ HasMatch ps s term.now) }
-{
-    for ready in all {
-        if is_matched(alloc, ready, term)? {
-            return Ok(true);
-        }
-    }
-    Ok(false)
+    let said = said_of(alloc, pattern, from)?;
+    matching_beside(alloc, pattern.term(), term, said).map(|found| found.is_some())
 }
 
 /// Whether the pattern matches the term, where the substitution gives the pattern's variables except its locals.
@@ -107,6 +97,29 @@ pub fn matches(
 ) -> Result<bool, AllocError>
     ensures { IfOk result (λ answer. IsTrue answer ↔ Matches pattern.now (as_substitution from.now) term.now) }
 {
-    let ready = made_ready(alloc, pattern, from)?;
-    is_matched(alloc, &ready, term)
+    // Without locals the pattern matches its image alone.
+    if pattern.locals().is_empty() {
+        return is_image(alloc, from, pattern.term(), term);
+    }
+    if keys_differ(alloc, pattern, from, term)? {
+        return Ok(false);
+    }
+    is_filled(alloc, pattern, from, term)
+}
+
+/// Whether one of the patterns matches the term.
+pub(crate) fn some_match(
+    alloc: Global,
+    patterns: &[Pattern],
+    from: &Subst,
+    term: &Term,
+) -> Result<bool, AllocError>
+    ensures { IfOk result (λ answer. IsTrue answer ↔ HasMatch patterns.now (as_substitution from.now) term.now) }
+{
+    for pattern in patterns {
+        if matches(alloc, pattern, from, term)? {
+            return Ok(true);
+        }
+    }
+    Ok(false)
 }

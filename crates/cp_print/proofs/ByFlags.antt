@@ -1,6 +1,6 @@
 -- What is made of flagged variables is what is made of those that occur.
 use Rattle.std.proofs.Common.{◌≡◌, ℕ, suc, ◌+◌, ◌≤◌, List, [], ◌∷◌, length, get_or, Bool, false, refl, sym, ap, ◌∙◌, arith, add-one, codes}
-use Rattle.std.specs.Prelude.{Some}
+use Rattle.std.specs.Prelude.{if◌then◌else◌}
 use Rattle.cp_lists.specs.Lists.{item_at}
 use Rattle.cp_model.specs.Term.{Term, apply_to, variable_term}
 use Rattle.cp_model.specs.Bindings.{Binding, as_substitution, bindings_of}
@@ -15,7 +15,7 @@ use Rattle.cp_language.specs.Report.{name_or_none, vars_from, maplets_from, stra
 use Rattle.cp_model.specs.Strand.{Role, variables_of_prefix}
 use Rattle.cp_model.specs.Skeleton.{instance}
 use Rattle.cp_model.specs.Same.{has_variable}
-use Rattle.cp_names.specs.Flags.{AreFlagsOf, AreFlagsAmong}
+use Rattle.cp_names.specs.Flags.{AreFlagsOf}
 use Rattle.cp_names.proofs.NamesByFlags.{branch}
 use Rattle.cp_print.specs.MarkedForms.{vars_by, maplets_by}
 
@@ -31,30 +31,17 @@ module _ (occurring : List Variable) (count : ℕ) (flags : List Bool) (m : AreF
   pub vars-by : (names : List (List ℕ)) (ds : List Declaration) → length ds ≡ count → vars_by names flags 0 ds ≡ vars_from names occurring 0 ds
   vars-by names ds e = vars-from names 0 ds (omega arith)
 
--- the declared variables from number n on
-abbrev pub AreFrom : List Declaration → ℕ → List Declaration → Type 0
-AreFrom all n ds = (k : ℕ) (d : Declaration) → item_at ds k ≡ Some d → item_at all (n + k) ≡ Some d
+-- the maplets by a substitution are those by its bindings
+maplets-from : (named : Variable → Form) (prefix : List Variable) (terms : List Binding) (n : ℕ) (ds : List Declaration) → maplets_by named prefix (as_substitution terms) n ds ≡ maplets_from named prefix terms n ds
+maplets-from named prefix terms n [] = refl
+maplets-from named prefix terms n (d ∷ ds) =
+    let x = variable d.sort n in
+    let f = plain_list (word d.identifier ∷ term_form named (apply_to (as_substitution terms) (variable_term x)) ∷ []) in
+    ap (λ (fs : List Form). if has_variable prefix x then f ∷ fs else fs) (ap (λ k. maplets_by named prefix (as_substitution terms) k ds) (add-one n) ∙ maplets-from named prefix terms (suc n) ds)
 
-module _ (named : Variable → Form) (prefix : List Variable) (all : List Declaration) (flags : List Bool) (m : AreFlagsAmong prefix all flags) (terms : List Binding) where
-  maplets-from : (n : ℕ) (ds : List Declaration) → AreFrom all n ds → maplets_by named flags (as_substitution terms) n ds ≡ maplets_from named prefix terms n ds
-  maplets-from n [] h = refl
-  maplets-from n (d ∷ ds) h =
-      let x = variable d.sort n in
-      let f = plain_list (word d.identifier ∷ term_form named (apply_to (as_substitution terms) (variable_term x)) ∷ []) in
-      let here : item_at all n ≡ Some d = ap (item_at all) (let e : n ≡ n + 0 = omega arith in e) ∙ h 0 d refl in
-      let later : AreFrom all (suc n) ds = λ k e g. ap (item_at all) (let j : suc n + k ≡ n + suc k = omega arith in j) ∙ h (suc k) e g in
-      let rest : maplets_by named flags (as_substitution terms) (n + 1) ds ≡ maplets_from named prefix terms (suc n) ds = ap (λ k. maplets_by named flags (as_substitution terms) k ds) (add-one n) ∙ maplets-from (suc n) ds later in
-      branch (get_or flags n false) (has_variable prefix x) (f ∷ maplets_by named flags (as_substitution terms) (n + 1) ds) (maplets_by named flags (as_substitution terms) (n + 1) ds) (f ∷ maplets_from named prefix terms (suc n) ds) (maplets_from named prefix terms (suc n) ds)
-      (m.each n d here) (ap (λ fs. f ∷ fs) rest) rest
-
-  maplets-by : maplets_by named flags (as_substitution terms) 0 all ≡ maplets_from named prefix terms 0 all
-  maplets-by = maplets-from 0 all (λ k d e. ap (item_at all) (let j : 0 + k ≡ k = omega arith in j) ∙ e)
-
--- the maplets of an instance by the flags of its prefix
-pub instance_maplets : (named : Variable → Form) (prefix : List Variable) (all : List Declaration) (flags : List Bool) (values : List Term) (fs : List Form)
-    → fs ≡ maplets_by named flags (substitution_by values) 0 all → AreFlagsAmong prefix all flags → fs ≡ maplets_from named prefix (bindings_of values) 0 all
-instance_maplets named prefix all flags values fs e m =
-    e ∙ sym (ap (λ s. maplets_by named flags s 0 all) (bindings_are values)) ∙ maplets-by named prefix all flags m (bindings_of values)
+-- and those of an instance
+pub instance_maplets : (named : Variable → Form) (prefix : List Variable) (all : List Declaration) (values : List Term) → maplets_by named prefix (substitution_by values) 0 all ≡ maplets_from named prefix (bindings_of values) 0 all
+instance_maplets named prefix all values = sym (ap (λ s. maplets_by named prefix s 0 all) (bindings_are values)) ∙ maplets-from named prefix (bindings_of values) 0 all
 
 -- an instance, item by item
 pub defstrand_is : (named : Variable → Form) (role of_instance : Role) (name : List ℕ) (h g n : ℕ) (vs ws : List Term) → role ≡ of_instance → name ≡ role.name → h ≡ n → g ≡ n → vs ≡ ws

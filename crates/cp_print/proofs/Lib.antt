@@ -1,4 +1,5 @@
 pub mod GrownForms
+pub mod SpelledItems
 pub mod Spines
 pub mod Writings
 pub mod AllLabels
@@ -9,7 +10,6 @@ pub mod StatusForms
 pub mod PatternForms
 pub mod MarkedForms
 pub mod ValueForms
-pub mod Values
 pub mod CountedNodes
 pub mod CoveredForms
 pub mod CoveringLists

@@ -1,62 +1,88 @@
--- The parts along the right spine of a term.
-use Rattle.std.proofs.Common.{◌≡◌, false, List, [], ◌∷◌, ◌++◌, map, refl, sym, ap, ap₂, ◌∙◌, ◌<◌, length, arith, codes}
-use Rattle.cp_sexpr.specs.Syntax.{Form, list, Forms, none, more, append, forms_of}
-use Rattle.cp_model.specs.Term.{Term, pair_term, enc_term, KeyTerm}
+-- The text of terms.
+use Rattle.std.proofs.Common.{◌≡◌, ℕ, Bool, true, false, List, [], ◌∷◌, ◌++◌, refl, sym, ap, ◌∙◌, append_assoc, codes}
+use Rattle.std.specs.Prelude.{Option, Some, None}
+use Rattle.std.proofs.lemmas.List.{append-nil}
+use Rattle.cp_base.specs.Growing.{Growth, Grows}
+use Rattle.cp_base.proofs.Grown.{grows_then}
+use Rattle.cp_sexpr.specs.Syntax.{Form, list, Forms, none, more, append}
+use Rattle.cp_sexpr.specs.Pieces.{space, close_parenthesis}
+use Rattle.cp_sexpr.specs.Spelling.{spelling, next_spelling}
+use Rattle.cp_model.specs.Term.{Term, tag_term, atom_term, pair_term, enc_term, pubk_term, KeyTerm}
+use Rattle.cp_model.specs.declared.sort.Sort.TheVariants.{Name as name_sort}
 use Rattle.cp_model.specs.declared.variable.Variable.{Variable}
-use Rattle.cp_language.specs.Printed.{gathered, headed_list, spine, no_place, word, key_form, atom_form}
+use Rattle.cp_language.specs.Printed.{gathered, plain_list, spine, term_form, no_place, word, variable, atom_form, asymmetric_form}
 use Rattle.cp_strand.specs.Atoms.{atom_of}
 use Rattle.cp_term.specs.Keys.{key_as_term}
-use Rattle.cp_print.specs.Parts.{as_one}
-use Rattle.cp_base.specs.Growing.{Growth, growth, Grows, seen}
-use Rattle.cp_sexpr.specs.View.{view, views}
-use Rattle.cp_sexpr.specs.declared.form.Form as program
+use Rattle.cp_print.specs.Parts.{purpose_items, name_key_word, is_pair_term}
+use Rattle.cp_print.specs.Spelled.{item_text}
+use Rattle.cp_print.proofs.SpelledItems.{same_text}
 
-pub append_assoc : (fs gs hs : Forms) → append (append fs gs) hs ≡ append fs (append gs hs)
-append_assoc none gs hs = refl
-append_assoc (more f fs) gs hs = ap (more f) (append_assoc fs gs hs)
+next-append : (fs gs : Forms) → next_spelling (append fs gs) ≡ next_spelling fs ++ next_spelling gs
+next-append none gs = refl
+next-append (more f fs) gs = ap (λ t. item_text false f ++ t) (next-append fs gs) ∙ sym (append_assoc (item_text false f) (next_spelling fs) (next_spelling gs))
 
-pub gathered_is : (named : Variable → Form) (fs : Forms) → gathered named fs ≡ as_one fs
-gathered_is named none = refl
-gathered_is named (more f none) = refl
-gathered_is named (more f (more g fs)) = refl
+next-one : (f : Form) → next_spelling (more f none) ≡ item_text false f
+next-one f = append-nil (item_text false f)
 
-pub forms_of-append : (fs gs : List Form) → forms_of (fs ++ gs) ≡ append (forms_of fs) (forms_of gs)
-forms_of-append [] gs = refl
-forms_of-append (f ∷ fs) gs = ap (more f) (forms_of-append fs gs)
+module _ (named : Variable → Form) where
+  -- the key of a name by its word
+  pub name_key_is : (private : Bool) (purpose : Option (List ℕ)) (a : ℕ)
+      → plain_list (word (name_key_word private) ∷ (purpose_items purpose ++ named (variable name_sort a) ∷ [])) ≡ asymmetric_form named private (pubk_term purpose a)
+  name_key_is true None a = refl
+  name_key_is true (Some p) a = refl
+  name_key_is false None a = refl
+  name_key_is false (Some p) a = refl
 
-pub several : (fs : List program.Form) → 1 < length fs → as_one (views fs) ≡ headed_list (codes "cat") (map view fs)
-several [] h = absurd (omega arith)
-several (f ∷ []) h = absurd (omega arith)
-several (f ∷ g ∷ fs) h = refl
+  -- behind another part
+  several : (f : Form) (b : Term) → gathered named (more f (spine named b)) ≡ list no_place (more (word (codes "cat")) (more f (spine named b)))
+  several f (tag_term t) = refl
+  several f (atom_term a) = refl
+  several f (pair_term a b) = refl
+  several f (enc_term a k) = refl
 
-append_none : (fs : Forms) → append fs none ≡ fs
-append_none none = refl
-append_none (more f fs) = ap (more f) (append_none fs)
+  -- a pair is one `cat`
+  pub cat_is : (t : Term) → is_pair_term t ≡ true → term_form named t ≡ list no_place (more (word (codes "cat")) (spine named t))
+  cat_is (tag_term t) h = absurd (cc)
+  cat_is (atom_term a) h = absurd (cc)
+  cat_is (pair_term a b) h = several (term_form named a) b
+  cat_is (enc_term a k) h = absurd (cc)
 
--- What is still to be made of the whole, behind the parts that were made.
-abbrev pub PartsToMake : Growth program.Form → Forms → Forms → Type 0
-PartsToMake g rest whole = g.ran_out ≡ false → append (views g.items) rest ≡ whole
+  -- any other term is its only part
+  pub part_is : (t : Term) → is_pair_term t ≡ false → next_spelling (spine named t) ≡ item_text false (term_form named t)
+  part_is (tag_term t) h = next-one (term_form named (tag_term t))
+  part_is (atom_term a) h = next-one (term_form named (atom_term a))
+  part_is (pair_term a b) h = absurd (cc)
+  part_is (enc_term a k) h = next-one (term_form named (enc_term a k))
 
-module _ (old new : Growth program.Form) (f : Form) (whole : Forms) (g : Grows (seen view old) (seen view new) (f ∷ [])) where
-  -- one part more
-  pub part_made : (before rest : Forms) → before ≡ more f rest → PartsToMake old before whole → PartsToMake new rest whole
-  part_made before rest e i = λ h.
-      let w = g.whole h in
-      ap (λ xs. append xs rest) (ap forms_of w.1 ∙ forms_of-append (map view old.items) (f ∷ [])) ∙ append_assoc (views old.items) (more f none) rest ∙ ap (append (views old.items)) (sym e) ∙ i w.0
+  -- the parts so far, and those of what is left, are all
+  abbrev pub PartsLeft : Growth ℕ → Growth ℕ → Term → Term → Type 0
+  PartsLeft old now rest whole = (done : List ℕ) × Grows old now done × (next_spelling (spine named whole) ≡ done ++ next_spelling (spine named rest))
 
-  -- the last part
-  pub last_made : (vs : List program.Form) (before : Forms) → before ≡ more f none → PartsToMake old before whole → growth vs false ≡ new → views vs ≡ whole
-  last_made vs before e i h =
-      ap views (ap (λ x. x.items) h) ∙ sym (append_none (views new.items)) ∙ part_made before none e i (ap (λ x. x.ran_out) (sym h))
+  module _ {a b : Growth ℕ} (rest whole : Term) (l : PartsLeft a b rest whole) where
+    -- one part more
+    pub part_more : {c : Growth ℕ} (left right : Term) → rest ≡ pair_term left right → Grows b c (item_text false (term_form named left)) → PartsLeft a c right whole
+    part_more {c} left right e g = (
+      l.0 ++ item_text false (term_form named left),
+      grows_then a b c l.0 (item_text false (term_form named left)) l.1 g,
+      l.2 ∙ ap (λ t. l.0 ++ next_spelling (spine named t)) e ∙ sym (append_assoc l.0 (item_text false (term_form named left)) (next_spelling (spine named right))),
+    )
 
-module _ (named : Variable → Form) (t : Term) where
-  pub pair_is : (a b : Term) → t ≡ pair_term a b → spine named t ≡ more (as_one (spine named a)) (spine named b)
-  pair_is a b e = ap (spine named) e ∙ ap (λ x. more x (spine named b)) (gathered_is named (spine named a))
+    -- the last part
+    pub part_last : {c : Growth ℕ} (f : Form) → spine named rest ≡ more f none → Grows b c (item_text false f) → Grows a c (next_spelling (spine named whole))
+    part_last {c} f e g = same_text (sym (l.2 ∙ ap (λ fs. l.0 ++ next_spelling fs) e ∙ ap (λ t. l.0 ++ t) (next-one f))) (grows_then a b c l.0 (item_text false f) l.1 g)
 
-  pub encryption_is : (bs : List program.Form) (a kt : Term) (key : KeyTerm) → t ≡ enc_term a key → kt ≡ key_as_term key → views bs ≡ spine named a
-      → spine named t ≡ more (headed_list (codes "enc") (map view bs ++ atom_form named (atom_of kt) ∷ [])) none
-  encryption_is bs a kt key e d b =
-      let under : atom_form named (atom_of kt) ≡ key_form named key = ap (λ u. atom_form named (atom_of u)) d in
-      let inside : forms_of (map view bs ++ atom_form named (atom_of kt) ∷ []) ≡ append (spine named a) (more (key_form named key) none)
-      = forms_of-append (map view bs) (atom_form named (atom_of kt) ∷ []) ∙ ap₂ (λ (xs : Forms) (y : Form). append xs (more y none)) b under in
-      ap (spine named) e ∙ ap (λ xs. more (list no_place (more (word (codes "enc")) xs)) none) (sym inside)
+  -- an encryption is a list of the parts of its plaintext and its key
+  abbrev pub encryption_of : Term → Form → Form
+  encryption_of body key = list no_place (more (word (codes "enc")) (append (spine named body) (more key none)))
+
+  pub encryption_is : (t body kt : Term) (key : KeyTerm) → t ≡ enc_term body key → kt ≡ key_as_term key → spine named t ≡ more (encryption_of body (atom_form named (atom_of kt))) none
+  encryption_is t body kt key e d = ap (spine named) e ∙ ap (λ k. more (encryption_of body k) none) (sym (ap (λ u. atom_form named (atom_of u)) d))
+
+  pub encryption_made : {a b c d e f : Growth ℕ} (body : Term) (key : Form) → Grows a b (codes " (enc") → Grows b c (next_spelling (spine named body)) → Grows c d (space ∷ []) → Grows d e (spelling key) → Grows e f (close_parenthesis ∷ [])
+      → Grows a f (item_text false (encryption_of body key))
+  encryption_made {a} {b} {c} {d} {e} {f} body key opened parts gap last closed =
+      let bs = next_spelling (spine named body) in
+      let made = grows_then a b f (codes " (enc") _ opened (grows_then b c f bs _ parts (grows_then c d f (space ∷ []) _ gap (grows_then d e f (spelling key) _ last closed))) in
+      let inside : next_spelling (append (spine named body) (more key none)) ++ close_parenthesis ∷ [] ≡ bs ++ (space ∷ (spelling key ++ close_parenthesis ∷ []))
+      = ap (λ t. t ++ close_parenthesis ∷ []) (next-append (spine named body) (more key none) ∙ ap (λ t. bs ++ t) (next-one key)) ∙ append_assoc bs (item_text false key) (close_parenthesis ∷ []) in
+      same_text (ap (λ t. codes " (enc" ++ t) (sym inside)) made

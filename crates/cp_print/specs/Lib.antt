@@ -4,3 +4,4 @@ pub mod Order
 pub mod Chosen
 pub mod WrittenForms
 pub mod Parts
+pub mod Spelled

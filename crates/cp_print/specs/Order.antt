@@ -52,6 +52,10 @@ led_to pairs x = map (λ p. p.later) (filter (λ p. same_node p.earlier x) pairs
 abbrev pub has_node : List Node → Node → Bool
 has_node ends y = list_any (λ z. same_node z y) ends
 
+-- A pair as a form.
+abbrev pub pair_form : OrderPair → Form
+pair_form p = plain_list (node_form p.earlier ∷ node_form p.later ∷ [])
+
 abbrev pub covered : List Node → Node → List Node → List Form
 covered ends x [] = []
 covered ends x (y ∷ ys) = if has_node ends y then plain_list (node_form x ∷ node_form y ∷ []) ∷ covered ends x ys else covered ends x ys

@@ -1,10 +1,21 @@
--- Parts of a term as one form.
-use Rattle.std.specs.Prelude.{[], codes}
-use Rattle.cp_sexpr.specs.Syntax.{Form, list, Forms, none, more}
-use Rattle.cp_language.specs.Printed.{no_place, word}
+-- Parts of terms.
+use Rattle.std.specs.Prelude.{ℕ, List, [], ◌∷◌, Bool, true, false, codes, Option, Some, None}
+use Rattle.cp_model.specs.Term.{Term, tag_term, atom_term, pair_term, enc_term}
+use Rattle.cp_sexpr.specs.Syntax.{Form, string}
+use Rattle.cp_language.specs.Printed.{no_place}
 
--- One part as it stands, and several as one `cat`.
-abbrev pub as_one : Forms → Form
-as_one none = word []
-as_one (more f none) = f
-as_one (more f (more g fs)) = list no_place (more (word (codes "cat")) (more f (more g fs)))
+-- The purpose of a name's key, if there is one.
+abbrev pub purpose_items : Option (List ℕ) → List Form
+purpose_items None = []
+purpose_items (Some purpose) = string no_place purpose ∷ []
+
+-- The word for the private or public key of a name.
+abbrev pub name_key_word : Bool → List ℕ
+name_key_word true = codes "privk"
+name_key_word false = codes "pubk"
+
+abbrev pub is_pair_term : Term → Bool
+is_pair_term (tag_term t) = false
+is_pair_term (atom_term a) = false
+is_pair_term (pair_term a b) = true
+is_pair_term (enc_term a k) = false

@@ -1,124 +1,111 @@
 // The items of a label form that list numbers, nodes and words.
-ghost use Rattle.std.specs.Prelude.{◌≡◌, ◌++◌, [], ◌∷◌, List, codes, map, IfOk};
-ghost use Rattle.cp_base.specs.Growing.{Grows, seen};
-ghost use Rattle.cp_language.specs.Printed.{word, numeral};
+ghost use Rattle.std.specs.Prelude.{[], ◌∷◌, codes, map, true, false};
+ghost use Rattle.cp_base.specs.Growing.{Grows};
+ghost use Rattle.cp_language.specs.Printed.{word, numeral, headed_list, plain_list};
 ghost use Rattle.cp_language.specs.Report.{node_form, parent_items, operation_words, mark_words, mark_items, outcome_words};
-ghost use Rattle.cp_sexpr.specs.Syntax.{Form as Plain};
-ghost use Rattle.cp_sexpr.specs.View.{view};
+ghost use Rattle.cp_sexpr.specs.Spelling.{spelling};
+ghost use Rattle.cp_print.specs.Spelled.{item_text, items_text};
 
-use crate::forms::add;
-use crate::makers::{headed_list, in_front, list, numeral, two, word};
+use crate::writing::{Printed, begin_list, put_each, put_list, put_number, put_numeral, put_word};
 use cp_base::Growing;
-use cp_sexpr::Form;
 use cp_skel::{Mark, Node, Operation, Outcome};
-use std::alloc::{AllocError, Global};
+use cp_term::Text;
+use std::alloc::Global;
 
-/// These numbers as forms.
-pub(crate) fn numerals(alloc: Global, numbers: &[usize]) -> Result<Vec<Form>, AllocError>
-    ensures { IfOk result (λ fs. map view fs.items ≡ map numeral numbers.now) }
+/// Appends a node: the number of its strand, and its index.
+pub(crate) fn put_node(node: Node, out: &mut Growing<u8>)
+    ensures { Grows out.old out.new (spelling (node_form node)) }
 {
-    numbers
-        .iter()
-        .map(|number| -> Result<Form, AllocError> { Ok(numeral(*number)) })
-        .try_collect(alloc)
+    out.push(b'(');
+    put_number(node.strand, out);
+    put_numeral(node.index, out);
+    out.push(b')');
 }
 
-/// A node: the number of its strand, and its index.
-pub(crate) fn node_form(alloc: Global, node: Node) -> Result<Form, AllocError>
-    ensures { IfOk result (λ f. view f ≡ node_form node) }
-{
-    list(two(alloc, Ok(numeral(node.strand)), Ok(numeral(node.index))))
-}
+impl Printed for Node {
+    ghost printed = { λ names n. node_form n };
 
-/// These nodes as forms.
-pub(crate) fn node_forms(alloc: Global, nodes: &[Node]) -> Result<Vec<Form>, AllocError>
-    ensures { IfOk result (λ fs. map view fs.items ≡ map node_form nodes.now) }
-{
-    nodes
-        .iter()
-        .map(|node| node_form(alloc, *node))
-        .try_collect(alloc)
+    fn put(&self, alloc: Global, names: &[Text], out: &mut Growing<u8>) {
+        out.push(b' ');
+        put_node(*self, out);
+    }
 }
 
 /// Appends the label's parent, if it has one.
-pub(crate) fn add_parent(alloc: Global, parent: Option<usize>, items: &mut Growing<Form>)
-    ensures { Grows (seen view items.old) (seen view items.new) (parent_items parent) }
+pub(crate) fn put_parent(alloc: Global, parent: Option<usize>, out: &mut Growing<u8>)
+    ensures { Grows out.old out.new (items_text true (parent_items parent)) }
 {
     if let Some(parent) = parent {
-        add(
-            headed_list(alloc, "parent", numerals(alloc, &[parent])),
-            items,
-        );
+        put_list(alloc, &[], "parent", &[parent], out);
     }
 }
 
-/// A word, and these numbers.
-fn words(alloc: Global, text: &str, numbers: &[usize]) -> Result<Vec<Form>, AllocError>
-    ensures { IfOk result (λ fs. map view fs.items ≡ word text.now ∷ map numeral numbers.now) }
+/// Appends a word and these numbers.
+fn put_words(alloc: Global, text: &str, numbers: &[usize], out: &mut Growing<u8>)
+    ensures { Grows out.old out.new (items_text false (word text.now ∷ map numeral numbers.now)) }
 {
-    in_front(word(alloc, text), numerals(alloc, numbers))
+    put_word(text, out);
+    put_each(alloc, &[], numbers, out);
 }
 
-/// How a label was made.
-pub(crate) fn operation_words(alloc: Global, operation: &Operation) -> Result<Vec<Form>, AllocError>
-    ensures { IfOk result (λ fs. map view fs.items ≡ operation_words operation.now) }
+/// Appends how a label was made.
+fn put_operation_words(alloc: Global, operation: &Operation, out: &mut Growing<u8>)
+    ensures { Grows out.old out.new (items_text false (operation_words operation.now)) }
 {
     match operation {
-        Operation::Problem => words(alloc, "problem", &[]),
-        Operation::Contracted(node) => words(alloc, "contracted", &[node.strand, node.index]),
-        Operation::Displaced(node) => words(alloc, "displaced", &[node.strand, node.index]),
-        Operation::AddedStrand(strand) => words(alloc, "added-strand", &[*strand]),
-        Operation::AddedListener(strand) => words(alloc, "added-listener", &[*strand]),
-        Operation::Collapsed(strands) => words(alloc, "collapsed", strands.as_slice()),
-        Operation::Generalised => words(alloc, "generalised", &[]),
+        Operation::Problem => put_words(alloc, "problem", &[], out),
+        Operation::Contracted(node) => {
+            put_words(alloc, "contracted", &[node.strand, node.index], out)
+        }
+        Operation::Displaced(node) => {
+            put_words(alloc, "displaced", &[node.strand, node.index], out)
+        }
+        Operation::AddedStrand(strand) => put_words(alloc, "added-strand", &[*strand], out),
+        Operation::AddedListener(strand) => put_words(alloc, "added-listener", &[*strand], out),
+        Operation::Collapsed(strands) => { put_words(alloc, "collapsed", strands.as_slice(), out) }
+        Operation::Generalised => put_words(alloc, "generalised", &[], out),
     }
 }
 
-/// The words for a limit, in front of these forms.
-fn at_limit(
-    alloc: Global,
-    limit: &str,
-    others: Result<Vec<Form>, AllocError>,
-) -> Result<Vec<Form>, AllocError>
-    ensures { (fs : List Plain) → IfOk others (λ gs. map view gs.items ≡ fs) → IfOk result (λ gs. map view gs.items ≡ word (codes "limit") ∷ word limit.now ∷ fs) }
+/// Appends the label's operation.
+pub(crate) fn put_operation(alloc: Global, operation: &Operation, out: &mut Growing<u8>)
+    ensures { Grows out.old out.new (item_text true (headed_list (codes "by") (operation_words operation.now))) }
 {
-    in_front(word(alloc, "limit"), in_front(word(alloc, limit), others))
+    begin_list("by", out);
+    put_operation_words(alloc, operation, out);
+    out.push(b')');
 }
 
-/// What a leaf is.
-fn mark_words(alloc: Global, mark: Mark) -> Result<Vec<Form>, AllocError>
-    ensures { IfOk result (λ fs. map view fs.items ≡ mark_words mark) }
+/// Appends what a leaf is.
+fn put_mark_words(alloc: Global, mark: Mark, out: &mut Growing<u8>)
+    ensures { Grows out.old out.new (item_text true (plain_list (mark_words mark))) }
 {
     match mark {
-        Mark::Shape => words(alloc, "shape", &[]),
-        Mark::Dead => words(alloc, "dead", &[]),
-        Mark::Seen(label) => words(alloc, "seen", &[label]),
-        Mark::InstanceOf(label) => words(alloc, "instance-of", &[label]),
-        Mark::LimitSteps => at_limit(alloc, "steps", Ok(Vec::new(alloc))),
-        Mark::LimitStrands => at_limit(alloc, "strands", Ok(Vec::new(alloc))),
+        Mark::Shape => out.append(b"\n  (shape)"),
+        Mark::Dead => out.append(b"\n  (dead)"),
+        Mark::Seen(label) => put_list(alloc, &[], "seen", &[label], out),
+        Mark::InstanceOf(label) => put_list(alloc, &[], "instance-of", &[label], out),
+        Mark::LimitSteps => out.append(b"\n  (limit steps)"),
+        Mark::LimitStrands => out.append(b"\n  (limit strands)"),
     }
 }
 
 /// Appends the label's mark, if it has one.
-pub(crate) fn add_mark(alloc: Global, mark: Option<Mark>, items: &mut Growing<Form>)
-    ensures { Grows (seen view items.old) (seen view items.new) (mark_items mark) }
+pub(crate) fn put_mark(alloc: Global, mark: Option<Mark>, out: &mut Growing<u8>)
+    ensures { Grows out.old out.new (items_text true (mark_items mark)) }
 {
     if let Some(mark) = mark {
-        add(list(mark_words(alloc, mark)), items);
+        put_mark_words(alloc, mark, out);
     }
 }
 
-/// How the search for a problem ended, in front of these forms.
-pub(crate) fn with_outcome(
-    alloc: Global,
-    outcome: Outcome,
-    others: Result<Vec<Form>, AllocError>,
-) -> Result<Vec<Form>, AllocError>
-    ensures { (fs : List Plain) → IfOk others (λ gs. map view gs.items ≡ fs) → IfOk result (λ gs. map view gs.items ≡ outcome_words outcome ++ fs) }
+/// Appends how the search for a problem ended.
+pub(crate) fn put_outcome(outcome: Outcome, out: &mut Growing<u8>)
+    ensures { Grows out.old out.new (items_text true (outcome_words outcome)) }
 {
     match outcome {
-        Outcome::Complete => in_front(word(alloc, "complete"), others),
-        Outcome::LimitSteps => at_limit(alloc, "steps", others),
-        Outcome::LimitStrands => at_limit(alloc, "strands", others),
+        Outcome::Complete => out.append(b" complete"),
+        Outcome::LimitSteps => out.append(b" limit steps"),
+        Outcome::LimitStrands => out.append(b" limit strands"),
     }
 }

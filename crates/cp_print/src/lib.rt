@@ -4,16 +4,15 @@
 #![tactic(auto)]
 
 mod assumptions;
-mod forms;
 mod items;
 mod labels;
-mod makers;
 mod order;
 mod patterns;
 mod report;
 mod strands;
 mod terms;
 mod variable_names;
+mod writing;
 
 pub use report::{
     expanded_count, print, print_pieces, print_shape_pieces, print_shapes, shape_count,

@@ -4,15 +4,13 @@ ghost use Rattle.cp_base.specs.Growing.{Grows, seen};
 ghost use Rattle.cp_language.specs.Report.{nodes_from, covering_pairs};
 ghost use Rattle.cp_model.specs.OrderTests.{any_pair, reaches_within};
 ghost use Rattle.cp_model.specs.Skeleton.{skeleton_trace};
-ghost use Rattle.cp_sexpr.specs.View.{view};
-ghost use Rattle.cp_print.specs.Order.{nodes_counted, entry_of, shared, enters_too, implies, is_implied, covers_of, led_to, has_node, covered, all_covered};
+ghost use Rattle.cp_print.specs.Order.{nodes_counted, entry_of, shared, enters_too, implies, is_implied, covers_of, led_to, has_node, pair_form, covered, all_covered};
 
-use crate::forms::add;
-use crate::items::node_form;
-use crate::makers::{list, two};
+use crate::items::put_node;
+use crate::writing::Printed;
 use cp_base::Growing;
-use cp_sexpr::Form;
 use cp_skel::{Node, OrderPair, Predecessors, Skeleton, SortedPairs, Strand, StrandShape};
+use cp_term::Text;
 use std::alloc::{AllocError, Global};
 
 /// A pair, and the predecessors of its earlier node.
@@ -143,8 +141,8 @@ fn has_node(ends: &[Node], node: Node) -> bool
 }
 
 /// Appends the pairs of x and those of the nodes that are among its ends.
-fn add_covered(alloc: Global, ends: &[Node], x: Node, nodes: &[Node], forms: &mut Growing<Form>)
-    ensures { Grows (seen view forms.old) (seen view forms.new) (covered ends.now x nodes.now) }
+fn add_covered(ends: &[Node], x: Node, nodes: &[Node], pairs: &mut Growing<OrderPair>)
+    ensures { Grows (seen pair_form pairs.old) (seen pair_form pairs.new) (covered ends.now x nodes.now) }
 {
     if ends.is_empty() {
         return;
@@ -153,8 +151,10 @@ fn add_covered(alloc: Global, ends: &[Node], x: Node, nodes: &[Node], forms: &mu
         if !has_node(ends, *y) {
             continue;
         }
-        let pair = two(alloc, node_form(alloc, x), node_form(alloc, *y));
-        add(list(pair), forms);
+        pairs.push(OrderPair {
+            earlier: x,
+            later: *y,
+        });
     }
 }
 
@@ -164,12 +164,12 @@ fn add_from(
     covers: &[OrderPair],
     nodes: &[Node],
     x: Node,
-    forms: &mut Growing<Form>,
+    pairs: &mut Growing<OrderPair>,
 ) -> Result<(), AllocError>
-    ensures { OnOk result (Grows (seen view forms.old) (seen view forms.new) (covered (led_to covers.now x) x nodes.now)) }
+    ensures { OnOk result (Grows (seen pair_form pairs.old) (seen pair_form pairs.new) (covered (led_to covers.now x) x nodes.now)) }
 {
     let ends = led_to(alloc, covers, x)?;
-    add_covered(alloc, &ends, x, nodes, forms);
+    add_covered(&ends, x, nodes, pairs);
     Ok(())
 }
 
@@ -205,22 +205,29 @@ fn nodes_of(alloc: Global, strands: &[Strand]) -> Result<Vec<Node>, AllocError>
     nodes.finish()
 }
 
-/// The forms of the pairs, in the order of the nodes.
+/// The pairs in the order of the nodes.
 #[tactic(auto, using(crate::proofs::GrownForms::made_none))]
-fn covered(alloc: Global, covers: &[OrderPair], nodes: &[Node]) -> Result<Vec<Form>, AllocError>
-    ensures { IfOk result (λ fs. map view fs.items ≡ all_covered covers.now nodes.now nodes.now) }
+fn covered(
+    alloc: Global,
+    covers: &[OrderPair],
+    nodes: &[Node],
+) -> Result<Vec<OrderPair>, AllocError>
+    ensures { IfOk result (λ ps. map pair_form ps.items ≡ all_covered covers.now nodes.now nodes.now) }
 {
-    let mut forms = Growing::with_capacity(alloc, covers.len().saturating_add(1));
+    let mut pairs = Growing::with_capacity(alloc, covers.len());
     for node in nodes {
-        add_from(alloc, covers, nodes, *node, &mut forms)?;
+        add_from(alloc, covers, nodes, *node, &mut pairs)?;
     }
-    forms.finish()
+    pairs.finish()
 }
 
 /// The covering pairs between different strands, by first node and then by second. They are among the pairs of the
 /// order: those that the others do not imply.
-pub(crate) fn covering_pairs(alloc: Global, skeleton: &Skeleton) -> Result<Vec<Form>, AllocError>
-    ensures { IfOk result (λ fs. map view fs.items ≡ covering_pairs skeleton.now) }
+pub(crate) fn covering_pairs(
+    alloc: Global,
+    skeleton: &Skeleton,
+) -> Result<Vec<OrderPair>, AllocError>
+    ensures { IfOk result (λ ps. map pair_form ps.items ≡ covering_pairs skeleton.now) }
 {
     let pairs = skeleton.order().pairs();
     if pairs.is_empty() {
@@ -232,4 +239,15 @@ pub(crate) fn covering_pairs(alloc: Global, skeleton: &Skeleton) -> Result<Vec<F
     let covers = covers_of(alloc, pairs, &entries)?;
     let nodes = nodes_of(alloc, skeleton.strands())?;
     covered(alloc, &covers, &nodes)
+}
+
+impl Printed for OrderPair {
+    ghost printed = { λ names p. pair_form p };
+
+    fn put(&self, alloc: Global, names: &[Text], out: &mut Growing<u8>) {
+        out.append(b" (");
+        put_node(self.earlier, out);
+        self.later.put(alloc, names, out);
+        out.push(b')');
+    }
 }

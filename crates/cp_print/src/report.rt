@@ -1,21 +1,22 @@
 // The report.
-ghost use Rattle.std.specs.Prelude.{◌≡◌, ◌++◌, [], ◌∷◌, length, IfOk, OnOk, OnErr};
-ghost use Rattle.cp_base.specs.Growing.{Grows, seen};
+ghost use Rattle.std.specs.Prelude.{◌≡◌, ◌++◌, [], ◌∷◌, length, List, ℕ, true, false, IfOk, OnOk, OnErr};
+ghost use Rattle.cp_base.specs.Growing.{Grows, growth};
 ghost use Rattle.cp_language.specs.Input.{form_of, stated};
 ghost use Rattle.cp_language.specs.Printed.{word, numeral};
-ghost use Rattle.cp_language.specs.Report.{status_form, report_forms, report_text, shape_count, text_of_forms};
+ghost use Rattle.cp_language.specs.Report.{label_form, status_form, report_forms, report_text, shape_count, text_of_forms};
 ghost use Rattle.cp_language.specs.ShapesText.{chosen_from, chosen_tree_forms, chosen_report_forms, chosen_text, shapes_forms, shapes_text};
 ghost use Rattle.cp_load.specs.Inputs.{problem_view, entry_view, input_entries};
 ghost use Rattle.cp_model.specs.Tree.{expanded_count};
-ghost use Rattle.cp_sexpr.specs.Spelling.{AppendsFront};
+ghost use Rattle.cp_sexpr.specs.Spelling.{AppendsFront, top_spelling};
+ghost use Rattle.cp_print.specs.Spelled.{items_text};
+ghost use Rattle.cp_sexpr.specs.Syntax.{Form as Plain};
 ghost use Rattle.cp_sexpr.specs.View.{view};
 ghost use Rattle.cp_print.specs.Chosen.{chosen_by};
 ghost use Rattle.cp_print.specs.WrittenForms.{ends_from, HasAppendedForms, entry_forms, trees_behind};
 
-use crate::forms::add;
-use crate::items::with_outcome;
-use crate::labels::label_form;
-use crate::makers::{headed_list, numeral, word};
+use crate::items::put_outcome;
+use crate::labels::put_label;
+use crate::writing::{put_numeral, put_word};
 use cp_base::Growing;
 use cp_load::{Entry, Input, Problem};
 use cp_names::problem_names;
@@ -52,6 +53,33 @@ fn put(form: &Form, out: &mut Vec<u8>, ends: &mut Vec<usize>) -> Result<(), Allo
     Ok(())
 }
 
+/// Puts back a text that grew by a top form.
+fn end_form(text: Growing<u8>, out: &mut Vec<u8>, ends: &mut Vec<usize>) -> Result<(), AllocError>
+    ensures ok { (old : List ℕ) (f : Plain) → Grows (growth old false) text (top_spelling f) → OnOk result (HasAppendedForms old ends.old.items out.new.items ends.new.items (f ∷ [])) }
+    ensures err { (old : List ℕ) (f : Plain) → Grows (growth old false) text (top_spelling f) → OnErr result (AppendsFront old out.new.items (text_of_forms (f ∷ []))) }
+{
+    text.put_back(out)?;
+    ends.push(out.len())?;
+    Ok(())
+}
+
+/// Writes a label form. `of_problem` are the names of the problem's variables.
+fn put_label_form(
+    alloc: Global,
+    of_problem: &[Text],
+    number: usize,
+    label: &Label,
+    out: &mut Vec<u8>,
+    ends: &mut Vec<usize>,
+) -> Result<(), AllocError>
+    ensures ok { OnOk result (HasAppendedForms out.old.items ends.old.items out.new.items ends.new.items (label_form of_problem.now number label.now ∷ [])) }
+    ensures err { OnErr result (AppendsFront out.old.items out.new.items (text_of_forms (label_form of_problem.now number label.now ∷ []))) }
+{
+    let mut text = Growing::taken(out);
+    put_label(alloc, of_problem, number, label, &mut text);
+    end_form(text, out, ends)
+}
+
 /// Writes the chosen labels of a tree. `of_problem` are the names of the problem's variables.
 fn put_labels(
     alloc: Global,
@@ -69,8 +97,7 @@ fn put_labels(
         if !is_chosen(chosen, label) {
             continue;
         }
-        let form = label_form(alloc, of_problem, number, label)?;
-        put(&form, out, ends)?;
+        put_label_form(alloc, of_problem, number, label, out, ends)?;
     }
     Ok(())
 }
@@ -102,24 +129,34 @@ pub fn shape_count(labels: &[Label]) -> usize
 }
 
 /// Appends a word and a number.
-fn add_count(alloc: Global, text: &str, count: usize, words: &mut Growing<Form>)
-    ensures { Grows (seen view words.old) (seen view words.new) (word text.now ∷ numeral count ∷ []) }
+fn put_count(text: &str, count: usize, out: &mut Growing<u8>)
+    ensures { Grows out.old out.new (items_text true (word text.now ∷ numeral count ∷ [])) }
 {
-    add(word(alloc, text), words);
-    add(Ok(numeral(count)), words);
+    put_word(text, out);
+    put_numeral(count, out);
 }
 
-/// The outcome, the number of labels, how many were expanded, and how many are shapes.
-fn status_form(alloc: Global, tree: &Tree) -> Result<Form, AllocError>
-    ensures { IfOk result (λ f. view f ≡ status_form tree.now) }
+/// Appends the outcome, the number of labels, how many were expanded, and how many are shapes.
+fn put_status(tree: &Tree, out: &mut Growing<u8>)
+    ensures { Grows out.old out.new (top_spelling (status_form tree.now)) }
 {
     let labels = tree.labels.as_slice();
-    let mut counts = Growing::with_capacity(alloc, 9);
-    add_count(alloc, "labels", labels.len(), &mut counts);
-    add_count(alloc, "expanded", expanded_count(labels), &mut counts);
-    add_count(alloc, "shapes", shape_count(labels), &mut counts);
-    let words = with_outcome(alloc, tree.outcome, counts.finish());
-    headed_list(alloc, "status", words)
+    out.append(b"(status");
+    put_outcome(tree.outcome, out);
+    put_count("labels", labels.len(), out);
+    put_count("expanded", expanded_count(labels), out);
+    put_count("shapes", shape_count(labels), out);
+    out.append(b")\n");
+}
+
+/// Writes the status of a tree.
+fn put_status_form(tree: &Tree, out: &mut Vec<u8>, ends: &mut Vec<usize>) -> Result<(), AllocError>
+    ensures ok { OnOk result (HasAppendedForms out.old.items ends.old.items out.new.items ends.new.items (status_form tree.now ∷ [])) }
+    ensures err { OnErr result (AppendsFront out.old.items out.new.items (text_of_forms (status_form tree.now ∷ []))) }
+{
+    let mut text = Growing::taken(out);
+    put_status(tree, &mut text);
+    end_form(text, out, ends)
 }
 
 /// Writes the chosen labels of a problem's tree, and its status.
@@ -136,9 +173,8 @@ fn put_tree(
     ensures err { OnErr result (AppendsFront out.old.items out.new.items (text_of_forms (chosen_tree_forms (chosen_by chosen) (problem_view problem.now) tree.now))) }
 {
     let names = problem_names(alloc, problem.declared, problem.skeleton.variables())?;
-    let status = status_form(alloc, tree)?;
     put_labels(alloc, chosen, &names, tree.labels.as_slice(), out, ends)?;
-    put(&status, out, ends)
+    put_status_form(tree, out, ends)
 }
 
 /// Writes the form of an entry and, if it states a problem, the first of these trees, if there is one. Returns the

@@ -1,127 +1,159 @@
 // The variables and the strands of a label form.
-ghost use Rattle.std.specs.Prelude.{◌≡◌, [], map, IfOk};
-ghost use Rattle.cp_base.specs.Growing.{Grows, seen};
+ghost use Rattle.std.specs.Prelude.{◌≡◌, [], ◌∷◌, map, codes, true, false};
+ghost use Rattle.cp_base.specs.Growing.{Grows};
 ghost use Rattle.cp_model.specs.Homomorphism.{substitution_by};
+ghost use Rattle.cp_model.specs.Skeleton.{listener};
+ghost use Rattle.cp_model.specs.Strand.{variables_of_prefix};
 ghost use Rattle.cp_model.specs.Term.{variable_term, apply_to};
-ghost use Rattle.cp_language.specs.Printed.{variable, term_form};
-ghost use Rattle.cp_language.specs.Report.{strand_form};
-ghost use Rattle.cp_sexpr.specs.View.{view};
+ghost use Rattle.cp_language.specs.Names.{sort_text};
+ghost use Rattle.cp_language.specs.Printed.{variable, term_form, word, plain_list};
+ghost use Rattle.cp_language.specs.Report.{item_unless_empty, strand_form};
 ghost use Rattle.cp_strand.specs.View.{instance_view};
-ghost use Rattle.cp_print.specs.MarkedForms.{vars_by, maplets_by};
+ghost use Rattle.cp_print.specs.MarkedForms.{vars_by, has_vars, maplets_by};
 ghost use Rattle.cp_print.specs.Named.{named_in};
+ghost use Rattle.cp_print.specs.Spelled.{item_text, items_text};
 
-use crate::forms::add;
-use crate::makers::{headed_list, in_front, list, numeral, one, two, word};
-use crate::terms::term_form;
+use crate::assumptions::put_pair;
+use crate::terms::put_term;
 use crate::variable_names::{Naming, name_of, sort_text};
+use crate::writing::{begin_list, put_numeral, put_word};
 use cp_base::Growing;
-use cp_names::{is_flagged, prefix_flags};
-use cp_sexpr::Form;
-use cp_strand::{Declaration, Instance, Role, Strand, StrandShape, applied};
-use cp_term::{Sort, Term, Text, VarId, var};
-use std::alloc::{AllocError, Global};
+use cp_names::is_flagged;
+use cp_strand::{Declaration, Instance, Role, Strand, StrandShape, value_of_variable};
+use cp_term::{Sort, Term, Text, VarId};
+use std::alloc::Global;
 
-/// The flagged variables, each with its sort.
-#[tactic(auto, using(crate::proofs::GrownForms::made_none))]
-pub(crate) fn vars(
-    alloc: Global,
+/// Whether a variable is flagged.
+fn has_vars(flags: &[bool], variables: &[Declaration]) -> bool
+    ensures { result ≡ has_vars flags.now 0 variables.now }
+{
+    for number in 0..variables.len() {
+        if is_flagged(flags, number) {
+            return true;
+        }
+    }
+    false
+}
+
+/// Appends a name with its sort.
+fn put_var(name: &str, sort: Sort, out: &mut Growing<u8>)
+    ensures { Grows out.old out.new (item_text false (plain_list (word name.now ∷ word (sort_text sort) ∷ []))) }
+{
+    out.append(b" (");
+    out.append(name.as_bytes());
+    put_word(sort_text(sort), out);
+    out.push(b')');
+}
+
+/// Appends the flagged variables, each with its sort.
+fn put_flagged(names: &[Text], flags: &[bool], variables: &[Declaration], out: &mut Growing<u8>)
+    ensures { Grows out.old out.new (items_text false (vars_by names.now flags.now 0 variables.now)) }
+{
+    for number in 0..variables.len() {
+        if !is_flagged(flags, number) {
+            continue;
+        }
+        let variable = &variables[number];
+        put_var(name_of(names, number), variable.sort, out);
+    }
+}
+
+/// Appends a list of the flagged variables, unless there are none.
+pub(crate) fn put_vars(
     names: &[Text],
     flags: &[bool],
     variables: &[Declaration],
-) -> Result<Vec<Form>, AllocError>
-    ensures { IfOk result (λ fs. map view fs.items ≡ vars_by names.now flags.now 0 variables.now) }
+    out: &mut Growing<u8>,
+)
+    ensures { Grows out.old out.new (items_text true (item_unless_empty (codes "vars") (vars_by names.now flags.now 0 variables.now))) }
 {
-    let mut forms = Growing::with_capacity(alloc, variables.len().saturating_add(1));
-    for number in 0..variables.len() {
-        if !is_flagged(flags, number) {
-            continue;
-        }
-        let variable = &variables[number];
-        let name = word(alloc, name_of(names, number));
-        let sort = word(alloc, sort_text(variable.sort));
-        add(list(two(alloc, name, sort)), &mut forms);
+    if has_vars(flags, variables) {
+        begin_list("vars", out);
+        put_flagged(names, flags, variables, out);
+        out.push(b')');
     }
-    forms.finish()
 }
 
-/// The value of a role's variable under the terms of an instance.
-fn value_form(
+/// Appends the maplet of a variable: its identifier with its value under the terms of an instance.
+fn put_maplet(
     alloc: Global,
     naming: &Naming<'_>,
     values: &[Term],
-    sort: Sort,
     number: usize,
-) -> Result<Form, AllocError>
-    ensures { IfOk result (λ f. view f ≡ term_form (named_in naming.now) (apply_to (substitution_by values.now) (variable_term (variable sort number)))) }
+    declared: &Declaration,
+    out: &mut Growing<u8>,
+)
+    ensures { Grows out.old out.new (item_text false (plain_list (word declared.now.identifier ∷ term_form (named_in naming.now) (apply_to (substitution_by values.now) (variable_term (variable declared.now.sort number))) ∷ []))) }
 {
-    let variable = var(alloc, VarId::numbered(number), sort)?;
-    let value = applied(alloc, values, &variable)?;
-    term_form(alloc, naming, &value)
+    match value_of_variable(alloc, values, VarId::numbered(number), declared.sort) {
+        Ok(value) => put_pair(naming, declared.identifier.as_str(), &value, out),
+        Err(_) => out.fail(),
+    }
 }
 
-/// The maplets of the flagged variables of a role: each identifier with its value.
-#[tactic(auto, using(crate::proofs::GrownForms::made_none))]
-fn maplets(
+/// Appends the maplets of the variables that occur in an instance of a role.
+fn put_maplets(
     alloc: Global,
     naming: &Naming<'_>,
+    role: &Role,
+    height: usize,
     values: &[Term],
-    flags: &[bool],
-    variables: &[Declaration],
-) -> Result<Vec<Form>, AllocError>
-    ensures { IfOk result (λ fs. map view fs.items ≡ maplets_by (named_in naming.now) flags.now (substitution_by values.now) 0 variables.now) }
+    out: &mut Growing<u8>,
+)
+    ensures { Grows out.old out.new (items_text false (maplets_by (named_in naming.now) (variables_of_prefix role.now height) (substitution_by values.now) 0 role.now.variables)) }
 {
-    let mut forms = Growing::with_capacity(alloc, variables.len().saturating_add(3));
+    let variables = role.variables();
     for number in 0..variables.len() {
-        if !is_flagged(flags, number) {
+        let declared = &variables[number];
+        if !role.occurs_before(VarId::numbered(number), declared.sort, height) {
             continue;
         }
-        let variable = &variables[number];
-        let identifier = word(alloc, variable.identifier.as_str());
-        let value = value_form(alloc, naming, values, variable.sort, number);
-        add(list(two(alloc, identifier, value)), &mut forms);
+        put_maplet(alloc, naming, values, number, declared, out);
     }
-    forms.finish()
 }
 
-/// An instance as a form.
-fn instance_form(
-    alloc: Global,
-    naming: &Naming<'_>,
-    instance: &Instance,
-) -> Result<Form, AllocError>
-    ensures { IfOk result (λ f. view f ≡ strand_form (named_in naming.now) (instance_view instance.now)) }
+/// Appends an instance.
+fn put_instance(alloc: Global, naming: &Naming<'_>, instance: &Instance, out: &mut Growing<u8>)
+    ensures { Grows out.old out.new (item_text true (strand_form (named_in naming.now) (instance_view instance.now))) }
 {
     let role: &Role = instance.role();
-    let flags = prefix_flags(alloc, role, instance.height())?;
-    let maplets = maplets(alloc, naming, instance.values(), &flags, role.variables());
-    let items = in_front(Ok(numeral(instance.height())), maplets);
-    let name = word(alloc, role.name().as_str());
-    headed_list(alloc, "defstrand", in_front(name, items))
+    let height = instance.height();
+    begin_list("defstrand", out);
+    put_word(role.name().as_str(), out);
+    put_numeral(height, out);
+    put_maplets(alloc, naming, role, height, instance.values(), out);
+    out.push(b')');
 }
 
-/// A strand as a form.
-fn strand_form(alloc: Global, naming: &Naming<'_>, strand: &Strand) -> Result<Form, AllocError>
-    ensures { IfOk result (λ f. view f ≡ strand_form (named_in naming.now) strand.now) }
+/// Appends a listener for a message.
+fn put_listener(naming: &Naming<'_>, message: &Term, out: &mut Growing<u8>)
+    ensures { Grows out.old out.new (item_text true (strand_form (named_in naming.now) (listener message.now))) }
+{
+    begin_list("deflistener", out);
+    put_term(naming, message, out);
+    out.push(b')');
+}
+
+/// Appends a strand.
+fn put_strand(alloc: Global, naming: &Naming<'_>, strand: &Strand, out: &mut Growing<u8>)
+    ensures { Grows out.old out.new (item_text true (strand_form (named_in naming.now) strand.now)) }
 {
     match strand.shape() {
-        StrandShape::Instance(instance) => instance_form(alloc, naming, instance),
-        StrandShape::Listener(message) => {
-            let message = term_form(alloc, naming, message);
-            headed_list(alloc, "deflistener", one(alloc, message))
-        }
+        StrandShape::Instance(instance) => put_instance(alloc, naming, instance, out),
+        StrandShape::Listener(message) => put_listener(naming, message, out),
     }
 }
 
 /// Appends these strands.
-pub(crate) fn add_strand_forms(
+pub(crate) fn put_strands(
     alloc: Global,
     naming: &Naming<'_>,
     strands: &[Strand],
-    items: &mut Growing<Form>,
+    out: &mut Growing<u8>,
 )
-    ensures { Grows (seen view items.old) (seen view items.new) (map (strand_form (named_in naming.now)) strands.now) }
+    ensures { Grows out.old out.new (items_text true (map (strand_form (named_in naming.now)) strands.now)) }
 {
     for strand in strands {
-        add(strand_form(alloc, naming, strand), items);
+        put_strand(alloc, naming, strand, out);
     }
 }

@@ -1,17 +1,17 @@
 // How variables are named.
-ghost use Rattle.std.specs.Prelude.{◌≡◌, IfOk};
+ghost use Rattle.std.specs.Prelude.{◌≡◌};
+ghost use Rattle.cp_base.specs.Growing.{Grows};
 ghost use Rattle.cp_language.specs.Names.{sort_text};
 ghost use Rattle.cp_language.specs.Printed.{variable, place_among};
 ghost use Rattle.cp_language.specs.Report.{name_or_none};
 ghost use Rattle.cp_lists.specs.Lists.{item_at};
-ghost use Rattle.cp_sexpr.specs.View.{view};
+ghost use Rattle.cp_sexpr.specs.Spelling.{spelling};
 ghost use Rattle.cp_print.specs.Named.{named_in};
 
-use crate::makers::{headed_list, numeral, two, word};
+use crate::writing::{put_numeral, put_word};
+use cp_base::Growing;
 use cp_scope::{Variable, is_same_sort};
-use cp_sexpr::Form;
 use cp_term::{Sort, Text, VarId};
-use std::alloc::{AllocError, Global};
 
 /// The names of variables by their numbers, and the locals of a pattern in order of occurrence. Locals have no names.
 #[derive(Clone, Copy)]
@@ -57,17 +57,19 @@ fn place_among(locals: &[Variable], sort: Sort, number: usize) -> Option<usize>
 }
 
 impl Naming<'_> {
-    /// A variable by its name, or a local by its place.
-    pub(crate) fn named(&self, alloc: Global, sort: Sort, id: VarId) -> Result<Form, AllocError>
-        ensures { IfOk result (λ f. view f ≡ named_in self.now (variable sort id)) }
+    /// Appends a variable by its name, or a local by its place.
+    pub(crate) fn put(&self, sort: Sort, id: VarId, out: &mut Growing<u8>)
+        ensures { Grows out.old out.new (spelling (named_in self.now (variable sort id))) }
     {
         let number = id.number();
         match place_among(self.locals, sort, number) {
             Some(place) => {
-                let sort = word(alloc, sort_text(sort));
-                headed_list(alloc, "any", two(alloc, sort, Ok(numeral(place))))
+                out.append(b"(any");
+                put_word(sort_text(sort), out);
+                put_numeral(place, out);
+                out.push(b')');
             }
-            None => word(alloc, name_of(self.names, number)),
+            None => out.append(name_of(self.names, number).as_bytes()),
         }
     }
 }

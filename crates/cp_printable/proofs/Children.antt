@@ -30,7 +30,7 @@ use Rattle.cp_theory.specs.Fresh.{fresh_terms}
 use Rattle.cp_cohort.specs.declared.child.Child.{Child}
 use Rattle.cp_cohort.specs.declared.release.PartialSolution.{PartialSolution}
 use Rattle.cp_cohort.specs.CoveringChildren.{child, declaration_onto, declarations_among}
-use Rattle.cp_cohort.specs.Cohort.{GuardedTest, release_at, AddsAt, IsCohort}
+use Rattle.cp_cohort.specs.Cohort.{GuardedTest, release_at, AddsAt, AreFirstAdded, IsCohort}
 use Rattle.cp_cohort.specs.Cohort as cohort
 use Rattle.cp_cohort.specs.Released.{SetsFree, critical_key, critical_body, pattern_key}
 use Rattle.cp_printable.specs.Strings.{strings_of_key, strings_of}
@@ -41,7 +41,7 @@ use Rattle.cp_printable.proofs.Forms.{forms_spelled}
 use Rattle.cp_printable.proofs.Changes.{listener_spelled, strand_spelled, extended_spelled, put_spelled}
 use Rattle.cp_printable.proofs.OpenedPatterns.{AreNamed, still_named, both_declared}
 use Rattle.cp_printable.proofs.Settled.{IsSpelledPartialSolution, settles_spelled}
-use Rattle.cp_cohort.proofs.EachChild.{DisplacesAt, ComesOfContracting, ComesOfReleasing, ComesOfListening, of_contracted, of_released, of_listened, each_child}
+use Rattle.cp_cohort.proofs.EachChild.{DisplacesAt, ComesOfContracting, ComesOfReleasing, ComesOfListening, of_contracted, of_released, of_listened, HoldsOfGiven, each_first_added, each_child}
 
 -- What is asked has admitted strings and identifiers, and so has what names the locals of its patterns as new variables.
 pub record IsSpelledGuardedTest (S I : List ℕ → Type 0) (q : GuardedTest) : Type 0 where
@@ -184,13 +184,16 @@ module _ (S I : List ℕ → Type 0) (decide : (t : List ℕ) → S t ⊎ (S t �
 
     -- ---- all of them
 
-    all_spelled : (children : List Child) → IsCohort protocol q children → (d : Child) → IsIn d children → IsSpelled d
-    all_spelled = each_child protocol q IsSpelled (record {
+    given_spelled : HoldsOfGiven protocol q IsSpelled
+    given_spelled = record {
       contracted = λ o there_is before path. of_contracted q IsSpelled o path (contracted_is o there_is path);
       displaced = λ s role height terms on apart j t sent none. displaced_at s role height terms on j;
       added = λ role listed j t sent. added_at role listed j;
       listened = λ t free. of_listened q IsSpelled t (listened_is t (heard_spelled t free));
-    })
+    }
 
   pub cohort_spelled : (q : GuardedTest) (children : List Child) → IsSkeleton protocol q.skeleton → IsSpelledGuardedTest S I q → IsCohort protocol q children → (c : Child) → IsIn c children → IsSpelledChild S I c
-  cohort_spelled q children sk asked is c i = all_spelled q sk asked children is c i
+  cohort_spelled q children sk asked is c i = each_child protocol q (IsSpelledChild S I) (given_spelled q sk asked) children is c i
+
+  pub first_spelled : (q : GuardedTest) (children : List Child) → IsSkeleton protocol q.skeleton → IsSpelledGuardedTest S I q → AreFirstAdded protocol q children → (c : Child) → IsIn c children → IsSpelledChild S I c
+  first_spelled q children sk asked start c i = each_first_added protocol q (IsSpelledChild S I) (given_spelled q sk asked) children start c i

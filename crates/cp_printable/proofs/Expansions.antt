@@ -24,18 +24,17 @@ use Rattle.cp_cohort.specs.Way.{DeclaresMore}
 use Rattle.cp_cohort.specs.Sound.{IsSoundChild}
 use Rattle.cp_cohort.proofs.Listed.{given, those_have, of_terms_onto}
 use Rattle.cp_cohort.proofs.Settled.{above_variables, event_declared}
-use Rattle.cp_cohort.proofs.SoundChildren.{sound_child}
 use Rattle.cp_escape.specs.Escape.{GivesClosed, positions_of, whole_pattern, IsEscape}
 use Rattle.cp_escape.specs.WidenedPattern.{WidensBy}
 use Rattle.cp_expansion.specs.ChosenTest.{IsTestOf}
 use Rattle.cp_expansion.specs.Expansion.{IsWidening, asked_under, AreWidened, has_most, none_widens, one_widens, guarded_test_about, Expansion, IsExpansionOf}
 use Rattle.cp_escape.proofs.EscapeGuards.{first_is_in}
-use Rattle.cp_tree.proofs.AskedOn.{IsWellAsked, asked_on}
+use Rattle.cp_tree.proofs.AskedOn.{IsWellAsked, first_sound, asked_on}
 use Rattle.cp_printable.specs.Spelled.{IsSpelledTerm, AreSpelledDeclarations, IsSpelledRole, IsSpelledSkeleton}
 use Rattle.cp_printable.proofs.Under.{event_spelled, table_spelled}
 use Rattle.cp_printable.proofs.Enclosed.{first_above_spelled, underivable_spelled}
 use Rattle.cp_printable.proofs.OpenedPatterns.{AreNamed, still_named, named_as_declared}
-use Rattle.cp_printable.proofs.Children.{IsSpelledGuardedTest, IsSpelledChild, cohort_spelled}
+use Rattle.cp_printable.proofs.Children.{IsSpelledGuardedTest, IsSpelledChild, cohort_spelled, first_spelled}
 
 pub record IsSpelledExpansion (S I : List ℕ → Type 0) (e : Expansion) : Type 0 where
   pub variables : AreSpelledDeclarations I e.skeleton.variables
@@ -113,10 +112,10 @@ module _ (S I : List ℕ → Type 0) (decide : (t : List ℕ) → S t ⊎ (S t �
   last_spelled : {q last : GuardedTest} {children : List Child} → AreWidened protocol q last children → IsWellAsked protocol q → IsSpelledGuardedTest S I q → IsSpelledLast last children
   last_spelled (has_most {q = q} {children = children} most is) well asked = record { question = asked; each = child_spelled q children well asked is }
   last_spelled (none_widens {q = q} {children = children} fewer is none) well asked = record { question = asked; each = child_spelled q children well asked is }
-  last_spelled (one_widens {q = q} {before = before} {c = c} fewer is first w rest) well asked =
+  last_spelled (one_widens {q = q} {before = before} {c = c} fewer start first w rest) well asked =
       let i = first_is_in first in
-      last_spelled rest (asked_on protocol declares q before c well is i w)
-      (widened_on q c asked (child_spelled q before well asked is c i) (sound_child protocol q before well.skeleton declares well.declared well.test well.guards is c i) w)
+      let s = first_sound protocol declares q before c well start i in
+      last_spelled rest (asked_on protocol declares q c well s w) (widened_on q c asked (first_spelled S I decide protocol declares roles q before well.skeleton asked start c i) s w)
 
   -- The patterns of an escape set have no locals.
   whole_named : (ds : List Declaration) (es : List Term) (p : Pattern) → IsIn p (map whole_pattern es) → AreNamed I ds p

@@ -40,7 +40,7 @@ fn instance_of_role(
         all,
     )?;
     let role = role.clone()?;
-    Strand::instance(alloc, Instance::new(role, height, values))
+    Strand::with_events(alloc, Instance::new(role, height, values))
 }
 
 /// Placeholder for an ill-formed strand.

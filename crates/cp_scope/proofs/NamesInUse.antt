@@ -1,12 +1,13 @@
 -- A table of what is found by its name, after one more name.
-use Rattle.std.proofs.Common.{◌≡◌, ℕ, suc, ◌+◌, List, [], ◌∷◌, ◌++◌, length, Bool, true, false, ◌||◌, ◌&&◌, ◌==◌, if◌then◌else◌, is_some, refl, sym, ap, ◌∙◌, subst, Vec, arith}
+use Rattle.std.proofs.Common.{◌≡◌, ℕ, suc, ◌+◌, ◌<◌, List, [], ◌∷◌, ◌++◌, length, get_or, drop, add-one, Bool, true, false, ◌||◌, ◌&&◌, ◌==◌, if◌then◌else◌, is_some, refl, sym, ap, ◌∙◌, subst, Vec, arith}
 use Rattle.std.specs.Prelude.{Option, Some, None, Result, Ok, Err, OnOk}
-use Rattle.std.specs.Result.{is_err}
+use Rattle.std.specs.Result.{is_err, OnErr}
 use Rattle.std.specs.Cmp.Lexicographic.{nat_list_eq_equiv, bytes_decides}
 use Rattle.std.specs.HashMap.{HashMap, get_by, UpdatesBy}
 use Rattle.std.specs.Map.{IsKeyTest, AreApart, KeepsOthers, lookup}
 use Rattle.std.specs.Str.{bytes_eq}
 use Rattle.std.proofs.lemmas.Bool.{cond-false, cond-true}
+use Rattle.cp_lists.proofs.Members.{drop_read}
 use Rattle.cp_model.specs.Same.{same_text}
 use Rattle.cp_language.specs.Words.{is_one_of}
 use Rattle.cp_scope.specs.Places.{place_from, ArePlacesOf}
@@ -21,6 +22,11 @@ same_text-is (x ∷ xs) (y ∷ ys) = ap (λ rest. (x == y) && rest) (same_text-i
 pub on_ok : {A E : Type 0} (r : Result A E) (P : Type 0) → is_err r ≡ false → OnOk r P → P
 on_ok (Ok x) P e h = h
 on_ok (Err y) P e h = absurd (cc)
+
+-- and of one that failed
+pub on_err : {A E : Type 0} (r : Result A E) (P : Type 0) → is_err r ≡ true → OnErr r P → P
+on_err (Ok x) P e h = absurd (cc)
+on_err (Err y) P e h = h
 
 -- ---- an entry that is found, or else another
 
@@ -106,6 +112,20 @@ module _ {Y : Type 0} (name : List ℕ) (old : List ℕ → Option Y) (test : Li
 place-append : (n : ℕ) (xs : List (List ℕ)) (x t : List ℕ) → place_from n (xs ++ x ∷ []) t ≡ otherwise (place_from n xs t) (if same_text t x then Some (count n xs) else None)
 place-append n [] x t = refl
 place-append n (y ∷ ys) x t = one_more (same_text t y) n _ _ _ (place-append (suc n) ys x t)
+
+module _ (names : List (List ℕ)) (i : ℕ) (x t : List ℕ) (lt : i < length names) (is : x ≡ get_or names i x) where
+  place_at : place_from i (drop i names) t ≡ (if same_text t x then Some i else place_from (suc i) (drop (i + 1) names) t)
+  place_at = ap (λ (xs : List (List ℕ)). place_from i xs t) (drop_read names i x lt is)
+
+  -- it stands at this place
+  pub place_here : bytes_eq t x ≡ true → place_from i (drop i names) t ≡ Some i
+  place_here e = place_at ∙ cond-true (same_text t x) (Some i) (place_from (suc i) (drop (i + 1) names) t) (same_text-is t x ∙ e)
+
+  -- or only behind it
+  pub place_behind : bytes_eq t x ≡ false → place_from (i + 1) (drop (i + 1) names) t ≡ place_from i (drop i names) t
+  place_behind e =
+      ap (λ k. place_from k (drop (i + 1) names) t) (add-one i)
+      ∙ sym (place_at ∙ cond-false (same_text t x) (Some i) (place_from (suc i) (drop (i + 1) names) t) (same_text-is t x ∙ e))
 
 pub has-place : (n : ℕ) (xs : List (List ℕ)) (t : List ℕ) → is_some (place_from n xs t) ≡ is_one_of t xs
 has-place n [] t = refl

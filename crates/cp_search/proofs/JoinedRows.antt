@@ -5,11 +5,11 @@ use Rattle.std.specs.List.{list_any}
 use Rattle.std.proofs.Math.Logic.{⊎_map}
 use Rattle.std.proofs.lemmas.Bool.{cases_eq}
 use Rattle.std.proofs.lemmas.Bool.Decides.{nat_tests}
-use Rattle.std.proofs.lemmas.List.{take_more, take_all}
+use Rattle.std.proofs.lemmas.List.{take_more, take_all, length-append}
 use Rattle.cp_lists.specs.Lists.{IsIn, there}
-use Rattle.cp_lists.proofs.Members.{not_in_none, in_cases, at_head, in_append_left, in_last, in_pushed}
+use Rattle.cp_lists.proofs.Members.{not_in_none, in_cases, at_head, in_append_left, in_last, in_pushed, item_in}
 use Rattle.cp_search.specs.declared.reachability.Reachability.{Reachability}
-use Rattle.cp_search.specs.Reachability.{row_at, given_row, IsDistinct, AreDistinct, AddsToRows, Joins}
+use Rattle.cp_search.specs.Reachability.{row_at, given_row, AreBelow, IsDistinct, AreDistinct, AddsToRows, Joins}
 
 -- ---- lists
 
@@ -24,9 +24,26 @@ in_front_or_last k n ns front last h = by (in_pushed ns n k h)
     by (inl i) = front i
     by (inr e) = last e
 
-distinct_pushed : (ns : List ℕ) (n : ℕ) → IsDistinct ns → (IsIn n ns → ⊥) → IsDistinct (ns ++ n ∷ [])
+pub distinct_pushed : (ns : List ℕ) (n : ℕ) → IsDistinct ns → (IsIn n ns → ⊥) → IsDistinct (ns ++ n ∷ [])
 distinct_pushed [] n d apart = (not_in_none, tt)
 distinct_pushed (k ∷ ns) n d apart = (in_front_or_last k n ns d.0 (λ e. apart (at_head e)), distinct_pushed ns n d.1 (λ h. apart (there h)))
+
+-- A number does not stand among those before its place.
+pub not_before : (ns : List ℕ) (i : ℕ) → i < length ns → IsDistinct ns → IsIn (get_or ns i 0) (take i ns) → ⊥
+not_before [] i l d h = absurd (omega (arith, l))
+not_before (n ∷ ns) zero l d h = not_in_none h
+not_before (n ∷ ns) (suc i) l d h = first_or_later (in_cases h) (not_before ns i (omega (arith, l)) d.1)
+  where
+    first_or_later : (n ≡ get_or ns i 0) ⊎ IsIn (get_or ns i 0) (take i ns) → (IsIn (get_or ns i 0) (take i ns) → ⊥) → ⊥
+    first_or_later (inl e) later = d.0 (subst (λ (k : ℕ). IsIn k ns) (sym e) (item_in ns i 0 (omega (arith, l))))
+    first_or_later (inr g) later = later g
+
+only_one : (n m : ℕ) → IsIn m (n ∷ []) → n ≡ m
+only_one n m h = by (in_cases h)
+  where
+    by : (n ≡ m) ⊎ IsIn m [] → n ≡ m
+    by (inl e) = e
+    by (inr g) = absurd (not_in_none g)
 
 -- Of the first numbers up to this one each is this, or among those before.
 pub next_taken : (ns : List ℕ) (i m : ℕ) → i < length ns → IsIn m (take (i + 1) ns) ↔ (IsIn m (take i ns) ⊎ (get_or ns i 0 ≡ m))
@@ -140,6 +157,83 @@ module _ {A : Type 0} where
       before : (n m : ℕ) → IsIn m (row_at old n) ⊎ (P n m ⊎ Q n m) → IsIn m (row_at mid n) ⊎ Q n m
       before n m (inl h) = inl ((a.listed n m).1 (inl h))
       before n m (inr added) = ⊎_map (λ p. (a.listed n m).1 (inr p)) (λ q. q) added
+
+  -- The number is put behind one row more.
+  module _ (chosen : List ℕ) (i number : ℕ) (l : i < length chosen) (old mid : List (Vec ℕ A)) (so_far : AddsToRows (λ n m. IsIn n (take i chosen) × IsIn m (number ∷ [])) old mid) where
+    abbrev chosen_row : ℕ
+    chosen_row = get_or chosen i 0
+
+    pub row_within : AreBelow (length old) chosen → chosen_row < length mid
+    row_within below = let k : chosen_row < length old = below chosen_row (item_in chosen i 0 l) in let count = so_far.count in omega (arith, k, count)
+
+    pub not_yet_put : IsDistinct chosen → ((n : ℕ) → IsIn number (row_at old n) → ⊥) → IsIn number (row_at mid chosen_row) → ⊥
+    not_yet_put distinct apart h = by ((so_far.listed chosen_row number).0 h)
+      where
+        by : IsIn number (row_at old chosen_row) ⊎ (IsIn chosen_row (take i chosen) × IsIn number (number ∷ [])) → ⊥
+        by (inl was) = apart chosen_row was
+        by (inr p) = not_before chosen i l distinct p.0
+
+    abbrev Either : ℕ → ℕ → Type 0
+    Either n m = (IsIn n (take i chosen) × IsIn m (number ∷ [])) ⊎ ((chosen_row ≡ n) × (number ≡ m))
+
+    pub row_put : (new : List (Vec ℕ A)) → AddsToRows (λ n m. (chosen_row ≡ n) × (number ≡ m)) mid new → AddsToRows (λ n m. IsIn n (take (i + 1) chosen) × IsIn m (number ∷ [])) old new
+    row_put new put =
+        adds_alike Either (λ n m. IsIn n (take (i + 1) chosen) × IsIn m (number ∷ [])) old new (λ n m. (among n m, λ p. before_or_now n m p.1 ((next_taken chosen i n l).0 p.0)))
+        (adds_then (λ n m. IsIn n (take i chosen) × IsIn m (number ∷ [])) (λ n m. (chosen_row ≡ n) × (number ≡ m)) old mid new so_far put)
+      where
+        among : (n m : ℕ) → Either n m → IsIn n (take (i + 1) chosen) × IsIn m (number ∷ [])
+        among n m (inl p) = ((next_taken chosen i n l).1 (inl p.0), p.1)
+        among n m (inr p) = ((next_taken chosen i n l).1 (inr p.0), at_head (sym p.1))
+
+        before_or_now : (n m : ℕ) → IsIn m (number ∷ []) → IsIn n (take i chosen) ⊎ (chosen_row ≡ n) → Either n m
+        before_or_now n m k (inl h) = inl (h, k)
+        before_or_now n m k (inr e) = inr (e, only_one number m k)
+
+  pub put_in_all : (chosen : List ℕ) (i number : ℕ) → length chosen ≤ i → (old new : List (Vec ℕ A)) → AddsToRows (λ n m. IsIn n (take i chosen) × IsIn m (number ∷ [])) old new →
+      AddsToRows (λ n m. IsIn n chosen × IsIn m (number ∷ [])) old new
+  put_in_all chosen i number done old new h = subst (λ (ns : List ℕ). AddsToRows (λ n m. IsIn n ns × IsIn m (number ∷ [])) old new) (take_all i chosen done) h
+
+  -- The last row, where an empty one could stand.
+  last_row : (rows : List (Vec ℕ A)) (row : Vec ℕ A) → row_at (rows ++ row ∷ []) (length rows) ≡ row.items
+  last_row [] row = refl
+  last_row (x ∷ rows) row = last_row rows row
+
+  not_last_row : (rows : List (Vec ℕ A)) (row other : Vec ℕ A) (n : ℕ) → (length rows ≡ n → ⊥) → row_at (rows ++ row ∷ []) n ≡ row_at (rows ++ other ∷ []) n
+  not_last_row [] row other zero ne = absurd (ne refl)
+  not_last_row [] row other (suc n) ne = refl
+  not_last_row (x ∷ rows) row other zero ne = refl
+  not_last_row (x ∷ rows) row other (suc n) ne = not_last_row rows row other n (λ e. ne (ap suc e))
+
+  module _ (rows : List (Vec ℕ A)) (empty full : Vec ℕ A) (none : empty.items ≡ []) where
+    abbrev InLast : ℕ → ℕ → Type 0
+    InLast n m = IsIn m full.items × IsIn n (length rows ∷ [])
+
+    filled_here : (n : ℕ) → length rows ≡ n → row_at (rows ++ full ∷ []) n ≡ full.items
+    filled_here n same = subst (λ (k : ℕ). row_at (rows ++ full ∷ []) k ≡ full.items) same (last_row rows full)
+
+    in_filled : (n m : ℕ) → (length rows ≡ n) ⊎ (length rows ≡ n → ⊥) → IsIn m (row_at (rows ++ full ∷ []) n) → IsIn m (row_at (rows ++ empty ∷ []) n) ⊎ InLast n m
+    in_filled n m (inl same) h = inr (subst (IsIn m) (filled_here n same) h, at_head (sym same))
+    in_filled n m (inr other) h = inl (subst (IsIn m) (not_last_row rows full empty n other) h)
+
+    still_filled : (n m : ℕ) → (length rows ≡ n) ⊎ (length rows ≡ n → ⊥) → IsIn m (row_at (rows ++ empty ∷ []) n) ⊎ InLast n m → IsIn m (row_at (rows ++ full ∷ []) n)
+    still_filled n m (inl same) (inl h) = absurd (not_in_none (subst (IsIn m) (subst (λ (k : ℕ). row_at (rows ++ empty ∷ []) k ≡ []) same (last_row rows empty ∙ none)) h))
+    still_filled n m (inr other) (inl h) = subst (IsIn m) (sym (not_last_row rows full empty n other)) h
+    still_filled n m at (inr p) = subst (IsIn m) (sym (filled_here n (only_one (length rows) n p.1))) p.0
+
+    distinct_filled : IsDistinct full.items → AreDistinct (rows ++ empty ∷ []) → (n : ℕ) → (length rows ≡ n) ⊎ (length rows ≡ n → ⊥) → IsDistinct (row_at (rows ++ full ∷ []) n)
+    distinct_filled own d n (inl same) = subst IsDistinct (sym (filled_here n same)) own
+    distinct_filled own d n (inr other) = subst IsDistinct (sym (not_last_row rows full empty n other)) (d n)
+
+    pub fills_last : IsDistinct full.items → AddsToRows InLast (rows ++ empty ∷ []) (rows ++ full ∷ [])
+    fills_last own = record {
+      count = length-append rows (full ∷ []) ∙ sym (length-append rows (empty ∷ []));
+      listed = λ n m. (in_filled n m (cases_eq (length rows) n), still_filled n m (cases_eq (length rows) n));
+      distinct = λ d n. distinct_filled own d n (cases_eq (length rows) n);
+    }
+
+  pub given_distinct : (rows : List (Vec ℕ A)) (o : Option ℕ) → AreDistinct rows → IsDistinct (given_row rows o)
+  given_distinct rows None d = tt
+  given_distinct rows (Some n) d = d n
 
 -- ---- both tables
 

@@ -2,7 +2,7 @@
 ghost use Rattle.std.specs.Prelude.{◌≡◌, ◌↔◌, ◌<◌, ◌++◌, ◌∷◌, [], ℕ, List, length, Some, IsTrue, IfSome, IfOk, OnOk};
 ghost use Rattle.cp_lists.specs.Lists.{IsIn};
 ghost use Rattle.cp_search.specs.MadeLabels.{AreFound};
-ghost use Rattle.cp_search.specs.Reachability.{row_at, given_row, AreBelow, AreTransposed, AddsToRows, Joins, ReachesLabel, IsReachability};
+ghost use Rattle.cp_search.specs.Reachability.{row_at, given_row, AreBelow, IsDistinct, AreTransposed, AddsToRows, Joins, ReachesLabel, IsReachability};
 ghost use Rattle.cp_search.specs.declared.made.Made as program;
 
 use crate::made::Made;
@@ -63,6 +63,19 @@ fn put(rows: &mut Vec<Vec<usize>>, row: usize, number: usize) -> Result<(), Allo
     row.push(number).map_err(AllocError::from)
 }
 
+/// Puts a number that stands in no row behind each of these.
+fn put_each(rows: &mut Vec<Vec<usize>>, chosen: &[usize], number: usize) -> Result<(), AllocError>
+    requires within { AreBelow (length rows.old.items) chosen.now }
+    requires distinct { IsDistinct chosen.now }
+    requires apart { (n : ℕ) → IsIn number (row_at rows.old.items n) → ⊥ }
+    ensures { OnOk result (AddsToRows (λ n m. IsIn n chosen.now × IsIn m (number ∷ [])) rows.old.items rows.new.items) }
+{
+    for row in chosen {
+        put(rows, *row, number)?;
+    }
+    Ok(())
+}
+
 impl Reachability {
     /// Whether the second label, if there is one, can be reached from the first.
     pub(crate) fn leads(&self, from: usize, to: Option<usize>) -> bool
@@ -120,6 +133,12 @@ impl Reachability {
     {
         let number = made.len();
         let sources = row_with(alloc, &self.reached_from, new.parent, number)?;
+        // Most labels are seen in no other, and so reach none.
+        if new.seen_in.is_none() {
+            self.reaches.push(Vec::new(alloc))?;
+            put_each(&mut self.reaches, &sources, number)?;
+            return self.reached_from.push(sources).map_err(AllocError::from);
+        }
         let targets = row_with(alloc, &self.reaches, new.seen_in, number)?;
         self.reaches.push(Vec::new(alloc))?;
         self.reached_from.push(Vec::new(alloc))?;

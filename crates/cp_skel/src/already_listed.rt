@@ -185,7 +185,7 @@ fn listed_with_strands(
 
 /// Whether the assumptions of a skeleton are seen to stand in the order in which a report lists them. Without memory they
 /// may not be.
-pub(crate) fn is_listed(alloc: Global, skeleton: &Skeleton) -> bool
+pub fn is_listed(alloc: Global, skeleton: &Skeleton) -> bool
     ensures { IsTrue result → listed skeleton.now ≡ skeleton.now.assumptions }
 {
     let old = skeleton.assumptions();

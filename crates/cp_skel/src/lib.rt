@@ -29,6 +29,7 @@ mod used;
 mod variable_table;
 mod variables_laws;
 
+pub use already_listed::is_listed;
 pub use assumption_lists::{add_atom, add_atoms, add_unique};
 pub use assumptions::{Assumptions, UniqueAt};
 pub use changes_laws::{

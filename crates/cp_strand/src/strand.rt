@@ -129,8 +129,7 @@ impl Strand {
     }
 
     /// The strand that is this instance. If its role is small, the strand keeps its events and what its role gives it,
-    /// so that they need not be made each time; those of many large strands could take much memory. Meant for strands
-    /// that a search adds, and for what they become.
+    /// so that they need not be made each time; those of many large strands could take much memory.
     pub fn with_events(alloc: Global, instance: Instance) -> Result<Strand, AllocError>
         ensures { IfOk result (λ s. s ≡ instance_view instance) }
     {

@@ -37,12 +37,6 @@ pub leads_on : {A : Type 0} (f : A → Term) (xs new : List A) (x : A) (t next :
     HasTail (f x) → tail_of (f x) ≡ next → SpineLeads (map f new) t next
 leads_on f xs new x t next h e k n = rw (e, ← n) (leads_pushed f xs x t h k)
 
-pub has_tail_pair : (t a b : Term) → t ≡ pair_term a b → HasTail t × (tail_of t ≡ b)
-has_tail_pair t a b e = (subst HasTail (sym e) tt, ap tail_of e)
-
-pub has_tail_encryption : (t a : Term) (k : KeyTerm) → t ≡ enc_term a k → HasTail t × (tail_of t ≡ a)
-has_tail_encryption t a k e = (subst HasTail (sym e) tt, ap tail_of e)
-
 -- The topmost term of the spine that is left.
 pub popped : {A : Type 0} (f : A → Term) (xs new : List A) (x : A) (t rest : Term) → SpineLeads (map f xs) t rest → xs ≡ new ++ x ∷ [] →
     SpineLeads (map f new) t (f x) × HasTail (f x) × (tail_of (f x) ≡ rest)

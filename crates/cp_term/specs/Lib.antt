@@ -6,6 +6,7 @@ pub mod Layer
 pub mod LayerFalls
 pub mod Leaves
 pub mod Numbers
+pub mod Parts
 pub mod Preorder
 pub mod Shapes
 pub mod Size

@@ -27,6 +27,7 @@ pub enum Shape<'a> {
 
 impl Term {
     /// What the term consists of.
+    #[inline(always)]
     pub fn shape(&self) -> Shape<'_>
         ensures { HasShape result self.now }
     {
@@ -55,10 +56,12 @@ impl Term {
 pub fn is_of_sort(term: &Term, sort: Sort) -> bool
     ensures { result ≡ is_of_sort sort term.now }
 {
-    match term.shape() {
-        Shape::Variable(_, other) => other == sort,
-        Shape::Ltk(..) => sort == Sort::Skey,
-        Shape::Inverse(_) | Shape::Pubk(..) => sort == Sort::Akey,
-        Shape::Tag(_) | Shape::Pair(..) | Shape::Encryption(..) => false,
+    match term.node() {
+        Node::TextVariable(_) => sort == Sort::Text,
+        Node::DatumVariable(_) => sort == Sort::Datum,
+        Node::NameVariable(_) => sort == Sort::Name,
+        Node::SkeyVariable(_) | Node::Ltk(..) => sort == Sort::Skey,
+        Node::AkeyVariable(..) | Node::Pubk(..) => sort == Sort::Akey,
+        Node::Tag(_) | Node::Pair(..) | Node::Encryption(..) => false,
     }
 }

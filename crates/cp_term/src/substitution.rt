@@ -7,11 +7,15 @@ ghost use Rattle.cp_term.specs.Spines.{tail_of, HasTail};
 ghost use Rattle.cp_term.specs.Variables.{variable_of_sort, KeepsBelow};
 
 use crate::makers::{enc, invert, key_of_name, pair};
+use crate::parts::Parts;
 use crate::shape::Shape;
 use crate::term::{Node, Term};
 use crate::variable::VarId;
 use cp_model::Sort;
 use std::alloc::{AllocError, Global};
+
+/// For so many levels a right spine is walked by calls, which need no memory.
+const LEVELS: usize = 16;
 
 /// Gives variables terms of their sorts.
 pub trait Valuation {
@@ -192,37 +196,37 @@ fn above_under<V: Valuation>(
     requires tail { unwrap_or tail (tail_of above.now) ≡ apply_to (V.substitution values.now) (tail_of above.now) }
     ensures { IfOk result (λ changed. unwrap_or changed above.now ≡ apply_to (V.substitution values.now) above.now) }
 {
-    match above.shape() {
-        Shape::Pair(left, right) => {
-            let new_left = under(alloc, values, left)?;
+    match above.parts() {
+        Parts::Pair(left, right) => {
+            let new_left = under(alloc, values, left, LEVELS)?;
             pair_of(alloc, left, right, new_left, tail)
         }
-        Shape::Encryption(body, key) => {
+        Parts::Encryption(body, key) => {
             let new_key = leaf_under(alloc, values, key)?;
             encryption_of(alloc, body, key, tail, new_key)
         }
-        _ => unreachable!(),
+        Parts::Leaf => unreachable!(),
     }
 }
 
 /// The new term, or `None` if it does not change. The right spine is walked by loops, since it may be long.
 #[cycle(under)]
-fn under<V: Valuation>(alloc: Global, values: &V, term: &Term) -> Result<Option<Term>, AllocError>
+fn long_under<V: Valuation>(
+    alloc: Global,
+    values: &V,
+    term: &Term,
+) -> Result<Option<Term>, AllocError>
     ensures { IfOk result (λ changed. unwrap_or changed term.now ≡ apply_to (V.substitution values.now) term.now) }
 {
     let mut spine: Vec<&Term> = Vec::new(alloc);
     let mut rest = term;
     while !keeps(values, rest) {
-        match rest.shape() {
-            Shape::Pair(_, right) => {
+        match rest.tail() {
+            Some(tail) => {
                 spine.push(rest)?;
-                rest = right;
+                rest = tail;
             }
-            Shape::Encryption(body, _) => {
-                spine.push(rest)?;
-                rest = body;
-            }
-            _ => break,
+            None => break,
         }
     }
     let mut changed = leaf_under(alloc, values, rest)?;
@@ -232,10 +236,34 @@ fn under<V: Valuation>(alloc: Global, values: &V, term: &Term) -> Result<Option<
     Ok(changed)
 }
 
+/// The new term, or `None` if it does not change. The right spine is walked by calls for so many levels, and by loops
+/// below them.
+#[cycle(under)]
+fn under<V: Valuation>(
+    alloc: Global,
+    values: &V,
+    term: &Term,
+    levels: usize,
+) -> Result<Option<Term>, AllocError>
+    ensures { IfOk result (λ changed. unwrap_or changed term.now ≡ apply_to (V.substitution values.now) term.now) }
+{
+    let Some(tail) = term.tail() else {
+        return leaf_under(alloc, values, term);
+    };
+    if keeps(values, term) {
+        return Ok(None);
+    }
+    if levels == 0 {
+        return long_under(alloc, values, term);
+    }
+    let new_tail = under(alloc, values, tail, levels - 1)?;
+    above_under(alloc, values, term, new_tail)
+}
+
 /// The term with each variable replaced by what it is given. Unchanged parts are shared.
 pub fn substituted<V: Valuation>(alloc: Global, values: &V, term: &Term) -> Result<Term, AllocError>
     ensures { IfOk result (λ t. t ≡ apply_to (V.substitution values.now) term.now) }
 {
-    let changed = under(alloc, values, term)?;
+    let changed = under(alloc, values, term, LEVELS)?;
     or_copy(changed, term)
 }

@@ -31,7 +31,7 @@ use Rattle.cp_tree.proofs.Cases.{Becomes, is_dead, is_seen, is_realised, is_gene
 use Rattle.cp_tree.specs.Sound.{IsSoundMade, ExpandsSoundly}
 use Rattle.cp_tree.specs.LabelVariables.{DeclaresItsOwn}
 use Rattle.cp_escape.proofs.EscapeGuards.{first_is_in}
-use Rattle.cp_tree.proofs.AskedOn.{IsWellAsked, asked_on, last_asked}
+use Rattle.cp_tree.proofs.AskedOn.{IsWellAsked, first_sound, asked_on, last_asked}
 use Rattle.cp_tree.proofs.SoundExpansions.{well_asked}
 use Rattle.cp_tree.proofs.Settled.{IsMadeOfChild, IsMadeOfGeneralisation, made_from}
 use Rattle.cp_tree.proofs.SoundOrGeneralised.{IsSoundLabel, label_declared, where_unrealised}
@@ -52,8 +52,9 @@ module _ (protocol : Protocol) (declares : (role : Role) → IsIn role protocol.
   last_more : {q last : GuardedTest} {children : List Child} → AreWidened protocol q last children → IsWellAsked protocol q → DeclaresMore q.skeleton.variables last.skeleton.variables
   last_more (has_most {q = q} most is) well = more_itself q.skeleton.variables
   last_more (none_widens {q = q} fewer is none) well = more_itself q.skeleton.variables
-  last_more (one_widens {q = q} {last = last} {before = before} {c = c} fewer is first w rest) well =
-      more_then q.skeleton.variables c.skeleton.variables last.skeleton.variables (child_more q before c well is (first_is_in first)) (last_more rest (asked_on protocol declares q before c well is (first_is_in first) w))
+  last_more (one_widens {q = q} {last = last} {before = before} {c = c} fewer start first w rest) well =
+      let s = first_sound protocol declares q before c well start (first_is_in first) in
+      more_then q.skeleton.variables c.skeleton.variables last.skeleton.variables s.more (last_more rest (asked_on protocol declares q c well s w))
 
   -- What an expansion declares.
   record Declares (k : Skeleton) (e : Expansion) : Type 0 where

@@ -1,7 +1,7 @@
 -- The example's tree is one that the search makes.
 use Rattle.std.proofs.Common.{◌≡◌, ◌≢◌, ◌<◌, inl, inr, ℕ, zero, suc, List, [], ◌∷◌, length, map, false, true, Some, None, refl, sym, ap, ◌∙◌, subst, arith}
 use Rattle.cp_lists.specs.Lists.{item_at, IsIn, here, there, one_step}
-use Rattle.cp_lists.proofs.Members.{not_in_none, only_item}
+use Rattle.cp_lists.proofs.Members.{not_in_none, only_item, in_append_left, in_append_right}
 use Rattle.cp_model.specs.Term.{Term}
 use Rattle.cp_model.specs.declared.strand.Event.TheVariants.{Receive as recv}
 use Rattle.cp_model.specs.Bundle.{node_at}
@@ -97,8 +97,10 @@ none_first ts e (further n f) = cc
 child_gives_none : IsWidening asked one_child → ⊥
 child_gives_none w = none_first (encryptions_above w.widens.message []) (nothing_above w.widens.message) w.widens.outermost
 
-none_gives : (c : Child) → IsIn c (one_child ∷ []) → IsWidening asked c → ⊥
-none_gives c i w = child_gives_none (subst (IsWidening asked) (only_item i) w)
+none_gives : (c : Child) → IsIn c is_cohort.added → IsWidening asked c → ⊥
+none_gives c i w =
+    let listed : IsIn c (one_child ∷ []) = subst (IsIn c) (sym is_cohort.whole) (in_append_right is_cohort.contracted (in_append_right is_cohort.displaced (in_append_left is_cohort.listeners i))) in
+    child_gives_none (subst (IsWidening asked) (only_item listed) w)
 
 abbrev expansion : Expansion
 expansion = record { test = heard_test; skeleton = heard; patterns = []; children = one_child ∷ [] }

@@ -1,7 +1,7 @@
 // Two terms side by side, one level deep.
 ghost use Rattle.cp_unify.specs.Sides.{AreSides};
 
-use cp_term::{Shape, Term};
+use cp_term::{Parts, Term};
 
 /// How two terms compare one level deep: both are pairs, with their left parts first, or both are encryptions, with
 /// their keys first, and the other two parts last; or the first is a tag or of an atom sort; or the parts of the first
@@ -17,10 +17,10 @@ pub(crate) enum Sides<'a> {
 pub(crate) fn beside<'a>(first: &'a Term, second: &'a Term) -> Sides<'a>
     ensures { AreSides result first.now second.now }
 {
-    match (first.shape(), second.shape()) {
-        (Shape::Pair(a, c), Shape::Pair(b, d)) => Sides::Parts(a, b, c, d),
-        (Shape::Encryption(c, a), Shape::Encryption(d, b)) => Sides::Parts(a, b, c, d),
-        (Shape::Pair(..) | Shape::Encryption(..), _) => Sides::Apart,
-        _ => Sides::Leaf,
+    match (first.parts(), second.parts()) {
+        (Parts::Pair(a, c), Parts::Pair(b, d)) => Sides::Parts(a, b, c, d),
+        (Parts::Encryption(c, a), Parts::Encryption(d, b)) => Sides::Parts(a, b, c, d),
+        (Parts::Leaf, _) => Sides::Leaf,
+        _ => Sides::Apart,
     }
 }

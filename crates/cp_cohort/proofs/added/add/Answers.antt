@@ -1,25 +1,39 @@
-use Rattle.std.proofs.Common.{List, subst}
+use Rattle.std.proofs.Common.{List, Some, None, subst}
 use Rattle.cp_lists.proofs.Items.{item_of_read}
-use Rattle.cp_model.specs.Problem.{numbers_from}
 use Rattle.cp_model.specs.Strand.{Role}
-use Rattle.cp_cohort.specs.GatheredLists.{EachGives}
-use Rattle.cp_cohort.specs.Cohort.{AddsEvent}
-use Rattle.cp_cohort.proofs.ChildLists.{gives_all, puts_other, puts_first, puts_next, puts_last}
+use Rattle.cp_cohort.specs.Widening.{PutsUntil}
+use Rattle.cp_cohort.specs.GatheredLists.{EachGives, StartsGiving}
+use Rattle.cp_cohort.proofs.UntilGiven.{EventsOf, FirstEventsOf, until_of_map, until_first, until_next, until_found, until_last}
 use Rattle.cp_cohort.proofs.added.add.Goals as goal
 
 pub loop-role-init : goal.loop-role-init
-loop-role-init c = puts_first (λ role. EachGives (AddsEvent c.args.guarded_test.now role.value) (numbers_from 0 role.value.trace)) c.roles-all.result.now c.args.children.now.items
+loop-role-init g c =
+    until_first (g.S.GivesPatterns.gives c.args.source.now) (λ role. EventsOf c.args.guarded_test.now role.value) (λ role. FirstEventsOf c.args.guarded_test.now role.value) c.roles-all.result.now c.args.children.now.items
 
 pub loop-role-preserved : goal.loop-role-preserved
-loop-role-preserved c =
-    puts_next (λ role. EachGives (AddsEvent c.args.guarded_test.now role.value) (numbers_from 0 role.value.trace)) c.roles-all.result.now c.loop-role.role-index c.role-item.result
-    (item_of_read c.roles-all.result.now c.loop-role.role-index c.role-item.result c.loop-role-test.true c.role-item.is) _ _ _ c.loop-role.invariant c.in_ok-add_role.ensures
+loop-role-preserved g c =
+    let source = g.S.GivesPatterns.gives c.args.source.now in
+    let q = c.args.guarded_test.now in
+    let role = c.role-item.result in
+    let one : PutsUntil source (EventsOf q role.value) (FirstEventsOf q role.value) c.loop-role.children.items c.add_role.new.children.items None = rw c.in_default.is at c.in_ok-widening.ensures in
+    until_next source (λ role. EventsOf q role.value) (λ role. FirstEventsOf q role.value) c.roles-all.result.now c.loop-role.role-index role
+    (item_of_read c.roles-all.result.now c.loop-role.role-index role c.loop-role-test.true c.role-item.is) _ _ _ c.loop-role.invariant one
+
+pub returns-in-Some : goal.returns-in-Some
+returns-in-Some g c =
+    let source = g.S.GivesPatterns.gives c.args.source.now in
+    let q = c.args.guarded_test.now in
+    let role = c.role-item.result in
+    let one : PutsUntil source (EventsOf q role.value) (FirstEventsOf q role.value) c.loop-role.children.items c.add_role.new.children.items (Some c.in-Some.widening) = rw c.in-Some.is at c.in_ok-widening.ensures in
+    subst (λ (rs : List Role). PutsUntil source (EachGives (EventsOf q) rs) (StartsGiving (EventsOf q) (FirstEventsOf q) rs) c.args.children.now.items c.add_role.new.children.items (Some c.in-Some.widening)) c.roles-all.ensures
+    (until_of_map source (EventsOf q) (FirstEventsOf q) (λ r. r.value) c.roles-all.result.now c.args.children.now.items c.add_role.new.children.items (Some c.in-Some.widening)
+    (until_found source (λ role. EventsOf q role.value) (λ role. FirstEventsOf q role.value) c.roles-all.result.now c.loop-role.role-index role
+    (item_of_read c.roles-all.result.now c.loop-role.role-index role c.loop-role-test.true c.role-item.is) _ _ _ c.in-Some.widening c.loop-role.invariant one))
 
 pub returns : goal.returns
-returns c =
-    puts_other c.args.children.now.items c.loop-role.children.items
-    (λ cs e.
-    subst (λ (rs : List Role). EachGives (λ role. EachGives (AddsEvent c.args.guarded_test.now role) (numbers_from 0 role.trace)) rs cs) c.roles-all.ensures
-    (gives_all (λ role. EachGives (AddsEvent c.args.guarded_test.now role) (numbers_from 0 role.trace)) (λ r. r.value) c.roles-all.result.now cs e))
-    (puts_last (λ role. EachGives (AddsEvent c.args.guarded_test.now role.value) (numbers_from 0 role.value.trace)) c.roles-all.result.now c.loop-role.role-index c.loop-role-test.false c.args.children.now.items c.loop-role.children.items
-    c.loop-role.invariant)
+returns g c =
+    let source = g.S.GivesPatterns.gives c.args.source.now in
+    let q = c.args.guarded_test.now in
+    subst (λ (rs : List Role). PutsUntil source (EachGives (EventsOf q) rs) (StartsGiving (EventsOf q) (FirstEventsOf q) rs) c.args.children.now.items c.loop-role.children.items None) c.roles-all.ensures
+    (until_of_map source (EventsOf q) (FirstEventsOf q) (λ r. r.value) c.roles-all.result.now c.args.children.now.items c.loop-role.children.items None
+    (until_last source (λ role. EventsOf q role.value) (λ role. FirstEventsOf q role.value) c.roles-all.result.now c.loop-role.role-index c.loop-role-test.false _ _ c.loop-role.invariant))

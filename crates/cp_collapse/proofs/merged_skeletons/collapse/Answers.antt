@@ -11,7 +11,7 @@ use Rattle.cp_collapse.proofs.merged_skeletons.collapse.Goals as goal
 pub returns-then-some_lies_backward : goal.returns-then-some_lies_backward
 returns-then-some_lies_backward c =
     let p = c.args.partial.now.lowest.items in
-    backward_impossible c.args.k.now p
+    backward_impossible c.args.k.now p c.is_sound.ensures.skeleton.order_pairs
     (subst (Has (λ q. LiesOnOne p q × (q.later.index ≤ q.earlier.index))) (c.pairs.ensures ∙ c.order.ensures)
     (subst (λ xs. Has (λ q. LiesOnOne xs q × (q.later.index ≤ q.earlier.index)) c.pairs.result.now) c.deref.ensures.value (c.some_lies_backward.ensures.0 c.if-some_lies_backward.true)))
 

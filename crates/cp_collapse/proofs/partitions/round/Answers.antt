@@ -1,7 +1,6 @@
-use Rattle.std.proofs.Common.{◌∙◌, subst}
+use Rattle.std.proofs.Common.{subst}
 use Rattle.cp_lists.specs.Lists.{IsIn}
 use Rattle.cp_lists.proofs.Items.{item_of_read}
-use Rattle.cp_collapse.specs.FirstPartitions.{AreKeptApart}
 use Rattle.cp_collapse.specs.Partials.{lists}
 use Rattle.cp_collapse.proofs.PartialLists.{listed_at, partition_at, exact_item, next_partly, round_done}
 use Rattle.cp_collapse.proofs.partitions.round.Goals as goal
@@ -15,8 +14,7 @@ extend-requires-clause-exact c =
     exact_item c.args.k.now c.args.number c.args.partials.now c.loop-partial.partial-index c.partial-item.result c.requires.partials (item_of_read _ _ _ c.loop-partial-test.true c.partial-item.is)
 
 pub extend-requires-clause-apart : goal.extend-requires-clause-apart
-extend-requires-clause-apart c = λ t i.
-    subst (λ qs. AreKeptApart qs c.args.number t) (c.pairs.ensures ∙ c.order.ensures) (c.in_ok-apart.ensures t (subst (IsIn t) c.deref.ensures.value i))
+extend-requires-clause-apart c = λ t i. c.in_ok-apart.ensures c.args.k.now c.requires.apart t (subst (IsIn t) c.deref.ensures.value i)
 
 pub loop-partial-preserved : goal.loop-partial-preserved
 loop-partial-preserved c =

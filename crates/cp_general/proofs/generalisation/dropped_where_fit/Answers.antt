@@ -3,12 +3,15 @@ use Rattle.std.proofs.lemmas.Result.{IfOk-weaker}
 use Rattle.std.proofs.lemmas.Option.{IfSome_then}
 use Rattle.cp_model.specs.Skeleton.{Skeleton}
 use Rattle.cp_skel.proofs.SoundSkeletons.{sound_ordered}
-use Rattle.cp_general.proofs.Stepped.{way_begins, none_dropped, all_delete_none, all_fit, if_none_then}
+use Rattle.cp_general.proofs.Stepped.{way_begins, none_dropped, all_delete_none, all_fit, if_none_then, added_still}
 use Rattle.cp_general.proofs.generalisation.dropped_where_fit.Goals as goal
 
 pub dropped_of_all-requires-clause-fit : goal.dropped_of_all-requires-clause-fit
 dropped_of_all-requires-clause-fit c =
     all_fit c.args.k.now c.in_ok-all.all c.in_ok-all.ensures.same c.in_ok-all.ensures.before c.is_sound.ensures.skeleton.no_cycle c.requires.fit
+
+pub dropped_of_all-requires-clause-added : goal.dropped_of_all-requires-clause-added
+dropped_of_all-requires-clause-added c = added_still c.args.k.now c.in_ok-all.all c.in_ok-all.ensures.same c.args.added.now c.requires.added
 
 pub returns-clause-some : goal.returns-clause-some
 returns-clause-some c =

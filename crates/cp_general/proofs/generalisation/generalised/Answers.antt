@@ -1,5 +1,14 @@
+use Rattle.std.proofs.Common.{refl}
+use Rattle.cp_model.proofs.CarriedParts.{not_both}
+use Rattle.cp_general.proofs.SoundGeneralisations.{step_is_fit}
 use Rattle.cp_general.proofs.Stepped.{comes_first, then_goes_on, then_ends}
 use Rattle.cp_general.proofs.generalisation.generalised.Goals as goal
+
+pub dropped-requires-clause-fit : goal.dropped-requires-clause-fit
+dropped-requires-clause-fit c = λ e. absurd (not_both refl e)
+
+pub dropped-requires-2-clause-fit : goal.dropped-requires-2-clause-fit
+dropped-requires-2-clause-fit c = λ _. c.in_ok-left.ensures.fit (step_is_fit (rw c.in-Some.is at c.in_ok-first.ensures.some))
 
 pub returns-in-Some-2-clause-some : goal.returns-in-Some-2-clause-some
 returns-in-Some-2-clause-some c =

@@ -1,23 +1,6 @@
-use Rattle.std.proofs.Common.{List, subst}
 use Rattle.std.proofs.lemmas.Result.{IfOk-weaker}
-use Rattle.cp_normal.specs.Leaves.{HasOpen}
-use Rattle.cp_normal.specs.declared.rewriting.Candidate.{Candidate}
-use Rattle.cp_normal.proofs.RewritingRounds.{round_falls, reached_at_first, reached_next, reached_at_last}
+use Rattle.cp_normal.specs.Leaves.{of_item}
 use Rattle.cp_normal.proofs.rewriting.leaves.Goals as goal
 
-pub loop-candidates-init : goal.loop-candidates-init
-loop-candidates-init g c = reached_at_first (g.R.Rewriting.becomes c.args.rewriting.now) c.args.item c.in_ok-candidates.candidates.items c.in_ok-candidates.ensures
-
-pub loop-candidates-preserved : goal.loop-candidates-preserved
-loop-candidates-preserved g c = reached_next (g.R.Rewriting.becomes c.args.rewriting.now) c.args.item _ _ c.loop-candidates.invariant c.in_ok-candidates-2.ensures
-
-pub loop-candidates-smaller : goal.loop-candidates-smaller
-loop-candidates-smaller g c =
-    round_falls (g.R.Rewriting.becomes c.args.rewriting.now) g.N.Ranking.rank c.requires c.loop-candidates.candidates.items c.in_ok-candidates-2.candidates.items c.in_ok-candidates-2.ensures
-    (subst (λ (cs : List (Candidate g.row.R-Item.Denot g.row.R-Done.Denot)). HasOpen cs) c.deref.ensures.value (c.some_is_open.ensures.0 c.loop-candidates-test.true))
-
 pub returns : goal.returns
-returns g c =
-    IfOk-weaker c.results.result _ _
-    (λ leaves e. reached_at_last (g.R.Rewriting.becomes c.args.rewriting.now) c.args.item c.loop-candidates.candidates.items _ leaves.items _ c.loop-candidates.invariant c.loop-candidates-test.false c.some_is_open.ensures.1 c.deref.ensures.value e)
-    c.results.ensures
+returns g c = IfOk-weaker c.each_leaves.result _ _ (λ leaves each. of_item c.in_ok-candidates.ensures each) c.each_leaves.ensures

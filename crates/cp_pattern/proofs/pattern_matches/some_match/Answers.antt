@@ -1,23 +1,24 @@
 use Rattle.std.proofs.Common.{refl}
 use Rattle.cp_model.proofs.CarriedParts.{not_both}
+use Rattle.cp_unify.specs.Bindings.{as_substitution}
 use Rattle.cp_pattern.proofs.Matched.{one_matches, next_is_there, none_matches}
 use Rattle.cp_pattern.proofs.pattern_matches.some_match.Goals as goal
 
-pub loop-ready-init : goal.loop-ready-init
-loop-ready-init c s h = h
+pub loop-pattern-init : goal.loop-pattern-init
+loop-pattern-init c h = h
 
 pub returns-then-branch : goal.returns-then-branch
-returns-then-branch c ps s h = (
-  λ e. one_matches c.args.term.now c.args.all.now c.loop-ready.ready-index c.ready-item.result c.loop-ready-test.true c.ready-item.is _ c.in_ok-is_matched.ensures c.if-branch.true ps s h,
+returns-then-branch c = (
+  λ e. one_matches (as_substitution c.args.from.now) c.args.term.now c.args.patterns.now c.loop-pattern.pattern-index c.pattern-item.result c.loop-pattern-test.true c.pattern-item.is _ c.in_ok-matches.ensures c.if-branch.true,
   λ m. refl,
 )
 
-pub loop-ready-preserved : goal.loop-ready-preserved
-loop-ready-preserved c =
-    next_is_there c.args.term.now c.args.all.now c.loop-ready.ready-index c.ready-item.result c.loop-ready-test.true c.ready-item.is _ c.in_ok-is_matched.ensures c.if-branch.false c.loop-ready.invariant
+pub loop-pattern-preserved : goal.loop-pattern-preserved
+loop-pattern-preserved c =
+    next_is_there (as_substitution c.args.from.now) c.args.term.now c.args.patterns.now c.loop-pattern.pattern-index c.pattern-item.result c.loop-pattern-test.true c.pattern-item.is _ c.in_ok-matches.ensures c.if-branch.false c.loop-pattern.invariant
 
 pub returns : goal.returns
-returns c ps s h = (
+returns c = (
   λ e. absurd (not_both refl e),
-  λ m. absurd (none_matches c.args.term.now c.args.all.now c.loop-ready.ready-index c.loop-ready-test.false c.loop-ready.invariant ps s h m),
+  λ m. absurd (none_matches (as_substitution c.args.from.now) c.args.term.now c.args.patterns.now c.loop-pattern.pattern-index c.loop-pattern-test.false c.loop-pattern.invariant m),
 )

@@ -1,16 +1,15 @@
-use Rattle.std.proofs.Common.{List, ◌++◌, sym, ap, ◌∙◌, subst}
+use Rattle.std.proofs.Common.{List, [], ◌∷◌, ◌++◌, sym, ap, ◌∙◌, subst, append_assoc}
 use Rattle.std.proofs.lemmas.List.{get_or_default}
 use Rattle.cp_base.specs.Growing.{Grows, seen}
-use Rattle.cp_base.proofs.Grown.{grows_by_none}
+use Rattle.cp_base.proofs.Grown.{grows_by_none, grows_then, grows_seen}
 use Rattle.cp_sexpr.specs.Syntax.{Form}
-use Rattle.cp_sexpr.specs.View.{view}
+use Rattle.cp_print.specs.Order.{pair_form}
 use Rattle.cp_print.proofs.CoveredForms.{covered_here, covered_behind, covered_none}
-use Rattle.cp_print.proofs.GrownForms.{loop_next}
 use Rattle.cp_print.proofs.order.add_covered.Goals as goal
 
 pub returns-then-is_empty : goal.returns-then-is_empty
 returns-then-is_empty c =
-    let old = seen view c.args.forms.now in
+    let old = seen pair_form c.args.pairs.now in
     subst (λ (fs : List Form). Grows old old fs) (sym (covered_none c.args.ends.now c.args.x c.args.nodes.now _ c.is_empty.ensures c.if-is_empty.true)) (grows_by_none old)
 
 pub loop-y-preserved-then-not-has_node : goal.loop-y-preserved-then-not-has_node
@@ -22,6 +21,7 @@ loop-y-preserved-then-not-has_node c =
 pub loop-y-preserved : goal.loop-y-preserved
 loop-y-preserved c =
     let l = c.loop-y in
+    let done = l.invariant.0 in
     let next = covered_here c.args.nodes.now l.y-index _ c.loop-y-test.true (get_or_default c.args.nodes.now l.y-index _ _ c.loop-y-test.true) c.args.ends.now c.args.x c.has_node.result c.has_node.ensures c.if-not-has_node.false in
-    let pair = c.list.ensures _ (c.two-pair.ensures _ _ c.node_form.ensures c.node_form-in-loop-y.ensures) in
-    loop_next (seen view c.args.forms.now) (seen view l.forms) (seen view c.add.new.items) l.invariant.0 _ _ _ _ l.invariant.1 l.invariant.2 next (c.add.ensures _ pair)
+    let pair = grows_seen pair_form l.pairs c.push.new.self _ c.push.ensures in
+    (done ++ _ ∷ [], grows_then _ _ _ done _ l.invariant.1 pair, l.invariant.2 ∙ ap (λ t. done ++ t) next ∙ sym (append_assoc done (_ ∷ []) _))

@@ -1,53 +1,58 @@
-use Rattle.std.proofs.Common.{rules, ◌≡◌, ◌≤◌, [], ◌∷◌, ◌++◌, map, codes, ap, arith}
-use Rattle.std.proofs.lemmas.Result.{IfOk-weaker}
-use Rattle.cp_language.specs.Printed.{no_place, headed_list, atom_form, spine}
+use Rattle.std.proofs.Common.{rules, false, ◌≡◌, ◌≤◌, [], ◌∷◌, ◌++◌, codes, sym, ap, ◌∙◌, arith, refl}
+use Rattle.cp_base.proofs.Grown.{grows_by_none}
+use Rattle.cp_language.specs.Printed.{no_place, atom_form, spine}
+use Rattle.cp_sexpr.specs.Pieces.{space, close_parenthesis}
+use Rattle.cp_sexpr.specs.Spelling.{spelling, next_spelling}
 use Rattle.cp_sexpr.specs.Syntax.{string, none, more}
-use Rattle.cp_sexpr.specs.View.{view}
 use Rattle.cp_strand.specs.Atoms.{atom_of}
 use Rattle.cp_term.specs.Size.{term_size}
 use Rattle.cp_print.specs.Named.{named_in}
-use Rattle.cp_print.specs.Parts.{as_one}
-use Rattle.cp_print.proofs.GrownForms.{same_made}
-use Rattle.cp_print.proofs.Spines.{part_made, last_made, pair_is, encryption_is}
+use Rattle.cp_print.specs.Spelled.{item_text}
+use Rattle.cp_print.proofs.SpelledItems.{then, same_text}
+use Rattle.cp_print.proofs.Spines.{part_more, part_last, part_is, cat_is, encryption_of, encryption_is, encryption_made}
 use Rattle.cp_print.proofs.terms.+spine.Goals as goal
 
-pub loop-left-preserved : goal.loop-left-preserved
-loop-left-preserved t c =
-    let named = named_in c.args.naming.now in
+pub put_spine-loop-left-init : goal.put_spine-loop-left-init
+put_spine-loop-left-init t c = (([], grows_by_none c.args.out.now, refl), omega arith)
+
+pub put_spine-loop-left-preserved : goal.put_spine-loop-left-preserved
+put_spine-loop-left-preserved t c =
     let l = c.loop-left in
-    let left = same_made c.gathered.result _ _ (ap as_one c.in_ok-left-in-Pair.ensures) c.gathered.ensures in
-    let smaller : term_size c.in-Pair.right.now ≤ term_size c.args.term.now =
     let here = ap term_size c.in-Pair.ensures in
     let before = l.invariant.1 in
-    omega (arith, here, before) in (
-      part_made l.parts c.add.new.items (as_one (spine named c.in-Pair.left.now)) (spine named c.args.term.now) (c.add.ensures _ left) (spine named l.rest.now) (spine named c.in-Pair.right.now)
-          (pair_is named l.rest.now c.in-Pair.left.now c.in-Pair.right.now c.in-Pair.ensures) l.invariant.0,
-      smaller,
-    )
+    let smaller : term_size c.in-Pair.right.now ≤ term_size c.args.term.now = omega (arith, here, before) in
+    (part_more (named_in c.args.naming.now) l.rest.now c.args.term.now l.invariant.0 c.in-Pair.left.now c.in-Pair.right.now c.in-Pair.ensures c.put_term.ensures, smaller)
 
-pub returns-in-Encryption : goal.returns-in-Encryption
-returns-in-Encryption t c =
+pub put_spine-returns-in-Encryption : goal.put_spine-returns-in-Encryption
+put_spine-returns-in-Encryption t c =
     let named = named_in c.args.naming.now in
     let l = c.loop-left in
     let k = c.in-Encryption.ensures in
-    let body = c.in_ok-body-in-Encryption.body.items in
+    let body = c.in-Encryption.body.now in
     let key = atom_form named (atom_of c.in-Encryption.key.now) in
-    let made = c.add-in-Encryption.ensures (headed_list (codes "enc") (map view body ++ key ∷ [])) (c.encryption_form.ensures key c.atom_form-key.ensures) in
-    let is = encryption_is named l.rest.now body c.in-Encryption.body.now c.in-Encryption.key.now k.0 k.2 k.1 c.in_ok-body-in-Encryption.ensures in
-    IfOk-weaker c.finish.result _ _ (λ v e. last_made l.parts c.add-in-Encryption.new.items _ (spine named c.args.term.now) made v.items (spine named l.rest.now) is l.invariant.0 e) c.finish.ensures.ok
+    part_last named l.rest.now c.args.term.now l.invariant.0 (encryption_of named body key) (encryption_is named l.rest.now body c.in-Encryption.key.now k.0 k.2 k.1)
+    (encryption_made named body key c.append.ensures c.put_spine.ensures c.push.ensures c.put_atom.ensures c.push-in-Encryption.ensures)
 
-pub returns-in-Tag : goal.returns-in-Tag
-returns-in-Tag t c =
+pub put_spine-returns-in-Tag : goal.put_spine-returns-in-Tag
+put_spine-returns-in-Tag t c =
     let named = named_in c.args.naming.now in
     let l = c.loop-left in
-    let is : spine named l.rest.now ≡ more (string no_place c.in-Tag.text.now) none = ap (spine named) c.in-Tag.ensures in
-    IfOk-weaker c.finish-in-Tag.result _ _
-    (λ v e. last_made l.parts c.add-in-Tag.new.items _ (spine named c.args.term.now) (c.add-in-Tag.ensures _ c.quoted.ensures) v.items (spine named l.rest.now) is l.invariant.0 e) c.finish-in-Tag.ensures.ok
+    part_last named l.rest.now c.args.term.now l.invariant.0 (string no_place c.in-Tag.text.now) (ap (spine named) c.in-Tag.ensures) c.put_quoted.ensures
 
-pub returns-in-Variable : goal.returns-in-Variable
-returns-in-Variable t c =
+pub put_spine-returns-in-Variable : goal.put_spine-returns-in-Variable
+put_spine-returns-in-Variable t c =
     let named = named_in c.args.naming.now in
     let l = c.loop-left in
-    let is : spine named l.rest.now ≡ more (atom_form named (atom_of l.rest.now)) none = search rules in
-    IfOk-weaker c.finish-in-Variable.result _ _
-    (λ v e. last_made l.parts c.add-in-Variable.new.items _ (spine named c.args.term.now) (c.add-in-Variable.ensures _ c.atom_form.ensures) v.items (spine named l.rest.now) is l.invariant.0 e) c.finish-in-Variable.ensures.ok
+    let form = atom_form named (atom_of l.rest.now) in
+    let is : spine named l.rest.now ≡ more form none = search rules in
+    part_last named l.rest.now c.args.term.now l.invariant.0 form is (then (space ∷ []) (spelling form) c.push-in-Variable.ensures c.put_atom-in-Variable.ensures)
+
+pub put_term-returns-then-not-is_pair : goal.put_term-returns-then-not-is_pair
+put_term-returns-then-not-is_pair t c = same_text (part_is (named_in c.args.naming.now) c.args.term.now (sym c.is_pair.ensures ∙ c.if-not-is_pair.true)) c.put_spine.ensures
+
+pub put_term-returns : goal.put_term-returns
+put_term-returns t c =
+    let named = named_in c.args.naming.now in
+    let parts = next_spelling (spine named c.args.term.now) in
+    same_text (ap (item_text false) (sym (cat_is named c.args.term.now (sym c.is_pair.ensures ∙ c.if-not-is_pair.false))))
+    (then (codes " (cat" ++ parts) (close_parenthesis ∷ []) (then (codes " (cat") parts c.append.ensures c.put_spine-2.ensures) c.push.ensures)

@@ -1,5 +1,5 @@
 use Rattle.std.proofs.Common.{add-one, ◌≡◌, ◌<◌, length, Some, sym, subst, arith}
-use Rattle.std.proofs.lemmas.Result.{on_ok_weaker}
+use Rattle.cp_lists.proofs.Collected.{if_mapped}
 use Rattle.cp_lists.specs.Lists.{item_at}
 use Rattle.cp_model.proofs.CarriedParts.{not_both}
 use Rattle.cp_model.specs.Bindings.{bindings_of}
@@ -13,6 +13,7 @@ use Rattle.cp_derive.specs.AtNode.{SkeletonNode}
 use Rattle.cp_cohort.specs.Cohort.{is_reception, is_before, GuardedTest}
 use Rattle.cp_cohort.proofs.ChildLists.{puts_nothing, puts_other}
 use Rattle.cp_cohort.proofs.GrownReleases.{grown_pair, displaced_each}
+use Rattle.cp_cohort.proofs.UntilGiven.{until_none}
 use Rattle.cp_cohort.proofs.guarded_test.GuardedTest.displace_event.Goals as goal
 
 pub is_sent-requires : goal.is_sent-requires
@@ -45,8 +46,8 @@ pub returns : goal.returns
 returns c =
     let sent = subst (λ (r : Role). (t : Term) × (item_at r.trace c.args.index ≡ Some (send t))) c.role.ensures (c.is_sent.ensures.sent c.if-not-is_sent.false) in
     let exact = told _ c.args.self.now c.self.inside.at.now (record { strand = c.args.strand; index = c.args.index }) c.has_before.result c.self.invariant.0 c.self.view_is c.has_before.ensures in
-    on_ok_weaker c.release.result
-    (λ p. puts_other c.args.children.now.items c.release.new.children.items
+    if_mapped c.release.result c.map.result
+    (λ found u p k. puts_other c.args.children.now.items c.release.new.children.items
     (displaced_each c.args.self.now c.args.strand c.args.instance.now.role c.args.instance.now.height c.args.index (bindings_of c.args.instance.now.values) sent.0 c.requires.there sent.1
-    c.in_ok-grown.grown (c.in_ok-grown.ensures c.args.index (add-one c.args.index)).grows (λ b. not_both c.if-has_before.false (exact.1 b))) p)
-    c.release.ensures
+    c.in_ok-grown.grown (c.in_ok-grown.ensures c.args.index (add-one c.args.index)).grows (λ b. not_both c.if-has_before.false (exact.1 b))) (until_none _ _ found p))
+    c.release.ensures c.map.ensures.cases

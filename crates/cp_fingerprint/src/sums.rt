@@ -1,0 +1,144 @@
+// The values that stand at places, and beside each the sum of the weights of its places. The sums saturate.
+ghost use Rattle.std.specs.Prelude.{◌≡◌, ◌∷◌, [], length, map, IfOk, OnOk};
+ghost use Rattle.cp_model.specs.Homomorphism.{substitution_by};
+ghost use Rattle.cp_model.specs.Term.{apply_to};
+ghost use Rattle.cp_term.specs.Variables.{variable_of_sort};
+ghost use Rattle.cp_fingerprint.specs.SharedValues.{value_slots, prefix_slots, strand_slots, strung};
+ghost use Rattle.cp_fingerprint.specs.Weights.{AreAdded, AreSumsOf};
+
+use crate::shares::Place;
+use crate::slots::{place_weight, text_number};
+use crate::values::{FEW, Values};
+use cp_model::item_at;
+use cp_skel::{Instance, Role, Strand, StrandShape};
+use cp_term::{Sort, Term, VarId, is_of_sort, var};
+use std::alloc::{AllocError, Global};
+
+/// How many places there is room for from the start.
+const ROOM: usize = 64;
+
+/// A value, and the sum of the weights of some places at which it stands.
+#[derive(Drop)]
+pub(crate) struct ValueSum {
+    pub(crate) value: Term,
+    pub(crate) sum: usize,
+}
+
+/// The values that stand at some places, each once, with their sums, and the places with the numbers of their values.
+#[derive(Drop)]
+pub(crate) struct Sums {
+    pub(crate) values: Values,
+    pub(crate) sums: Vec<ValueSum>,
+    pub(crate) places: Vec<Place>,
+}
+
+impl Sums {
+    /// No places.
+    pub(crate) fn new(alloc: Global) -> Result<Sums, AllocError>
+        ensures { IfOk result (AreSumsOf []) }
+    {
+        let values = Values::new(alloc)?;
+        let sums = Vec::with_capacity(alloc, FEW)?;
+        let places = Vec::with_capacity(alloc, ROOM)?;
+        Ok(Sums {
+            values,
+            sums,
+            places,
+        })
+    }
+
+    /// Adds a place of this weight, at which the value stands.
+    fn add(&mut self, weight: usize, value: &Term) -> Result<(), AllocError>
+        ensures { OnOk result (AreAdded (record { weight = weight; value = value.now } ∷ []) self.old self.new) }
+    {
+        let number = self.values.intern(value)?;
+        self.places.push(Place { weight, number })?;
+        if number < self.sums.len() {
+            let own = &mut self.sums[number];
+            own.sum = own.sum.saturating_add(weight);
+            return Ok(());
+        }
+        let value = value.copy()?;
+        let own = ValueSum { value, sum: weight };
+        self.sums.push(own).map_err(AllocError::from)
+    }
+
+    /// Adds the places of the problem's variables, which have these values.
+    pub(crate) fn add_values(&mut self, values: &[Term]) -> Result<(), AllocError>
+        ensures { OnOk result (AreAdded (value_slots 0 values.now) self.old self.new) }
+    {
+        for (number, value) in values.iter().enumerate() {
+            self.add(place_weight(1, number), value)?;
+        }
+        Ok(())
+    }
+
+    /// Adds a place of this weight, at which the value of a role's variable stands in an instance with these terms.
+    fn add_variable(
+        &mut self,
+        alloc: Global,
+        weight: usize,
+        values: &[Term],
+        id: VarId,
+        sort: Sort,
+    ) -> Result<(), AllocError>
+        ensures { OnOk result (AreAdded (record { weight = weight; value = apply_to (substitution_by values.now) (variable_of_sort sort id) } ∷ []) self.old self.new) }
+    {
+        match item_at(values, id.number()) {
+            Some(value) if is_of_sort(value, sort) => self.add(weight, value),
+            _ => self.add(weight, &var(alloc, id, sort)?),
+        }
+    }
+
+    /// Adds the places of the variables that occur in an instance's prefix.
+    fn add_instance(&mut self, alloc: Global, instance: &Instance) -> Result<(), AllocError>
+        ensures { OnOk result (AreAdded (prefix_slots instance.now.role instance.now.height (substitution_by instance.now.values)) self.old self.new) }
+    {
+        let role: &Role = instance.role();
+        let name = text_number(role.name().as_bytes());
+        let declarations = role.variables();
+        for (number, declaration) in declarations.iter().enumerate() {
+            let id = VarId::numbered(number);
+            let sort = declaration.sort;
+            if !role.occurs_before(id, sort, instance.height()) {
+                continue;
+            }
+            self.add_variable(
+                alloc,
+                place_weight(name, number),
+                instance.values(),
+                id,
+                sort,
+            )?;
+        }
+        Ok(())
+    }
+
+    /// Adds the places of a strand's variables. A listener has none.
+    fn add_strand(&mut self, alloc: Global, strand: &Strand) -> Result<(), AllocError>
+        ensures { OnOk result (AreAdded (strand_slots strand.now) self.old self.new) }
+    {
+        match strand.shape() {
+            StrandShape::Instance(instance) => self.add_instance(alloc, instance),
+            StrandShape::Listener(_) => Ok(()),
+        }
+    }
+
+    /// Adds the places of the strands' variables, and tells how many places each strand has.
+    pub(crate) fn add_strands(
+        &mut self,
+        alloc: Global,
+        strands: &[Strand],
+    ) -> Result<Vec<usize>, AllocError>
+        ensures added { OnOk result (AreAdded (strung (map strand_slots strands.now)) self.old self.new) }
+        ensures counts { IfOk result (λ counts. counts.items ≡ map length (map strand_slots strands.now)) }
+    {
+        let mut counts = Vec::with_capacity(alloc, strands.len())?;
+        for strand in strands {
+            let before = self.places.len();
+            self.add_strand(alloc, strand)?;
+            counts.push(self.places.len().saturating_sub(before))?;
+        }
+        Ok(counts)
+    }
+}

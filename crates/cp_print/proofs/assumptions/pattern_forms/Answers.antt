@@ -1,9 +1,0 @@
-use Rattle.std.proofs.Common.{rules}
-use Rattle.cp_language.specs.Printed.{pattern_form}
-use Rattle.cp_language.specs.Report.{named_by}
-use Rattle.cp_lists.proofs.Collected.{collected_from_slice}
-use Rattle.cp_sexpr.specs.View.{view}
-use Rattle.cp_print.proofs.assumptions.pattern_forms.Goals as goal
-
-pub returns : goal.returns
-returns c = collected_from_slice view (pattern_form (named_by c.args.names.now)) c.args.patterns.now c.try_collect.result (λ x y q k. search rules) c.try_collect.ensures.runs c.map.ensures.runs c.iter.ensures.runs c.iter.ensures.rest
