@@ -12,7 +12,7 @@ use Rattle.cp_model.specs.declared.strand.Event.{Event}
 use Rattle.cp_model.specs.declared.strand.Event.TheVariants.{Send as send, Receive as recv}
 use Rattle.cp_model.specs.Bundle.{node_at}
 use Rattle.cp_model.specs.declared.node.Node.{Node}
-use Rattle.cp_model.specs.Skeleton.{SkeletonStrand, instance, listener, skeleton_trace_or_none, term_event_at, Skeleton, Before, along_pair, IsOrderPair}
+use Rattle.cp_model.specs.Skeleton.{SkeletonStrand, instance, listener, skeleton_trace_or_none, term_event_at, Skeleton, Before, along_pair, IsOrderPair, IsNodeOf}
 use Rattle.cp_model.specs.declared.tree.Operation.{Operation}
 use Rattle.cp_model.specs.declared.tree.Operation.TheVariants.{Displaced as by_displacement, AddedStrand as by_added_strand}
 use Rattle.cp_model.proofs.LawOrder.{before_wider}
@@ -146,6 +146,15 @@ module _ (q : GuardedTest) (s : ℕ) (role : Role) (height j : ℕ) (terms : Lis
     pub displaced_each : (Before q.skeleton (node_at s j) q.node → ⊥) → (cs : List Child) → ReleasesEach q (by_displacement (node_at s j)) (node_at s j) grown cs → DisplacesEvent q s role height j cs
     displaced_each not_before cs r =
         is_displaced sent not_before grows sends_there.there (r (apply_to (as_substitution sends_there.terms) t) sends_there.there)
+
+  -- An event that the strand has.
+  pub has_event : j < height → IsNodeOf q.skeleton.strands (node_at s j)
+  has_event lt = (send (apply_to (as_substitution terms) t), event_of_higher q.skeleton.strands s j role height terms (send t) on lt sent)
+
+  -- After the node it releases nothing.
+  pub displaced_after : (Before q.skeleton (node_at s j) q.node → ⊥) → (j < height) × Before q.skeleton q.node (node_at s j) → DisplacesEvent q s role height j []
+  displaced_after not_before after =
+      displaced_each q.skeleton (record { how = inl (after.0, refl) }) not_before [] (nothing_released q (by_displacement (node_at s j)) (node_at s j) q.skeleton after.1)
 
 -- ---- added
 

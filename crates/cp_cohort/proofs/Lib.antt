@@ -4,6 +4,7 @@ pub mod Positions
 pub mod ContractedChildren
 pub mod HigherStrands
 pub mod GrownReleases
+pub mod NothingAdded
 pub mod AddedListener
 pub mod OtherTables
 pub mod FitValues

@@ -1,9 +1,10 @@
 -- How a list of children grows, and how skeletons do.
-use Rattle.std.specs.Prelude.{◌≡◌, ℕ, suc, List, [], ◌∷◌, ◌++◌, length, map, Some}
+use Rattle.std.specs.Prelude.{◌≡◌, ℕ, suc, List, [], ◌∷◌, ◌++◌, length, map, Some, false}
 use Rattle.cp_lists.specs.Lists.{item_at}
 use Rattle.cp_model.specs.Term.{Term, variable_term}
 use Rattle.cp_model.specs.Strand.{payload, Role}
-use Rattle.cp_model.specs.declared.strand.Event.TheVariants.{Send as send}
+use Rattle.cp_model.specs.declared.strand.Event.{Event}
+use Rattle.cp_model.specs.declared.strand.Event.TheVariants.{Send as send, Receive as recv}
 use Rattle.cp_model.specs.declared.variable.Declaration.{Declaration}
 use Rattle.cp_model.specs.declared.node.Node.{Node}
 use Rattle.cp_model.specs.Skeleton.{term_event_at, listener, Skeleton}
@@ -12,6 +13,7 @@ use Rattle.cp_model.specs.declared.step.Step.{Step}
 use Rattle.cp_model.specs.Positions.{term_at}
 use Rattle.cp_model.specs.PrefixVariables.{prefix_variables}
 use Rattle.cp_normal.specs.Exact.{HasForms}
+use Rattle.cp_pattern.specs.Candidates.{may_equal, carries_where}
 use Rattle.cp_model.specs.Extensions.{AddsStrand}
 use Rattle.cp_strand.specs.View.{InstanceData, instance_view}
 use Rattle.cp_skel.specs.Tables.{HaveTable, DiffersInTable}
@@ -21,6 +23,11 @@ use Rattle.cp_theory.specs.Fresh.{fresh_terms}
 use Rattle.cp_cohort.specs.GatheredLists.{EachGives, StartsGiving}
 use Rattle.cp_cohort.specs.CoveringChildren.{Child, child, declarations_among, IsTransmissionBefore, HasGrown}
 use Rattle.cp_cohort.specs.Cohort.{GuardedTest, positions, Contracts, Releases, release_at}
+
+-- Event j of these is a reception, or a transmission of a message that carries nothing that values make equal to the term.
+pub data NeverSends (c : Term) (trace : List (Event Term)) (j : ℕ) : Type 0 where
+  receives : {t : Term} → item_at trace j ≡ Some (recv t) → NeverSends c trace j
+  sends_others : {t : Term} → item_at trace j ≡ Some (send t) → carries_where (may_equal c) t ≡ false → NeverSends c trace j
 
 -- A listener on the term is added as strand number s, and its transmission is put before the node.
 abbrev pub AddsListenerBefore : GuardedTest → Term → ℕ → Skeleton → Type 0

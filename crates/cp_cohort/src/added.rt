@@ -9,7 +9,7 @@ use crate::child::{Child, Made};
 use crate::grown_skeletons::with_strand;
 use crate::guarded_test::GuardedTest;
 use crate::releases::release;
-use crate::transmissions::is_sent;
+use crate::transmissions::may_send;
 use crate::widening::{GivesPatterns, Widening};
 use cp_skel::{Node, Protocol, Role};
 use std::alloc::{AllocError, Global};
@@ -27,7 +27,7 @@ fn add_event<S: GivesPatterns>(
     requires reached { index < length role.now.value.trace }
     ensures { IfOk result (PutsUntil (S.gives source.now) (AddsEvent guarded_test.now role.now.value index) (StartsEvent guarded_test.now role.now.value index) children.old.items children.new.items) }
 {
-    if !is_sent(role, index) {
+    if !may_send(role, index, guarded_test.critical) {
         return Ok(None);
     }
     guarded_test.is_test();

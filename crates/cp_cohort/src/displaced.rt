@@ -1,6 +1,7 @@
 // Displaced children: an event of an existing strand is put before the node and releases the critical term.
-ghost use Rattle.std.specs.Prelude.{◌≡◌, ◌≢◌, ◌<◌, Some, length, OnOk};
+ghost use Rattle.std.specs.Prelude.{◌≡◌, ◌≢◌, ◌<◌, Some, length, IsTrue, OnOk};
 ghost use Rattle.cp_model.specs.Problem.{numbers_from};
+ghost use Rattle.cp_model.specs.Skeleton.{Before, IsNodeOf};
 ghost use Rattle.cp_lists.specs.Lists.{item_at};
 ghost use Rattle.cp_cohort.specs.Cohort.{DisplacesEvent, DisplacesStrand};
 ghost use Rattle.cp_cohort.specs.Children.{IsThere};
@@ -17,6 +18,19 @@ use cp_skel::{Instance, Node, Strand, StrandShape};
 use std::alloc::{AllocError, Global};
 
 impl<'a> GuardedTest<'a> {
+    /// Whether an event that the instance has follows the test's node: put before it, it would close a cycle.
+    fn has_after(&self, node: Node, instance: &Instance) -> bool
+        requires { node.index < instance.now.height → IsNodeOf self.now.skeleton.strands node }
+        ensures { IsTrue result → (node.index < instance.now.height) × Before self.now.skeleton self.now.node node }
+    {
+        self.is_test();
+        if node.index >= instance.height() {
+            return false;
+        }
+        let closes = self.skeleton.before(self.node, node);
+        closes
+    }
+
     /// Appends the children for one event of the role of the instance on this strand.
     fn displace_event(
         &self,
@@ -36,6 +50,9 @@ impl<'a> GuardedTest<'a> {
         }
         let node = Node { strand, index };
         if self.at.has_before(node) {
+            return Ok(());
+        }
+        if self.has_after(node, instance) {
             return Ok(());
         }
         self.is_test();

@@ -7,7 +7,7 @@ ghost use Rattle.cp_collapse.specs.MergedStrands.{height_of, IsTallestTo, IsUnde
 ghost use Rattle.cp_collapse.specs.Partitions.{IsPartitionByRole};
 
 use crate::partitions::{Partial, is_in_block};
-use crate::substituted::strand_under;
+use crate::substituted::Substituted;
 use cp_skel::{Skeleton, Strand, StrandShape};
 use cp_unify::Subst;
 use std::alloc::{AllocError, Global};
@@ -54,7 +54,7 @@ fn merged_strand(
     requires { number < length strands.now }
     ensures { IfOk result (λ t. IsUnder strands.now number (as_substitution s.now) t) }
 {
-    strand_under(alloc, &strands[number], s)
+    strands[number].under(alloc, s)
 }
 
 /// The strands after each block is merged: its tallest strand, under the bindings.

@@ -54,10 +54,11 @@ pub(crate) fn each_under<T: Substituted + Drop>(
 ) -> Result<Vec<T>, AllocError>
     ensures { IfOk result (λ v. v.items ≡ map (T.becomes (as_substitution s.now)) items.now) }
 {
-    items
-        .iter()
-        .map(|item| item.under(alloc, s))
-        .try_collect(alloc)
+    let mut all = Vec::with_capacity(alloc, items.len())?;
+    for item in items {
+        all.push(item.under(alloc, s)?)?;
+    }
+    Ok(all)
 }
 
 impl Substituted for Term {
@@ -80,6 +81,9 @@ impl Substituted for Atom {
     }
 
     fn under(&self, alloc: Global, s: &Subst) -> Result<Atom, AllocError> {
+        if self.is_left(s) {
+            return self.copy();
+        }
         match Atom::new(apply(alloc, s, self.as_term())?) {
             Some(atom) => Ok(atom),
             None => unreachable!(),
@@ -111,8 +115,7 @@ impl Substituted for IndexedUnique {
     }
 
     fn under(&self, alloc: Global, s: &Subst) -> Result<IndexedUnique, AllocError> {
-        let value = self.value.under(alloc, s)?;
-        Ok(IndexedUnique {
+        self.value.under(alloc, s).map(|value| IndexedUnique {
             value,
             index: self.index,
         })
@@ -128,8 +131,9 @@ impl Substituted for UniqueAt {
     }
 
     fn under(&self, alloc: Global, s: &Subst) -> Result<UniqueAt, AllocError> {
-        let value = self.value().under(alloc, s)?;
-        Ok(UniqueAt::new(value, self.origin()))
+        self.value()
+            .under(alloc, s)
+            .map(|value| UniqueAt::new(value, self.origin()))
     }
 }
 
@@ -232,37 +236,35 @@ fn with_values(
     }
 }
 
-/// A strand under a substitution: applied to the term of each variable that the role of an instance declares, or to the message
-/// of a listener. If nothing changes, the strand is shared.
-pub(crate) fn strand_under(alloc: Global, strand: &Strand, s: &Subst) -> Result<Strand, AllocError>
-    ensures { IfOk result (λ t. t ≡ declared_under (as_substitution s.now) strand.now) }
-{
-    match strand.shape() {
-        StrandShape::Instance(instance) => {
-            let declarations = instance.role().variables();
-            let terms = instance.values();
-            if leaves_declared(s, declarations, terms) {
-                return strand.copy();
+/// The substitution is applied to the term of each variable that the role of an instance declares, or to the message of a
+/// listener. If nothing changes, the strand is shared.
+impl Substituted for Strand {
+    ghost becomes = { declared_under };
+
+    fn is_left(&self, s: &Subst) -> bool {
+        match self.shape() {
+            StrandShape::Instance(instance) => {
+                let declarations = instance.role().variables();
+                leaves_declared(s, declarations, instance.values())
             }
-            let values = declared_terms(alloc, declarations, terms, s)?;
-            with_values(alloc, strand, instance, values, s)
-        }
-        StrandShape::Listener(message) => {
-            if leaves(s, message) {
-                return strand.copy();
-            }
-            Strand::listener(alloc, apply(alloc, s, message)?)
+            StrandShape::Listener(message) => leaves(s, message),
         }
     }
-}
 
-fn strands_under(alloc: Global, strands: &[Strand], s: &Subst) -> Result<Vec<Strand>, AllocError>
-    ensures { IfOk result (λ v. v.items ≡ map (declared_under (as_substitution s.now)) strands.now) }
-{
-    strands
-        .iter()
-        .map(|strand| strand_under(alloc, strand, s))
-        .try_collect(alloc)
+    fn under(&self, alloc: Global, s: &Subst) -> Result<Strand, AllocError> {
+        if self.is_left(s) {
+            return self.copy();
+        }
+        match self.shape() {
+            StrandShape::Instance(instance) => {
+                let declarations = instance.role().variables();
+                let terms = instance.values();
+                let values = declared_terms(alloc, declarations, terms, s)?;
+                with_values(alloc, self, instance, values, s)
+            }
+            StrandShape::Listener(message) => { Strand::listener(alloc, apply(alloc, s, message)?) }
+        }
+    }
 }
 
 /// The skeleton under a substitution: it is applied to every term. Strands, nodes and pairs stay where they are.
@@ -272,7 +274,7 @@ pub fn under(alloc: Global, k: &Skeleton, s: &Subst) -> Result<Skeleton, AllocEr
 {
     k.is_sound();
     let variables = k.variables().copy()?;
-    let strands = strands_under(alloc, k.strands(), s)?;
+    let strands = each_under(alloc, k.strands(), s)?;
     let order = k.order().copy(alloc)?;
     let assumptions = k.assumptions().under(alloc, s)?;
     let from_problem = k.from_problem().under(alloc, s)?;

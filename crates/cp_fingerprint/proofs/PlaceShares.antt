@@ -7,10 +7,10 @@ use Rattle.cp_model.specs.Skeleton.{Skeleton}
 use Rattle.cp_model.specs.Strand.{variables_of_trace}
 use Rattle.cp_model.specs.declared.strand.Event.{Event}
 use Rattle.cp_model.proofs.SameTests.{term_is}
-use Rattle.cp_fingerprint.specs.SharedValues.{kept, strung, turned, value_slots, slots_of, listened, named_from, heard_weight, value_weight, share_from, light_share, square_share, squared, added_from}
+use Rattle.cp_fingerprint.specs.SharedValues.{kept, strung, turned, value_slots, slots_of, listened, named_from, heard_weight, value_weight, share_from, light_share, steep_share, steepened, added_from}
 use Rattle.cp_fingerprint.specs.Slots.{Slot}
 use Rattle.cp_fingerprint.specs.Values.{IsPlaceOf}
-use Rattle.cp_fingerprint.specs.Weights.{sum_beside, AreNumbered, AreSumsOf, weight_beside, placed_from, lightened}
+use Rattle.cp_fingerprint.specs.Weights.{sum_beside, AreNumbered, values_of, AreSumsOf, weight_beside, placed_from, lightened}
 use Rattle.cp_fingerprint.specs.declared.shares.Place.{Place}
 use Rattle.cp_fingerprint.specs.declared.sums.Sums.{Sums}
 use Rattle.cp_fingerprint.specs.declared.sums.ValueSum.{ValueSum}
@@ -39,16 +39,13 @@ module _ (es : List (Event Term)) (all : List Slot) where
       ∙ sym (ap (λ (c : Bool). kept (named_from (heard_weight es t) t all + (if c then v.sum else sum_beside t (map (λ v. v.value) sums) (map (λ v. v.sum) sums)))) h.0)
 
   module _ (s : Sums) (sound : AreSumsOf all s) where
-    weight_at : (t : Term) (i : ℕ) → IsPlaceOf t s.values i → get_or (map (weight_beside es all) s.sums.items) i 0 ≡ value_weight es all t
+    weight_at : (t : Term) (i : ℕ) → IsPlaceOf t (values_of s) i → get_or (map (weight_beside es all) s.sums.items) i 0 ≡ value_weight es all t
     weight_at t i h =
-        let at : IsPlaceOf t (map (λ v. v.value) s.sums.items) i = subst (λ (us : List Term). IsPlaceOf t us i) (sym sound.0) h in
-        let sum : sum_beside t (map (λ v. v.value) s.sums.items) (map (λ v. v.sum) s.sums.items) ≡ sum_beside t s.values (map (λ v. v.sum) s.sums.items) =
-        ap (λ (us : List Term). sum_beside t us (map (λ v. v.sum) s.sums.items)) sound.0 in
         let first = named_from (heard_weight es t) t all in
-        beside_at t s.sums.items i at
-        ∙ (ap (λ (n : ℕ). kept (first + n)) (sum ∙ sound.1 t) ∙ weight_with first t all (named_within (heard_weight es t) t all (heard_within (variables_of_trace es) t)))
+        beside_at t s.sums.items i h
+        ∙ (ap (λ (n : ℕ). kept (first + n)) (sound.1 t) ∙ weight_with first t all (named_within (heard_weight es t) t all (heard_within (variables_of_trace es) t)))
 
-    numbered_weighed : (xs : List Slot) (ps : List Place) → AreNumbered xs ps s.values → AreWeighed (map (weight_beside es all) s.sums.items) xs ps
+    numbered_weighed : (xs : List Slot) (ps : List Place) → AreNumbered xs ps (values_of s) → AreWeighed (map (weight_beside es all) s.sums.items) xs ps
     numbered_weighed [] [] h = tt
     numbered_weighed [] (p ∷ ps) h = absurd h
     numbered_weighed (x ∷ xs) [] h = absurd h
@@ -138,13 +135,13 @@ module _ (es : List (Event Term)) (all : List Slot) (ws : List ℕ) where
   -- With the places of these lists still to come, the two numbers become these.
   abbrev pub StillToAdd : List (List Slot) → ℕ → ℕ → List Place → ℕ → ℕ → Type 0
   StillToAdd lists key light ps whole_key whole_light =
-      AreWeighed es all ws (strung lists) ps × (added_from (square_share es all) key lists ≡ whole_key) × (added_from (light_share es all) light lists ≡ whole_light)
+      AreWeighed es all ws (strung lists) ps × (added_from (steep_share es all) key lists ≡ whole_key) × (added_from (light_share es all) light lists ≡ whole_light)
 
   pub shares_begin : (given : List Slot) (lists : List (List Slot)) (ps own later : List Place) (n key : ℕ) → AreWeighed es all ws (given ++ strung lists) ps → n ≡ length given → own ≡ take n ps →
-      later ≡ drop n ps → key ≡ placed_from ws 0 own → StillToAdd lists key 0 later (added_from (square_share es all) (share_from 0 es all given) lists) (added_from (light_share es all) 0 lists)
+      later ≡ drop n ps → key ≡ placed_from ws 0 own → StillToAdd lists key 0 later (added_from (steep_share es all) (share_from 0 es all given) lists) (added_from (light_share es all) 0 lists)
   shares_begin given lists ps own later n key are long front back is = (
     rest_weighed es all ws given (strung lists) ps n are long later back,
-    ap (λ (k : ℕ). added_from (square_share es all) k lists) (own_share es all ws given (strung lists) ps n are long own key front is),
+    ap (λ (k : ℕ). added_from (steep_share es all) k lists) (own_share es all ws given (strung lists) ps n are long own key front is),
     refl,
   )
 
@@ -157,14 +154,14 @@ module _ (es : List (Event Term)) (all : List Slot) (ws : List ℕ) where
     next_fits = places_fit es all ws next.own (strung (drop (i + 1) lists)) ps n next_weighed next.long
 
     pub shares_added : (own later : List Place) (heavy light square key light_share_before more_key more_light whole_key whole_light : ℕ) → own ≡ take n ps → later ≡ drop n ps →
-        heavy ≡ placed_from ws 0 own → light ≡ placed_from ws 0 (map lightened own) → square ≡ squared heavy → more_key ≡ kept (key + square) → more_light ≡ kept (light_share_before + light) →
-        added_from (square_share es all) key (drop i lists) ≡ whole_key → added_from (light_share es all) light_share_before (drop i lists) ≡ whole_light →
+        heavy ≡ placed_from ws 0 own → light ≡ placed_from ws 0 (map lightened own) → square ≡ steepened heavy → more_key ≡ kept (key + square) → more_light ≡ kept (light_share_before + light) →
+        added_from (steep_share es all) key (drop i lists) ≡ whole_key → added_from (light_share es all) light_share_before (drop i lists) ≡ whole_light →
         StillToAdd (drop (i + 1) lists) more_key more_light later whole_key whole_light
     shares_added own later heavy light square key light_share_before more_key more_light whole_key whole_light front back heavy_is light_is square_is key_is light_sum keys lights =
         let behind = strung (drop (i + 1) lists) in (
           rest_weighed es all ws next.own behind ps n next_weighed next.long later back,
-          number_added (square_share es all) (drop i lists) (drop (i + 1) lists) next.own next.opened key square more_key whole_key
-              (square_is ∙ ap squared (own_share es all ws next.own behind ps n next_weighed next.long own heavy front heavy_is)) key_is keys,
+          number_added (steep_share es all) (drop i lists) (drop (i + 1) lists) next.own next.opened key square more_key whole_key
+              (square_is ∙ ap steepened (own_share es all ws next.own behind ps n next_weighed next.long own heavy front heavy_is)) key_is keys,
           number_added (light_share es all) (drop i lists) (drop (i + 1) lists) next.own next.opened light_share_before light more_light whole_light
               (own_light es all ws next.own behind ps n next_weighed next.long own light front light_is) light_sum lights,
         )

@@ -1,5 +1,5 @@
 -- Role strands of a skeleton that embeds in another share values there at least as much.
-use Rattle.std.proofs.Common.{◌≡◌, ℕ, suc, ◌+◌, ◌-◌, ◌*◌, ◌^◌, ◌<◌, ◌≤◌, Bool, true, false, if◌then◌else◌, min, List, [], ◌∷◌, map, refl, sym, ap, ◌∙◌, subst, subst₂, arith, le_refl, ◌⊎◌, inl, inr}
+use Rattle.std.proofs.Common.{◌≡◌, ℕ, suc, ◌+◌, ◌-◌, ◌*◌, ◌/◌, ◌^◌, ◌<◌, ◌≤◌, Bool, true, false, if◌then◌else◌, min, List, [], ◌∷◌, map, refl, sym, ap, ◌∙◌, subst, subst₂, arith, le_refl, ◌⊎◌, inl, inr}
 use Rattle.std.specs.Prelude.{Some}
 use Rattle.std.proofs.lemmas.Bool.{cases_lt}
 use Rattle.std.proofs.Math.Nat.{min-eq_left, min-eq_right, min-le_right, mul-le-mul_left, mul-le-mul}
@@ -18,7 +18,7 @@ use Rattle.cp_model.proofs.LawTerms.{term_composed}
 use Rattle.cp_model.proofs.LawPrefixes.{variables_of_higher}
 use Rattle.cp_model.proofs.SameTests.{variable_in, in_has_variable}
 use Rattle.cp_term.proofs.SameTerms.{same_Decides}
-use Rattle.cp_fingerprint.specs.SharedValues.{place_weight, text_number, value_slots, declared_variable, declared_slots, strand_slots, strung, slots_of, listened, heard_weight, kept, weight_from, named_from, value_weight, part_of, share_from, squared, square_share, turned, light_share, added_from, bucket_key_of, light_share_of}
+use Rattle.cp_fingerprint.specs.SharedValues.{place_weight, text_number, value_slots, declared_variable, declared_slots, strand_slots, strung, slots_of, listened, heard_weight, kept, weight_from, named_from, value_weight, part_of, share_from, steepened, steep_share, turned, light_share, added_from, bucket_key_of, light_share_of}
 use Rattle.cp_fingerprint.specs.Slots.{Slot}
 use Rattle.cp_fingerprint.proofs.Listened.{heard_more, heard_within}
 use Rattle.cp_fingerprint.proofs.StrandSums.{sum_of, sum_append, sum_map, total_map, GoesToMore, GoApart, no_more_in_all}
@@ -156,9 +156,9 @@ share_within : (es : List (Event Term)) (all xs : List Slot) → share_from 0 es
 share_within es all xs =
     subst (λ (n : ℕ). n ≤ bound) (sym (share_sum es all xs)) (min-le_right (sum_of (part_of es all) xs) bound)
 
--- The square of what these places share.
-abbrev square_of : List (Event Term) → List Slot → List Slot → ℕ
-square_of es all xs = squared (kept (sum_of (part_of es all) xs))
+-- What these places share, steepened.
+abbrev steep_of : List (Event Term) → List Slot → List Slot → ℕ
+steep_of es all xs = steepened (kept (sum_of (part_of es all) xs))
 
 -- What these places share, light ones counting for more.
 abbrev light_of : List (Event Term) → List Slot → List Slot → ℕ
@@ -178,18 +178,19 @@ module _ (f g : List Slot → ℕ) (same : (xs : List Slot) → f xs ≡ g xs) w
       added_are n ss
       ∙ (sym (min-eq_left (bounded_within bound (λ s. g (strand_slots s)) n ss l)) ∙ bounded_is bound (λ s. g (strand_slots s)) n ss)
 
-squares_sum : (n : ℕ) (es : List (Event Term)) (all : List Slot) (ss : List SkeletonStrand) → n ≤ bound →
-    added_from (square_share es all) n (map strand_slots ss) ≡ kept (n + sum_of (λ s. square_of es all (strand_slots s)) ss)
-squares_sum n es all ss l = added_sum (square_share es all) (square_of es all) (λ xs. ap squared (share_sum es all xs)) n ss l
+steeps_sum : (n : ℕ) (es : List (Event Term)) (all : List Slot) (ss : List SkeletonStrand) → n ≤ bound →
+    added_from (steep_share es all) n (map strand_slots ss) ≡ kept (n + sum_of (λ s. steep_of es all (strand_slots s)) ss)
+steeps_sum n es all ss l = added_sum (steep_share es all) (steep_of es all) (λ xs. ap steepened (share_sum es all xs)) n ss l
 
 lights_sum : (es : List (Event Term)) (all : List Slot) (ss : List SkeletonStrand) →
     added_from (light_share es all) 0 (map strand_slots ss) ≡ kept (0 + sum_of (λ s. light_of es all (strand_slots s)) ss)
 lights_sum es all ss = added_sum (light_share es all) (light_of es all) (light_sum es all) 0 ss (omega arith)
 
-squared_no_more : (m n : ℕ) → m ≤ n → squared (kept m) ≤ squared (kept n)
-squared_no_more m n l =
+steepened_no_more : (m n : ℕ) → m ≤ n → steepened (kept m) ≤ steepened (kept n)
+steepened_no_more m n l =
     let h : kept m ≤ kept n = min_no_more bound m n l in
-    min_no_more bound (kept m * kept m) (kept n * kept n) (mul-le-mul h h)
+    let parts : kept m / 65536 ≤ kept n / 65536 = omega (arith, h) in
+    min_no_more bound (kept m * (kept m / 65536)) (kept n * (kept n / 65536)) (mul-le-mul h parts)
 
 -- ---- what an embedding keeps
 
@@ -358,11 +359,11 @@ module _ (a b : Skeleton) (f : SkeletonMap) (emb : IsEmbedding a b f) where
   abbrev values_there : ℕ
   values_there = share_from 0 (listened b.strands) (slots_of b) (value_slots 0 b.from_problem.values)
 
-  abbrev squares_here : ℕ
-  squares_here = sum_of (λ s. square_of (listened a.strands) (slots_of a) (strand_slots s)) a.strands
+  abbrev steeps_here : ℕ
+  steeps_here = sum_of (λ s. steep_of (listened a.strands) (slots_of a) (strand_slots s)) a.strands
 
-  abbrev squares_there : ℕ
-  squares_there = sum_of (λ s. square_of (listened b.strands) (slots_of b) (strand_slots s)) b.strands
+  abbrev steeps_there : ℕ
+  steeps_there = sum_of (λ s. steep_of (listened b.strands) (slots_of b) (strand_slots s)) b.strands
 
   values_share_less : values_here ≤ values_there
   values_share_less =
@@ -371,17 +372,17 @@ module _ (a b : Skeleton) (f : SkeletonMap) (emb : IsEmbedding a b f) where
       (sym (share_sum (listened b.strands) (slots_of b) (value_slots 0 b.from_problem.values)))
       (min_no_more bound (sum_of part_here (value_slots 0 a.from_problem.values)) (sum_of part_there (value_slots 0 b.from_problem.values)) (values_kept f part_here part_there part_more a b emb))
 
-  squares_less : squares_here ≤ squares_there
-  squares_less = strands_more f part_here part_there part_more a b emb (λ n. squared (kept n)) refl squared_no_more
+  steeps_less : steeps_here ≤ steeps_there
+  steeps_less = strands_more f part_here part_there part_more a b emb (λ n. steepened (kept n)) refl steepened_no_more
 
   bucket_key_kept : bucket_key_of a ≤ bucket_key_of b
   bucket_key_kept =
       let first = values_share_less in
-      let rest = squares_less in
+      let rest = steeps_less in
       subst₂ (λ (m n : ℕ). m ≤ n)
-      (sym (squares_sum values_here (listened a.strands) (slots_of a) a.strands (share_within (listened a.strands) (slots_of a) (value_slots 0 a.from_problem.values))))
-      (sym (squares_sum values_there (listened b.strands) (slots_of b) b.strands (share_within (listened b.strands) (slots_of b) (value_slots 0 b.from_problem.values))))
-      (min_no_more bound (values_here + squares_here) (values_there + squares_there) (let l : values_here + squares_here ≤ values_there + squares_there = omega (arith, first, rest) in l))
+      (sym (steeps_sum values_here (listened a.strands) (slots_of a) a.strands (share_within (listened a.strands) (slots_of a) (value_slots 0 a.from_problem.values))))
+      (sym (steeps_sum values_there (listened b.strands) (slots_of b) b.strands (share_within (listened b.strands) (slots_of b) (value_slots 0 b.from_problem.values))))
+      (min_no_more bound (values_here + steeps_here) (values_there + steeps_there) (let l : values_here + steeps_here ≤ values_there + steeps_there = omega (arith, first, rest) in l))
 
   abbrev lights_here : ℕ
   lights_here = sum_of (λ s. light_of (listened a.strands) (slots_of a) (strand_slots s)) a.strands

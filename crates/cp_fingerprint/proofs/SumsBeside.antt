@@ -1,5 +1,5 @@
 -- Sums of weights beside values, as places are added.
-use Rattle.std.proofs.Common.{◌≡◌, ℕ, zero, suc, ◌+◌, ◌-◌, ◌^◌, ◌<◌, ◌≤◌, Bool, true, false, if◌then◌else◌, List, [], ◌∷◌, ◌++◌, length, map, get_or, set, refl, sym, ap, ◌∙◌, subst, arith, inl, inr}
+use Rattle.std.proofs.Common.{◌≡◌, ℕ, zero, suc, ◌+◌, ◌-◌, ◌^◌, ◌<◌, ◌≤◌, Bool, true, false, if◌then◌else◌, List, [], ◌∷◌, ◌++◌, length, map, drop, get_or, set, refl, sym, ap, ◌∙◌, subst, arith, inl, inr}
 use Rattle.std.proofs.lemmas.List.{append-nil, append_assoc, length-append, length-map, map-set, map-append, set-get_or, get_or-map}
 use Rattle.std.proofs.Math.Nat.{min-eq_left}
 use Rattle.cp_model.specs.Term.{Term}
@@ -12,7 +12,7 @@ use Rattle.cp_fingerprint.specs.Weights.{sum_beside, AreNumbered, values_of, sum
 use Rattle.cp_fingerprint.specs.declared.shares.Place.{Place}
 use Rattle.cp_fingerprint.specs.declared.sums.Sums.{Sums}
 use Rattle.cp_fingerprint.specs.declared.sums.ValueSum.{ValueSum}
-use Rattle.cp_fingerprint.proofs.ValuePlaces.{first_within}
+use Rattle.cp_fingerprint.proofs.ValuePlaces.{first_within, kept_behind}
 use Rattle.cp_fingerprint.proofs.SharedMore.{weight_with}
 
 -- From the values us with the sums ns to the values vs with the sums ms: if beside each value there was a sum, there is, and each
@@ -168,42 +168,29 @@ entered_numbered x us vs p w (inr (pushed, q, absent)) xs ps h =
     let here : IsPlaceOf x.value (us ++ x.value ∷ []) p.number = subst (IsPlaceOf x.value (us ++ x.value ∷ [])) (sym q) (place_behind x.value us absent) in
     subst (AreNumbered (xs ++ x ∷ []) (ps ++ p ∷ [])) (sym pushed) (numbered_more xs ps (us ++ x.value ∷ []) x p (numbered_kept xs ps us (x.value ∷ []) h) (w, here))
 
--- ---- the values, as one enters
-
-entered_known : (t : Term) (us vs : List Term) (i : ℕ) → HasEntered t us vs i → i < length us → vs ≡ us
-entered_known t us vs i (inl (same, first)) below = same
-entered_known t us vs i (inr (pushed, q, absent)) below = absurd (omega (arith, below, q))
-
-entered_new : (t : Term) (us vs : List Term) (i : ℕ) → HasEntered t us vs i → length us ≤ i → vs ≡ us ++ t ∷ []
-entered_new t us vs i (inl (same, first)) past = let below = first_within t us i first in absurd (omega (arith, below, past))
-entered_new t us vs i (inr (pushed, q, absent)) past = pushed
-
 -- ---- a place is added to sums
 
-pub as_many : (xs : List Slot) (s : Sums) → AreSumsOf xs s → length s.sums.items ≡ length s.values
-as_many xs s h = sym (length-map s.sums.items (λ v. v.value)) ∙ ap length h.0
+as_many_sums : (s : Sums) → length (sums_of s) ≡ length (values_of s)
+as_many_sums s = length-map s.sums.items (λ v. v.sum) ∙ sym (length-map s.sums.items (λ v. v.value))
 
-as_many_sums : (xs : List Slot) (s : Sums) → AreSumsOf xs s → length (sums_of s) ≡ length s.values
-as_many_sums xs s h = length-map s.sums.items (λ v. v.sum) ∙ as_many xs s h
-
-module _ (x : Slot) (s r : Sums) (i : ℕ) (entered : HasEntered x.value s.values r.values i) (places : r.places.items ≡ s.places.items ++ record { weight = x.weight; number = i } ∷ []) where
+module _ (x : Slot) (s r : Sums) (i : ℕ) (places : r.places.items ≡ s.places.items ++ record { weight = x.weight; number = i } ∷ []) where
   one_more : length r.places.items ≡ length s.places.items + 1
   one_more = ap length places ∙ length-append s.places.items (record { weight = x.weight; number = i } ∷ [])
 
-  one_added : (before : List Slot) → AreSumsOf before s → values_of r ≡ r.values → HaveGrown (x ∷ []) s.values (sums_of s) r.values (sums_of r) → AreSumsOf (before ++ x ∷ []) r
-  one_added before h values grown = (
-    values,
-    λ t. (grown (as_many_sums before s h)).1 t ∙ (ap (λ (n : ℕ). weight_from n t (x ∷ [])) (h.1 t) ∙ weights_joined 0 t before (x ∷ [])),
-    subst (λ (ps : List Place). AreNumbered (before ++ x ∷ []) ps r.values) (sym places)
-        (entered_numbered x s.values r.values (record { weight = x.weight; number = i }) refl entered before s.places.items h.2),
+  one_added : (before : List Slot) → AreSumsOf before s → HasEntered x.value (values_of s) (values_of r) i → r.more ≡ drop 16 (values_of r) →
+      HaveGrown (x ∷ []) (values_of s) (sums_of s) (values_of r) (sums_of r) → AreSumsOf (before ++ x ∷ []) r
+  one_added before h entered more grown = (
+    more,
+    λ t. (grown (as_many_sums s)).1 t ∙ (ap (λ (n : ℕ). weight_from n t (x ∷ [])) (h.1 t) ∙ weights_joined 0 t before (x ∷ [])),
+    subst (λ (ps : List Place). AreNumbered (before ++ x ∷ []) ps (values_of r)) (sym places)
+        (entered_numbered x (values_of s) (values_of r) (record { weight = x.weight; number = i }) refl entered before s.places.items h.2),
   )
 
   pub known_added : (own grown : ValueSum) → i < length s.sums.items → own ≡ get_or s.sums.items i own → grown.value ≡ own.value → grown.sum ≡ kept (own.sum + x.weight) →
-      r.sums.items ≡ set s.sums.items i grown → AreAdded (x ∷ []) s r
-  known_added own grown below at value sum now = record {
+      r.sums.items ≡ set s.sums.items i grown → r.more ≡ s.more → (s.more ≡ drop 16 (values_of s) → IsPlaceOf x.value (values_of s) i) → AreAdded (x ∷ []) s r
+  known_added own grown below at value sum now table found = record {
     count = one_more;
     sums = λ before h.
-        let same : r.values ≡ s.values = entered_known x.value s.values r.values i entered (omega (arith, below, as_many before s h)) in
         let read : get_or (values_of s) i own.value ≡ own.value = get_or-map (λ (v : ValueSum). v.value) s.sums.items i own own.value below ∙ ap (λ (v : ValueSum). v.value) (sym at) in
         let kept_values : values_of r ≡ values_of s =
         ap (map (λ (v : ValueSum). v.value)) now ∙ map-set (λ (v : ValueSum). v.value) s.sums.items i grown ∙ ap (set (values_of s) i) (value ∙ sym read) ∙ set-get_or (values_of s) i own.value in
@@ -211,48 +198,52 @@ module _ (x : Slot) (s r : Sums) (i : ℕ) (entered : HasEntered x.value s.value
         let sums : sums_of r ≡ set (sums_of s) i (kept (get_or (sums_of s) i own.sum + x.weight)) =
         ap (map (λ (v : ValueSum). v.sum)) now ∙ map-set (λ (v : ValueSum). v.sum) s.sums.items i grown ∙ ap (set (sums_of s) i) (sum ∙ ap (λ (n : ℕ). kept (n + x.weight)) (sym sum_read)) in
         let within : i < length (sums_of s) = subst (λ (n : ℕ). i < n) (sym (length-map s.sums.items (λ (v : ValueSum). v.sum))) below in
-        one_added before h (kept_values ∙ h.0 ∙ sym same) (known_grown x s.values r.values (sums_of s) (sums_of r) i entered own.sum within sums);
+        let entered : HasEntered x.value (values_of s) (values_of r) i = inl (kept_values, found h.0) in
+        one_added before h entered (table ∙ (h.0 ∙ ap (drop 16) (sym kept_values))) (known_grown x (values_of s) (values_of r) (sums_of s) (sums_of r) i entered own.sum within sums);
   }
 
-  pub new_added : (own : ValueSum) → length s.sums.items ≤ i → x.weight ≤ 2 ^ 64 - 1 → own.value ≡ x.value → own.sum ≡ x.weight → r.sums.items ≡ s.sums.items ++ own ∷ [] → AreAdded (x ∷ []) s r
-  new_added own past small value sum now = record {
+  pub new_added : (own : ValueSum) → i ≡ length s.sums.items → x.weight ≤ 2 ^ 64 - 1 → own.value ≡ x.value → own.sum ≡ x.weight → r.sums.items ≡ s.sums.items ++ own ∷ [] →
+      (i < 16 → r.more ≡ s.more) → (16 ≤ i → IsAbsent x.value s.more → r.more ≡ s.more ++ x.value ∷ []) →
+      (s.more ≡ drop 16 (values_of s) → IsAbsent x.value (values_of s)) → AreAdded (x ∷ []) s r
+  new_added own last small value sum now few further absent = record {
     count = one_more;
     sums = λ before h.
-        let pushed : r.values ≡ s.values ++ x.value ∷ [] = entered_new x.value s.values r.values i entered (omega (arith, past, as_many before s h)) in
+        let long : length (values_of s) ≡ i = length-map s.sums.items (λ (v : ValueSum). v.value) ∙ sym last in
         let values : values_of r ≡ values_of s ++ x.value ∷ [] =
         ap (map (λ (v : ValueSum). v.value)) now ∙ map-append (λ (v : ValueSum). v.value) s.sums.items (own ∷ []) ∙ ap (λ (t : Term). values_of s ++ t ∷ []) value in
         let sums : sums_of r ≡ sums_of s ++ x.weight ∷ [] =
         ap (map (λ (v : ValueSum). v.sum)) now ∙ map-append (λ (v : ValueSum). v.sum) s.sums.items (own ∷ []) ∙ ap (λ (n : ℕ). sums_of s ++ n ∷ []) sum in
-        let behind : length (sums_of s) ≤ i = subst (λ (n : ℕ). n ≤ i) (sym (length-map s.sums.items (λ (v : ValueSum). v.sum))) past in
-        one_added before h (values ∙ ap (λ (us : List Term). us ++ x.value ∷ []) h.0 ∙ sym pushed) (new_grown x s.values r.values (sums_of s) (sums_of r) i entered behind small sums);
+        let behind : length (sums_of s) ≤ i = let e = as_many_sums s in omega (arith, e, long) in
+        let entered : HasEntered x.value (values_of s) (values_of r) i = inr (values, sym long, absent h.0) in
+        let more : r.more ≡ drop 16 (values_of s ++ x.value ∷ []) =
+        kept_behind x.value (values_of s) s.more r.more h.0 (λ l. few (omega (arith, l, long))) (λ l none. further (omega (arith, l, long)) none) (absent h.0) in
+        one_added before h entered (more ∙ ap (drop 16) (sym values)) (new_grown x (values_of s) (values_of r) (sums_of s) (sums_of r) i entered behind small sums);
   }
 
 -- ---- the weight of a value
 
 module _ (t : Term) (s : Sums) (slots all : List Slot) (sound : AreSumsOf slots s) (are : slots ≡ all) (n : ℕ) (within : n ≤ 2 ^ 64 - 1) where
-  with_sum : (m : ℕ) → sum_beside t s.values (sums_of s) ≡ m → kept (n + m) ≡ weight_from n t all
+  with_sum : (m : ℕ) → sum_beside t (values_of s) (sums_of s) ≡ m → kept (n + m) ≡ weight_from n t all
   with_sum m is =
       let sum : m ≡ weight_from 0 t slots = sym is ∙ sound.1 t in
       ap (λ (k : ℕ). kept (n + k)) sum ∙ (weight_with n t slots within ∙ ap (weight_from n t) are)
 
-  pub weight_found : (i m : ℕ) (own : ValueSum) → IsPlaceOf t s.values i → i < length s.sums.items → own ≡ get_or s.sums.items i own → m ≡ kept (n + own.sum) → m ≡ weight_from n t all
+  pub weight_found : (i m : ℕ) (own : ValueSum) → IsPlaceOf t (values_of s) i → i < length s.sums.items → own ≡ get_or s.sums.items i own → m ≡ kept (n + own.sum) → m ≡ weight_from n t all
   weight_found i m own first below at now =
       let sum_read : get_or (sums_of s) i own.sum ≡ own.sum = get_or-map (λ (v : ValueSum). v.sum) s.sums.items i own own.sum below ∙ ap (λ (v : ValueSum). v.sum) (sym at) in
-      now ∙ with_sum own.sum (sum_first t s.values (sums_of s) i own.sum first (as_many_sums slots s sound) ∙ sum_read)
+      now ∙ with_sum own.sum (sum_first t (values_of s) (sums_of s) i own.sum first (as_many_sums s) ∙ sum_read)
 
-  pub weight_unfound : IsAbsent t s.values → n ≡ weight_from n t all
+  pub weight_unfound : IsAbsent t (values_of s) → n ≡ weight_from n t all
   weight_unfound absent =
       let none : n + 0 ≡ n = omega arith in
-      sym (ap kept none ∙ min-eq_left within) ∙ with_sum 0 (sum_absent t s.values (sums_of s) absent)
-
-pub found_below : (t : Term) (s : Sums) (slots : List Slot) (i : ℕ) → AreSumsOf slots s → IsPlaceOf t s.values i → i < length s.sums.items
-found_below t s slots i sound first = let l = first_within t s.values i first in omega (arith, l, as_many slots s sound)
+      sym (ap kept none ∙ min-eq_left within) ∙ with_sum 0 (sum_absent t (values_of s) (sums_of s) absent)
 
 -- ---- one place after another
 
-pub empty_sums : (s : Sums) → s.values ≡ [] → s.sums.items ≡ [] → s.places.items ≡ [] → AreSumsOf [] s
-empty_sums s values sums places =
-    (ap (map (λ (v : ValueSum). v.value)) sums ∙ sym values, λ t. ap (λ (us : List Term). sum_beside t us (sums_of s)) values, subst (λ (ps : List Place). AreNumbered [] ps s.values) (sym places) tt)
+pub empty_sums : (s : Sums) → s.more ≡ [] → s.sums.items ≡ [] → s.places.items ≡ [] → AreSumsOf [] s
+empty_sums s more sums places =
+    let values : values_of s ≡ [] = ap (map (λ (v : ValueSum). v.value)) sums in
+    (more ∙ sym (ap (drop 16) values), λ t. ap (λ (us : List Term). sum_beside t us (sums_of s)) values, subst (λ (ps : List Place). AreNumbered [] ps (values_of s)) (sym places) tt)
 
 pub none_added : (s : Sums) → AreAdded [] s s
 none_added s = record { count = omega arith; sums = λ before h. subst (λ (xs : List Slot). AreSumsOf xs s) (sym (append-nil before)) h }

@@ -1,6 +1,6 @@
 -- The bucket key and the light share: two numbers that tell how the role strands of a skeleton share values. No embedding makes either
 -- smaller.
-use Rattle.std.specs.Prelude.{◌+◌, ◌-◌, ◌*◌, ◌%◌, ◌^◌, ℕ, suc, Bool, true, List, [], ◌∷◌, ◌++◌, min, map, if◌then◌else◌, Vec}
+use Rattle.std.specs.Prelude.{◌+◌, ◌-◌, ◌*◌, ◌%◌, ◌/◌, ◌^◌, ℕ, suc, Bool, true, List, [], ◌∷◌, ◌++◌, min, map, if◌then◌else◌, Vec}
 use Rattle.cp_model.specs.Term.{skey_variable, ltk_term, pubk_term, symmetric_term, asymmetric_term, text_variable, datum_variable, name_variable, key_term, Term, tag_term, atom_term, pair_term, enc_term, Substitution, apply_to, variable_term}
 use Rattle.cp_model.specs.Bindings.{as_substitution}
 use Rattle.cp_model.specs.declared.sort.Sort.TheVariants.{Text as text_sort, Datum as datum_sort, Name as name_sort, Skey as skey_sort}
@@ -113,12 +113,13 @@ abbrev pub share_from : ℕ → List (Event Term) → List Slot → List Slot �
 share_from n es all [] = n
 share_from n es all (x ∷ xs) = share_from (kept (n + part_of es all x)) es all xs
 
-abbrev pub squared : ℕ → ℕ
-squared n = kept (n * n)
+-- A number as often as 2 ^ 16 goes into it: the more, the greater the number, and faster than it.
+abbrev pub steepened : ℕ → ℕ
+steepened n = kept (n * (n / 65536))
 
--- How much these places share with all places, squared.
-abbrev pub square_share : List (Event Term) → List Slot → List Slot → ℕ
-square_share es all xs = squared (share_from 0 es all xs)
+-- How much these places share with all places, steepened.
+abbrev pub steep_share : List (Event Term) → List Slot → List Slot → ℕ
+steep_share es all xs = steepened (share_from 0 es all xs)
 
 -- The place, which weighs the more the less it did.
 abbrev pub turned : Slot → Slot
@@ -133,13 +134,13 @@ abbrev pub added_from : (List Slot → ℕ) → ℕ → List (List Slot) → ℕ
 added_from f n [] = n
 added_from f n (xs ∷ xss) = added_from f (kept (n + f xs)) xss
 
--- How much the places of the problem's variables share, and for each role strand how much its own places share, squared, all
+-- How much the places of the problem's variables share, and for each role strand how much its own places share, steepened, all
 -- added up. A plain sum would be the same however the places that share are spread over the strands.
 abbrev pub bucket_key_of : Skeleton → ℕ
 bucket_key_of k =
     let es = listened k.strands in
     let all = slots_of k in
-    added_from (square_share es all) (share_from 0 es all (value_slots 0 k.from_problem.values)) (map strand_slots k.strands)
+    added_from (steep_share es all) (share_from 0 es all (value_slots 0 k.from_problem.values)) (map strand_slots k.strands)
 
 -- For each role strand how much its own places share, light ones counting for more, all added up. Of two skeletons in which the same
 -- values stand at other places, one may have the greater bucket key; the other mostly has the greater light share.

@@ -1,5 +1,5 @@
 -- Sums of weights beside values.
-use Rattle.std.specs.Prelude.{◌≡◌, ◌+◌, ◌-◌, ◌*◌, ⊤, ℕ, List, [], ◌∷◌, ◌++◌, length, map, get_or, if◌then◌else◌}
+use Rattle.std.specs.Prelude.{◌≡◌, ◌+◌, ◌-◌, ◌*◌, ⊤, ℕ, List, [], ◌∷◌, ◌++◌, length, drop, map, get_or, if◌then◌else◌}
 use Rattle.cp_model.specs.Term.{Term}
 use Rattle.cp_model.specs.Same.{same_term}
 use Rattle.cp_model.specs.declared.strand.Event.{Event}
@@ -29,9 +29,10 @@ values_of s = map (λ v. v.value) s.sums.items
 abbrev pub sums_of : Sums → List ℕ
 sums_of s = map (λ v. v.sum) s.sums.items
 
--- The sum of each value is the weight of those of these places at which it stands, and the places are numbered.
+-- The table has the values behind the first few; the sum of each value is the weight of those of these places at which it stands; and
+-- the places are numbered.
 abbrev pub AreSumsOf : List Slot → Sums → Type 0
-AreSumsOf xs s = (values_of s ≡ s.values) × ((t : Term) → sum_beside t s.values (sums_of s) ≡ weight_from 0 t xs) × AreNumbered xs s.places.items s.values
+AreSumsOf xs s = (s.more ≡ drop 16 (values_of s)) × ((t : Term) → sum_beside t (values_of s) (sums_of s) ≡ weight_from 0 t xs) × AreNumbered xs s.places.items (values_of s)
 
 -- From the sums s to the sums r these places are added.
 pub record AreAdded (xs : List Slot) (s r : Sums) : Type 0 where

@@ -1,10 +1,8 @@
 // What the listeners of a skeleton hear.
-ghost use Rattle.std.specs.Prelude.{◌≡◌, IfOk};
-ghost use Rattle.cp_model.specs.Strand.{variables_of_trace};
-ghost use Rattle.cp_fingerprint.specs.SharedValues.{listened, is_heard, heard_weight};
+ghost use Rattle.std.specs.Prelude.{◌≡◌, if◌then◌else◌, IfOk};
+ghost use Rattle.cp_fingerprint.specs.SharedValues.{listened};
 
-use cp_skel::{Event, Strand, StrandShape, occurs};
-use cp_term::{Shape, Sort, Term};
+use cp_skel::{Event, Strand, StrandShape};
 use std::alloc::{AllocError, Global};
 
 /// The messages of the listeners.
@@ -21,20 +19,9 @@ pub(crate) fn listened(alloc: Global, strands: &[Strand]) -> Result<Vec<Event>, 
     Ok(events)
 }
 
-/// Whether the value occurs in these events, if it is a variable of a sort other than that of key pairs. Every other value counts
-/// as occurring, since a variable may map to it.
-fn is_heard(events: &[Event], value: &Term) -> bool
-    ensures { result ≡ is_heard (variables_of_trace events.now) value.now }
+/// The weight for whether listeners hear a value.
+pub(crate) fn heard_weight(heard: bool) -> usize
+    ensures { result ≡ (if heard then 4099 else 0) }
 {
-    match value.shape() {
-        Shape::Variable(id, sort) => sort == Sort::Akey || occurs(events, id, sort),
-        _ => true,
-    }
-}
-
-/// The weight for a value that listeners hear.
-pub(crate) fn heard_weight(events: &[Event], value: &Term) -> usize
-    ensures { result ≡ heard_weight events.now value.now }
-{
-    if is_heard(events, value) { 4099 } else { 0 }
+    if heard { 4099 } else { 0 }
 }

@@ -1,17 +1,18 @@
 // The values that stand at places, and beside each the sum of the weights of its places. The sums saturate.
-ghost use Rattle.std.specs.Prelude.{◌≡◌, ◌∷◌, [], length, map, IfOk, OnOk};
+ghost use Rattle.std.specs.Prelude.{◌≡◌, ◌<◌, ◌∷◌, [], length, drop, map, IfSome, IfOk, OnOk};
 ghost use Rattle.cp_model.specs.Homomorphism.{substitution_by};
 ghost use Rattle.cp_model.specs.Term.{apply_to};
 ghost use Rattle.cp_term.specs.Variables.{variable_of_sort};
 ghost use Rattle.cp_fingerprint.specs.SharedValues.{value_slots, prefix_slots, strand_slots, strung};
-ghost use Rattle.cp_fingerprint.specs.Weights.{AreAdded, AreSumsOf};
+ghost use Rattle.cp_fingerprint.specs.Values.{IsFoundAmong, IsAbsent};
+ghost use Rattle.cp_fingerprint.specs.Weights.{values_of, AreAdded, AreSumsOf};
 
 use crate::shares::Place;
 use crate::slots::{place_weight, text_number};
-use crate::values::{FEW, Values};
+use crate::values::{FEW, find_among_few, keep};
 use cp_model::item_at;
 use cp_skel::{Instance, Role, Strand, StrandShape};
-use cp_term::{Sort, Term, VarId, is_of_sort, var};
+use cp_term::{Sort, Term, TermTable, VarId, is_of_sort, var};
 use std::alloc::{AllocError, Global};
 
 /// How many places there is room for from the start.
@@ -24,11 +25,12 @@ pub(crate) struct ValueSum {
     pub(crate) sum: usize,
 }
 
-/// The values that stand at some places, each once, with their sums, and the places with the numbers of their values.
+/// The values that stand at some places, each once, with their sums; a table of those behind the first few; and the places with the
+/// numbers of their values.
 #[derive(Drop)]
 pub(crate) struct Sums {
-    pub(crate) values: Values,
     pub(crate) sums: Vec<ValueSum>,
+    pub(crate) more: TermTable,
     pub(crate) places: Vec<Place>,
 }
 
@@ -37,30 +39,62 @@ impl Sums {
     pub(crate) fn new(alloc: Global) -> Result<Sums, AllocError>
         ensures { IfOk result (AreSumsOf []) }
     {
-        let values = Values::new(alloc)?;
         let sums = Vec::with_capacity(alloc, FEW)?;
         let places = Vec::with_capacity(alloc, ROOM)?;
         Ok(Sums {
-            values,
             sums,
+            more: TermTable::new(alloc),
             places,
         })
+    }
+
+    /// The number of this value, if it is one of them.
+    pub(crate) fn find(&self, value: &Term) -> Option<usize>
+        ensures there { IfSome result (λ i. i < length self.now.sums.items) }
+        ensures found { self.now.more ≡ drop 16 (values_of self.now) → IsFoundAmong value.now (values_of self.now) result }
+    {
+        if let Some(number) = find_among_few(&self.sums, value) {
+            return Some(number);
+        }
+        if self.sums.len() <= FEW {
+            return None;
+        }
+        let id = self.more.find(value)?;
+        let number = FEW.saturating_add(id.number());
+        if number < self.sums.len() {
+            return Some(number);
+        }
+        None
+    }
+
+    /// Adds a place of this weight, at which a value stands that is none of the values so far.
+    fn add_new(&mut self, weight: usize, value: &Term) -> Result<(), AllocError>
+        ensures { (self.old.more ≡ drop 16 (values_of self.old) → IsAbsent value.now (values_of self.old))
+            → OnOk result (AreAdded (record { weight = weight; value = value.now } ∷ []) self.old self.new) }
+    {
+        let number = self.sums.len();
+        keep(&mut self.more, number, value)?;
+        let value = value.copy()?;
+        self.sums.push(ValueSum { value, sum: weight })?;
+        self.places
+            .push(Place { weight, number })
+            .map_err(AllocError::from)
     }
 
     /// Adds a place of this weight, at which the value stands.
     fn add(&mut self, weight: usize, value: &Term) -> Result<(), AllocError>
         ensures { OnOk result (AreAdded (record { weight = weight; value = value.now } ∷ []) self.old self.new) }
     {
-        let number = self.values.intern(value)?;
-        self.places.push(Place { weight, number })?;
-        if number < self.sums.len() {
-            let own = &mut self.sums[number];
-            own.sum = own.sum.saturating_add(weight);
-            return Ok(());
+        match self.find(value) {
+            Some(number) => {
+                let own = &mut self.sums[number];
+                own.sum = own.sum.saturating_add(weight);
+                self.places
+                    .push(Place { weight, number })
+                    .map_err(AllocError::from)
+            }
+            None => self.add_new(weight, value),
         }
-        let value = value.copy()?;
-        let own = ValueSum { value, sum: weight };
-        self.sums.push(own).map_err(AllocError::from)
     }
 
     /// Adds the places of the problem's variables, which have these values.

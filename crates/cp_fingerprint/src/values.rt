@@ -1,93 +1,52 @@
-// Values, and their numbers among them.
-ghost use Rattle.std.specs.Prelude.{◌≡◌, [], IfOk};
-ghost use Rattle.cp_fingerprint.specs.Values.{IsFoundAmong, HasEntered};
+// Values beside their sums, and their numbers among them.
+ghost use Rattle.std.specs.Prelude.{◌≡◌, ◌<◌, ◌≤◌, ◌++◌, ◌∷◌, [], map, take, OnOk};
+ghost use Rattle.cp_fingerprint.specs.Values.{IsFoundAmong, IsAbsent};
 
+use crate::sums::ValueSum;
 use cp_term::{Term, TermTable};
-use std::alloc::{AllocError, Global};
-use std::marker::Model;
+use std::alloc::AllocError;
 
 /// How many values are looked for one after another.
 pub(crate) const FEW: usize = 16;
 
-/// How many further values can have a number; no memory holds as many.
-const MORE: usize = usize::MAX - FEW;
-
-/// Values, each once, in the order in which they were first put in. The first few are looked for one after another, all
-/// further ones in a table.
-#[derive(Drop)]
-pub(crate) struct Values {
-    few: Vec<Term>,
-    more: TermTable,
-}
-
-impl Model for Values {
-    ghost use Rattle.std.specs.Prelude.{◌≡◌, ◌++◌, ◌<◌, ◌≤◌, ◌+◌, ◌^◌, List, [], length};
-    ghost use Rattle.std.specs.Coded.{coded_list};
-    ghost use Rattle.cp_model.specs.Term.{Term as Plain};
-    ghost use Rattle.cp_term.specs.Code.{coded_term};
-
-    ghost Value = { List Plain };
-
-    ghost coded = { coded_list coded_term };
-
-    ghost view = { λ v. v.few.items ++ v.more };
-
-    ghost invariant = { λ v. (length v.few.items ≤ 16) × (length v.few.items < 16 → v.more ≡ []) × (length v.more + 16 < 2 ^ 64) };
+/// The first few values.
+fn few_of(values: &[ValueSum]) -> &[ValueSum]
+    ensures { result.now ≡ take 16 values.now }
+{
+    if values.len() < FEW {
+        return values;
+    }
+    let (few, _) = values.split_at(FEW);
+    few
 }
 
 /// The number of the first value that is this one, if one is.
-fn place_among(values: &[Term], value: &Term) -> Option<usize>
-    ensures { IsFoundAmong value.now values.now result }
+fn place_among(values: &[ValueSum], value: &Term) -> Option<usize>
+    ensures { IsFoundAmong value.now (map (λ v. v.value) values.now) result }
 {
     for (number, other) in values.iter().enumerate() {
-        if other.same(value) {
+        if other.value.same(value) {
             return Some(number);
         }
     }
     None
 }
 
-impl Values {
-    /// No values.
-    pub(crate) fn new(alloc: Global) -> Result<Values, AllocError>
-        ensures { IfOk result (λ v. v ≡ []) }
-    {
-        let few = Vec::with_capacity(alloc, FEW)?;
-        Ok(Values {
-            few,
-            more: TermTable::new(alloc),
-        })
-    }
+/// The number of the first value that is this one, if it is one of the first few.
+pub(crate) fn find_among_few(values: &[ValueSum], value: &Term) -> Option<usize>
+    ensures { IsFoundAmong value.now (map (λ v. v.value) (take 16 values.now)) result }
+{
+    place_among(few_of(values), value)
+}
 
-    /// The number of this value. It is put behind the others if it is none of them.
-    pub(crate) fn intern(&mut self, value: &Term) -> Result<usize, AllocError>
-        ensures { IfOk result (λ i. HasEntered value.now self.old self.new i) }
-    {
-        if let Some(number) = place_among(&self.few, value) {
-            return Ok(number);
-        }
-        let number = self.few.len();
-        if number < FEW {
-            let value = value.copy()?;
-            self.few.push(value)?;
-            return Ok(number);
-        }
-        if self.more.len() >= MORE {
-            return Err(AllocError);
-        }
-        let id = self.more.intern(value)?;
-        self.more.ids_tell_terms_apart();
-        Ok(number + id.number())
+/// Puts the value with this number into the table, unless it is one of the first few.
+pub(crate) fn keep(more: &mut TermTable, number: usize, value: &Term) -> Result<(), AllocError>
+    ensures few { number < 16 → OnOk result (more.new ≡ more.old) }
+    ensures further { 16 ≤ number → IsAbsent value.now more.old → OnOk result (more.new ≡ more.old ++ value.now ∷ []) }
+{
+    if number < FEW {
+        return Ok(());
     }
-
-    /// The number of this value, if it is one of them.
-    pub(crate) fn find(&self, value: &Term) -> Option<usize>
-        ensures { IsFoundAmong value.now self.now result }
-    {
-        if let Some(number) = place_among(&self.few, value) {
-            return Some(number);
-        }
-        let id = self.more.find(value)?;
-        Some(self.few.len() + id.number())
-    }
+    more.intern(value)?;
+    Ok(())
 }

@@ -1,12 +1,12 @@
 // The weights of the values that stand at the places of a skeleton, and how its role strands share them. The sums saturate.
 ghost use Rattle.std.specs.Prelude.{◌≡◌, map, IfOk};
-ghost use Rattle.cp_fingerprint.specs.SharedValues.{slots_of, weight_from, named_from, bucket_key_of, light_share_of};
+ghost use Rattle.cp_fingerprint.specs.SharedValues.{slots_of, weight_from, heard_weight, named_from, steepened, bucket_key_of, light_share_of};
 ghost use Rattle.cp_fingerprint.specs.Weights.{weight_beside};
 
 use crate::heard::{heard_weight, listened};
 use crate::shares::shares_of;
 use crate::sums::{Sums, ValueSum};
-use cp_skel::{Event, Skeleton};
+use cp_skel::{Event, Skeleton, occurs};
 use cp_term::{Shape, Sort, Term, var};
 use std::alloc::{AllocError, Global};
 use std::marker::Model;
@@ -39,35 +39,39 @@ impl<'a> Model for Weights<'a> {
 /// The numbers for how the role strands of a skeleton share values.
 #[derive(Clone, Copy)]
 pub(crate) struct ShareNumbers {
-    /// The share of the problem's places, plus the square of the share of each strand's places.
+    /// The share of the problem's places, plus the steepened share of each strand's places.
     pub(crate) bucket_key: usize,
     /// The share of each strand's places, light ones counting for more.
     pub(crate) light_share: usize,
 }
 
-/// The weight `first` plus the weights of the places at which the names of a key stand. The second name of a long-term key counts
-/// twice.
-fn names_weight(
+/// The weight of a value apart from its own places: for being heard, which every value counts as but a variable of a sort other than
+/// that of key pairs, since a variable may map to it; and for the places of its names, if it is a key. The second name of a long-term
+/// key counts twice.
+fn first_weight(
     alloc: Global,
-    first: usize,
-    value: &Term,
+    heard: &[Event],
     weights: &Weights,
+    value: &Term,
 ) -> Result<usize, AllocError>
-    ensures { IfOk result (λ n. n ≡ named_from first value.now (slots_of weights.now)) }
+    ensures { IfOk result (λ n. n ≡ named_from (heard_weight heard.now value.now) value.now (slots_of weights.now)) }
 {
     match value.shape() {
+        Shape::Variable(id, sort) => Ok(heard_weight(
+            sort == Sort::Akey || occurs(heard, id, sort),
+        )),
         Shape::Ltk(a, b) => {
             let a = var(alloc, a, Sort::Name)?;
             let b = var(alloc, b, Sort::Name)?;
-            let weight = weights.with(first, &a);
+            let weight = weights.with(heard_weight(true), &a);
             let weight = weights.with(weight, &b);
             Ok(weights.with(weight, &b))
         }
         Shape::Pubk(_, _, a) => {
             let a = var(alloc, a, Sort::Name)?;
-            Ok(weights.with(first, &a))
+            Ok(weights.with(heard_weight(true), &a))
         }
-        _ => Ok(first),
+        _ => Ok(heard_weight(true)),
     }
 }
 
@@ -81,8 +85,7 @@ fn value_weight(
 ) -> Result<usize, AllocError>
     ensures { IfOk result (λ n. n ≡ weight_beside heard.now (slots_of weights.now) own.now) }
 {
-    let first = heard_weight(heard, &own.value);
-    let weight = names_weight(alloc, first, &own.value, weights)?;
+    let weight = first_weight(alloc, heard, weights, &own.value)?;
     Ok(weight.saturating_add(own.sum))
 }
 
@@ -98,6 +101,14 @@ fn value_weights(
     sums.iter()
         .map(|own| value_weight(alloc, heard, weights, own))
         .try_collect(alloc)
+}
+
+/// The share as often as 2^16 goes into it: the more, the greater it is, and faster than it. A square would reach the greatest number
+/// where some hundred values stand on one strand.
+fn steepened(share: usize) -> usize
+    ensures { result ≡ steepened share }
+{
+    share.saturating_mul(share / 65_536)
 }
 
 impl<'a> Weights<'a> {
@@ -119,7 +130,7 @@ impl<'a> Weights<'a> {
     fn with(&self, first: usize, value: &Term) -> usize
         ensures { result ≡ weight_from first value.now (slots_of self.now) }
     {
-        match self.sums.values.find(value) {
+        match self.sums.find(value) {
             Some(number) => first.saturating_add(self.sums.sums[number].sum),
             None => first,
         }
@@ -139,7 +150,7 @@ impl<'a> Weights<'a> {
         for count in &self.counts {
             let (own, later) = rest.split_at(*count);
             let shares = shares_of(own, &weights);
-            bucket_key = bucket_key.saturating_add(shares.heavy.saturating_mul(shares.heavy));
+            bucket_key = bucket_key.saturating_add(steepened(shares.heavy));
             light_share = light_share.saturating_add(shares.light);
             rest = later;
         }

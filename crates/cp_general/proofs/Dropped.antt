@@ -108,6 +108,30 @@ same_node_or_not x y = of (cases_eq x.strand y.strand) (cases_eq x.index y.index
 pair_again : (k : Skeleton) (ps : List OrderPair) (q : OrderPair) → IsOrderPair k q → IsOrderPair (ordered_by k ps) q
 pair_again k ps q o = record { sent = o.sent; received = o.received; transmission = o.transmission; reception = o.reception; between_strands = o.between_strands }
 
+-- ---- other pairs that are in the order
+
+module _ (k : Skeleton) (ps : List OrderPair) (each : (q : OrderPair) → IsIn q ps → Before k q.earlier q.later) where
+  step_back : (x y : Node) → OrderStep (ordered_by k ps) x y → Before k x y
+  step_back x y (along_strand_of e) = one_step (along_strand_of e)
+  step_back x y (along_pair {p = q} m) = each q m
+
+  pub way_back : (x y : Node) → Before (ordered_by k ps) x y → Before k x y
+  way_back x y (one_step s) = step_back x y s
+  way_back x z (more_steps {y = y} s r) = steps_append (step_back x y s) (way_back y z r)
+
+-- ---- without a covering pair its first node is not before the second
+
+module _ (k : Skeleton) (ps : List OrderPair) (p : OrderPair) (covering : IsCoveringPair k p) (was : (q : OrderPair) → IsIn q ps → Before k q.earlier q.later × (q ≢ p)) where
+  in_order : (x y : Node) → Before (ordered_by k ps) x y → Before k x y
+  in_order = way_back k ps (λ q m. (was q m).0)
+
+  pub not_before : (x y : Node) → x ≡ p.earlier → y ≡ p.later → Before (ordered_by k ps) x y → ⊥
+  not_before x y e f (one_step (along_strand_of w)) = covering.of_order.pair.between_strands (ap (λ (z : Node). z.strand) (sym e) ∙ ap (λ (z : Node). z.strand) f)
+  not_before x y e f (one_step (along_pair {p = q} m)) = (was q m).1 (λ i. record { earlier = e i; later = f i })
+  not_before x y e f (more_steps {y = z} s r) = covering.none_between z (subst (λ (n : Node). Before k n z) e (in_order x z (one_step s))) (subst (λ (n : Node). Before k z n) f (in_order z y r))
+
+-- ---- without a pair that may be dropped
+
 module _ (k : Skeleton) (sound : IsSound k) (lists : ListsOrder k k.pairs) (p : OrderPair) (may : MayDrop p k) where
   ordered : IsOrdered k
   ordered = sound_ordered k sound
@@ -147,19 +171,13 @@ module _ (k : Skeleton) (sound : IsSound k) (lists : ListsOrder k k.pairs) (p : 
           let of_order : IsPairOfOrder k q = record { pair = record { sent = s; received = t; transmission = e; reception = f; between_strands = apart }; ordered = b } in
           one_step (along_pair (still q ((lists.each q).1 of_order) h))
 
-  gone_way : (x y : Node) → x ≡ p.earlier → y ≡ p.later → Before less x y → ⊥
-  gone_way x y e f (one_step (along_strand_of w)) = may.covering.of_order.pair.between_strands (ap (λ (z : Node). z.strand) (sym e) ∙ ap (λ (z : Node). z.strand) f)
-  gone_way x y e f (one_step (along_pair {p = q} m)) = (was q m).1 (λ i. record { earlier = e i; later = f i })
-  gone_way x y e f (more_steps {y = z} s r) =
-      may.covering.none_between z (subst (λ (n : Node). Before k n z) e (back x z (one_step s))) (subst (λ (n : Node). Before k z n) f (back z y r))
-
   less_each : (q : OrderPair) → IsIn q kept ↔ IsPairOfOrder less q
   less_each q = (
     λ m. record { pair = less_ordered.order_pairs q m; ordered = one_step (along_pair m) },
     λ h.
         let o = h.pair in
         still q ((lists.each q).1 (record { pair = record { sent = o.sent; received = o.received; transmission = o.transmission; reception = o.reception; between_strands = o.between_strands }; ordered = back q.earlier q.later h.ordered }))
-        (λ e. gone_way q.earlier q.later (ap (λ (r : OrderPair). r.earlier) e) (ap (λ (r : OrderPair). r.later) e) h.ordered),
+        (λ e. not_before k kept p may.covering (λ r n. let w = was r n in (one_step (along_pair w.0), w.1)) q.earlier q.later (ap (λ (r : OrderPair). r.earlier) e) (ap (λ (r : OrderPair). r.later) e) h.ordered),
   )
 
   less_lists : ListsOrder less kept
@@ -281,15 +299,6 @@ module _ (k : Skeleton) (sound : IsSound k) (lists : ListsOrder k k.pairs) (p : 
 
 -- ---- nothing is fit without a pair of one that is not
 
-module _ (k : Skeleton) (ps : List OrderPair) (each : (q : OrderPair) → IsIn q ps → Before k q.earlier q.later) where
-  step_back : (x y : Node) → OrderStep (ordered_by k ps) x y → Before k x y
-  step_back x y (along_strand_of e) = one_step (along_strand_of e)
-  step_back x y (along_pair {p = q} m) = each q m
-
-  pub way_back : (x y : Node) → Before (ordered_by k ps) x y → Before k x y
-  way_back x y (one_step s) = step_back x y s
-  way_back x z (more_steps {y = y} s r) = steps_append (step_back x y s) (way_back y z r)
-
 pub fit_before : (k : Skeleton) (p : OrderPair) (h : Skeleton) → ((n : Node) → Before k n n → ⊥) → Weakens p k h → IsFit h → IsFit k
 fit_before k p h no_cycle drops f =
     subst (λ z. Weakens p k z → IsFit z → IsFit k) (sym drops.same)
@@ -324,3 +333,9 @@ module _ (p : OrderPair) (k : Skeleton) (ordered : IsOrdered k) (lists : ListsOr
 
 pub never_may : (p : OrderPair) (k : Skeleton) (b : Bool) → (b ≡ true) ↔ MayDrop p k → b ≡ false → NeverDrops p k
 never_may p k b h f x d fit = not_both f (h.1 (record { covering = d.covering; not_own = d.not_own; not_added = d.not_added }))
+
+pub own_never : (p : OrderPair) (k : Skeleton) (own : List OrderPair) (b : Bool) → own ≡ k.from_problem.pairs → b ≡ any_pair (is_same_pair p) own → b ≡ true → NeverDrops p k
+own_never p k own b same e t h d fit = d.not_own (subst (IsIn p) same ((among p own).0 (sym e ∙ t)))
+
+pub added_never : (p : OrderPair) (k : Skeleton) (added : List OrderPair) (b : Bool) → ((q : OrderPair) → IsIn q added ↔ IsAddedPair k q) → b ≡ any_pair (is_same_pair p) added → b ≡ true → NeverDrops p k
+added_never p k added b are e t h d fit = d.not_added ((are p).0 ((among p added).0 (sym e ∙ t)))

@@ -19,4 +19,5 @@ pub mod FreePairs
 pub mod Stepped
 pub mod FitTests
 pub mod AllPairs
+pub mod NeededParts
 mod SentTwice

@@ -17,6 +17,7 @@ use Rattle.cp_general.specs.Generalisation.{DeletesNone, WeakensNone, StepsTo, d
 use Rattle.cp_general.specs.ListedPairs.{AreRisingPairs, ListsAdded, ListsOrder}
 use Rattle.cp_general.specs.ProgramSteps.{NeverDeletes, NeverDrops, LeavesFit, WeakensFirst, ComesBySteps, IsReachedByWeakening}
 use Rattle.cp_general.proofs.Alike.{assume_the_same, was_added, is_added, fit_alike}
+use Rattle.cp_general.proofs.CoveringPairs.{covering_is_listed}
 use Rattle.cp_general.proofs.Deleted.{deletes_none_still}
 use Rattle.cp_general.proofs.Dropped.{fit_before}
 
@@ -108,8 +109,8 @@ module _ (k : Skeleton) (ps : List OrderPair) (i : ℕ) (p : OrderPair) (within 
       of (inl n) = n h d f
       of (inr j) = behind (in_cases (subst (IsIn q) left_is j))
 
-pub all_passed : (k : Skeleton) (ps : List OrderPair) (i : ℕ) → length ps ≤ i → ListsOrder k k.pairs → PassedOrLeft k (drop i ps) → WeakensNone k
-all_passed k ps i l lists so_far p h d f = of (so_far p ((lists.each p).1 d.covering.of_order))
+pub all_passed : (k : Skeleton) (ps : List OrderPair) (i : ℕ) → length ps ≤ i → PassedOrLeft k (drop i ps) → WeakensNone k
+all_passed k ps i l so_far p h d f = of (so_far p (covering_is_listed k p d.covering))
   where
     of : NeverDrops p k ⊎ IsIn p (drop i ps) → ⊥
     of (inl n) = n h d f

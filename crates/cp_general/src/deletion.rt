@@ -1,12 +1,14 @@
 // The step that deletes a strand.
 ghost use Rattle.std.specs.Prelude.{◌≡◌, ◌↔◌, ◌<◌, length, IsTrue, IfOk, IfSome, IfNone};
 ghost use Rattle.cp_lists.specs.Lists.{IsIn};
+ghost use Rattle.cp_skel.specs.Events.{events_of};
 ghost use Rattle.cp_general.specs.Steps.{Deletes};
 ghost use Rattle.cp_general.specs.Generalisation.{DeletesNone, StepsTo};
 ghost use Rattle.cp_general.specs.ProgramSteps.{NeverDeletes, LeavesFit};
 
 use crate::fit::is_fit;
-use cp_skel::Skeleton;
+use crate::needed::{Part, is_needed};
+use cp_skel::{LocatedEvent, Skeleton};
 use std::alloc::{AllocError, Global};
 
 /// Whether some strand of the problem maps to this one.
@@ -34,15 +36,25 @@ fn without_strand(alloc: Global, k: &Skeleton, strand: usize) -> Result<Skeleton
     Ok(left)
 }
 
-/// The skeleton without a strand that exists, if it may be deleted and the rest is fit: normal and realised.
-fn try_deletion(alloc: Global, k: &Skeleton, strand: usize) -> Result<Option<Skeleton>, AllocError>
-    requires { strand < length k.now.strands }
+/// The skeleton without a strand that exists, if it may be deleted and the rest is fit: normal and realised. That the strand is
+/// needed is mostly seen before the rest is made.
+fn try_deletion(
+    alloc: Global,
+    k: &Skeleton,
+    events: &[LocatedEvent<'_>],
+    strand: usize,
+) -> Result<Option<Skeleton>, AllocError>
+    requires there_is { strand < length k.now.strands }
+    requires events { events.now ≡ events_of k.now }
     ensures some { IfOk result (λ found. IfSome found (λ h. LeavesFit strand k.now h)) }
     ensures none { IfOk result (λ found. IfNone found (NeverDeletes strand k.now)) }
     ensures variables { IfOk result (λ found. IfSome found (λ h. h.variables ≡ k.now.variables)) }
 {
     k.is_sound();
     if is_image(k.from_problem().strands(), strand) {
+        return Ok(None);
+    }
+    if is_needed(alloc, k, events, Part::Strand(strand))? {
         return Ok(None);
     }
     let left = without_strand(alloc, k, strand)?;
@@ -57,10 +69,11 @@ pub(crate) fn first_deletion(alloc: Global, k: &Skeleton) -> Result<Option<Skele
     ensures fewer { IfOk result (λ found. IfSome found (λ h. length h.strands < length k.now.strands)) }
     ensures variables { IfOk result (λ found. IfSome found (λ h. h.variables ≡ k.now.variables)) }
 {
+    let events = k.events(alloc)?;
     let mut rest = k.strands().len();
     while rest > 0 {
         rest -= 1;
-        match try_deletion(alloc, k, rest)? {
+        match try_deletion(alloc, k, &events, rest)? {
             Some(mut left) => {
                 left.list_assumptions(alloc)?;
                 return Ok(Some(left));

@@ -1,5 +1,5 @@
 // The step that drops a pair of the order.
-ghost use Rattle.std.specs.Prelude.{◌≡◌, ◌↔◌, drop, IsTrue, Some, IfOk, IfSome, IfNone};
+ghost use Rattle.std.specs.Prelude.{◌≡◌, ◌↔◌, drop, false, IsTrue, Some, IfOk, IfSome, IfNone};
 ghost use Rattle.std.specs.List.{filter};
 ghost use Rattle.cp_lists.specs.Lists.{IsIn};
 ghost use Rattle.cp_model.specs.OrderTests.{any_pair};
@@ -7,6 +7,7 @@ ghost use Rattle.cp_model.specs.Term.{Term};
 ghost use Rattle.cp_model.specs.declared.strand.Event.TheVariants.{Receive as recv};
 ghost use Rattle.cp_model.specs.Skeleton.{IsNodeOf, term_event_at};
 ghost use Rattle.cp_model.specs.Derivable.{DerivableAt};
+ghost use Rattle.cp_skel.specs.Events.{events_of};
 ghost use Rattle.cp_skel.specs.Ordered.{ordered_by};
 ghost use Rattle.cp_skel.specs.Sound.{IsSound};
 ghost use Rattle.cp_collapse.specs.Property.{Has};
@@ -17,10 +18,11 @@ ghost use Rattle.cp_general.specs.ListedPairs.{ListsAdded, ListsOrder, IsInNeith
 ghost use Rattle.cp_general.specs.ProgramSteps.{NeverDrops, MayDrop, HasFreePair, LeavesFitOrder, WeakensFirst};
 
 use crate::covering_pairs::is_covered;
+use crate::needed::{Part, is_needed};
 use crate::pairs::reordered;
 use cp_derive::critical;
 use cp_normal::all_lead;
-use cp_skel::{Node, Order, OrderPair, Skeleton};
+use cp_skel::{LocatedEvent, Node, Order, OrderPair, Skeleton};
 use std::alloc::{AllocError, Global};
 
 /// Whether the pair is one of these.
@@ -78,13 +80,53 @@ fn some_is_in_neither(first: &[OrderPair], second: &[OrderPair], pairs: &[OrderP
 
 /// Whether one of the skeleton's pairs is neither stated by the problem nor one of those that unique values add. Only such a pair
 /// can be dropped.
-pub(crate) fn some_may_drop(k: &Skeleton, added: &[OrderPair]) -> bool
+fn some_is_free(k: &Skeleton, added: &[OrderPair]) -> bool
     requires { ListsAdded k.now added.now }
     ensures { IsTrue result ↔ HasFreePair k.now }
 {
     let own = k.from_problem().pairs();
     let pairs = k.order().pairs();
     some_is_in_neither(own, added, pairs)
+}
+
+/// Whether a pair may be dropped so that the rest is fit: it is neither stated by the problem nor added by a unique value, and not
+/// seen to be needed.
+fn is_spare(
+    alloc: Global,
+    k: &Skeleton,
+    events: &[LocatedEvent<'_>],
+    added: &[OrderPair],
+    pair: OrderPair,
+) -> Result<bool, AllocError>
+    requires events { events.now ≡ events_of k.now }
+    requires added { ListsAdded k.now added.now }
+    ensures { IfOk result (λ spare. spare ≡ false → NeverDrops pair k.now) }
+{
+    if is_among(k.from_problem().pairs(), pair) || is_among(added, pair) {
+        return Ok(false);
+    }
+    is_needed(alloc, k, events, Part::Pair(pair)).map(|needed| !needed)
+}
+
+/// Whether some pair may be dropped so that the rest is fit. That none can be is mostly seen so, without making what is left.
+pub(crate) fn some_may_drop(
+    alloc: Global,
+    k: &Skeleton,
+    added: &[OrderPair],
+) -> Result<bool, AllocError>
+    requires { ListsAdded k.now added.now }
+    ensures { IfOk result (λ may. may ≡ false → WeakensNone k.now) }
+{
+    if !some_is_free(k, added) {
+        return Ok(false);
+    }
+    let events = k.events(alloc)?;
+    for pair in k.order().pairs() {
+        if is_spare(alloc, k, &events, added, *pair)? {
+            return Ok(true);
+        }
+    }
+    Ok(false)
 }
 
 /// The pairs except this one.
@@ -100,25 +142,20 @@ fn others(alloc: Global, pairs: &[OrderPair], pair: OrderPair) -> Result<Vec<Ord
 
 /// Whether a pair may be dropped: it is a covering pair, and neither stated by the problem nor added by a unique value. The
 /// skeleton must list all pairs of its order.
-fn may_drop(
-    alloc: Global,
-    k: &Skeleton,
-    added: &[OrderPair],
-    pair: OrderPair,
-) -> Result<bool, AllocError>
+fn may_drop(k: &Skeleton, added: &[OrderPair], pair: OrderPair) -> bool
     requires lists { ListsOrder k.now k.now.pairs }
     requires added { ListsAdded k.now added.now }
     requires listed { IsIn pair k.now.pairs }
-    ensures { IfOk result (λ may. IsTrue may ↔ MayDrop pair k.now) }
+    ensures { IsTrue result ↔ MayDrop pair k.now }
 {
     k.is_sound();
     if is_among(k.from_problem().pairs(), pair) {
-        return Ok(false);
+        return false;
     }
     if is_among(added, pair) {
-        return Ok(false);
+        return false;
     }
-    is_covered(alloc, k.order().pairs(), pair).map(|covered| !covered)
+    !is_covered(k.order().pairs(), pair)
 }
 
 /// The skeleton's order without this pair, if the rest still has the order that the problem states.
@@ -157,8 +194,7 @@ fn derived_in_order(
         → DerivableAt (ordered_by k.now order) node t → ⊥)) }
 {
     let less = reordered(alloc, k, order)?;
-    let derived = is_derived(alloc, &less, node)?;
-    Ok(derived.then_some(less))
+    is_derived(alloc, &less, node).map(|derived| derived.then_some(less))
 }
 
 /// The skeleton without a pair that may be dropped, if the rest keeps what the problem states and is fit. Only the reception of
@@ -193,7 +229,7 @@ pub(crate) fn first_drop(
     ensures variables { IfOk result (λ found. IfSome found (λ h. h.variables ≡ k.now.variables)) }
 {
     for pair in k.order().pairs() {
-        if !may_drop(alloc, k, added, *pair)? {
+        if !may_drop(k, added, *pair) {
             continue;
         }
         match try_drop(alloc, k, *pair)? {

@@ -72,8 +72,8 @@ fn dropped_where_fit(
     dropped_of_all(alloc, &all, added)
 }
 
-/// The skeleton after pairs are dropped until none can be; `None` if none can be dropped at first, which is clear at once if the
-/// problem and unique values give all its pairs. No strand may be deletable; dropping pairs keeps it so. Whether it is fit is
+/// The skeleton after pairs are dropped until none can be; `None` if none can be dropped at first, which is mostly seen without
+/// dropping one. No strand may be deletable; dropping pairs keeps it so. Whether it is fit is
 /// tested if that is not known.
 fn dropped(alloc: Global, k: &Skeleton, known_fit: bool) -> Result<Option<Skeleton>, AllocError>
     requires none { DeletesNone k.now }
@@ -84,7 +84,7 @@ fn dropped(alloc: Global, k: &Skeleton, known_fit: bool) -> Result<Option<Skelet
 {
     k.is_sound();
     let added = added_pairs(alloc, k)?;
-    if !some_may_drop(k, &added) {
+    if !some_may_drop(alloc, k, &added)? {
         return Ok(None);
     }
     if !is_known_or_fit(alloc, k, known_fit)? {

@@ -9,6 +9,7 @@ mod examples;
 mod fit;
 mod generalisation;
 mod laws;
+mod needed;
 mod pairs;
 
 pub use examples::second_sender_is_deleted;

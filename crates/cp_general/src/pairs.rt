@@ -41,6 +41,28 @@ fn transmissions(alloc: Global, occurrences: &[LocatedEvent<'_>]) -> Result<Vec<
         .collect(alloc)
 }
 
+/// The nodes of the receptions among these events.
+fn reception_nodes(alloc: Global, occurrences: &[LocatedEvent<'_>]) -> Result<Vec<Node>, AllocError>
+    ensures { IfOk result (λ ns. ns.items ≡ nodes_where is_reception occurrences.now) }
+{
+    let received = occurrences
+        .iter()
+        .filter(|occurrence| is_reception(occurrence.event()));
+    received.map(|occurrence| occurrence.node()).collect(alloc)
+}
+
+/// The reception at a node, with its predecessors along the pairs.
+fn gathered<'a>(
+    alloc: Global,
+    sorted: &SortedPairs<'a>,
+    node: Node,
+) -> Result<Reception<'a>, AllocError>
+    ensures { IfOk result (λ r. r ≡ gathered sorted.now node) }
+{
+    let leading = sorted.predecessors_of(alloc, node);
+    leading.map(|leading| Reception { node, leading })
+}
+
 /// The receptions among these events, each with its predecessors along the pairs.
 fn receptions<'a>(
     alloc: Global,
@@ -49,16 +71,11 @@ fn receptions<'a>(
 ) -> Result<Vec<Reception<'a>>, AllocError>
     ensures { IfOk result (λ rs. rs.items ≡ map (gathered sorted.now) (nodes_where is_reception occurrences.now)) }
 {
-    let mut receptions = Vec::new(alloc);
-    for occurrence in occurrences {
-        if !is_reception(occurrence.event()) {
-            continue;
-        }
-        let node = occurrence.node();
-        let leading = sorted.predecessors_of(alloc, node)?;
-        receptions.push(Reception { node, leading })?;
-    }
-    Ok(receptions)
+    let nodes = reception_nodes(alloc, occurrences)?;
+    nodes
+        .iter()
+        .map(|node| gathered(alloc, sorted, *node))
+        .try_collect(alloc)
 }
 
 /// Whether a node reaches the reception and is on another strand.

@@ -1,20 +1,19 @@
 -- What is found among the events of a skeleton is there.
-use Rattle.std.proofs.Common.{ℕ, List, [], ◌≡◌, ◌↔◌, ◌⊎◌, inl, inr, Option, Some, None, true, refl, sym, ap, subst, ◌∙◌}
+use Rattle.std.proofs.Common.{ℕ, List, [], ◌≡◌, ◌↔◌, ◌⊎◌, inl, inr, Some, true, refl, sym, ap, subst, ◌∙◌, arith}
 use Rattle.cp_lists.specs.Lists.{item_at, IsIn}
 use Rattle.cp_model.specs.Term.{AtomTerm}
 use Rattle.cp_model.specs.declared.strand.Event.TheVariants.{Send as send, Receive as recv}
 use Rattle.cp_model.specs.Bundle.{node_at}
 use Rattle.cp_model.specs.declared.node.Node.{Node}
-use Rattle.cp_model.specs.Skeleton.{SkeletonStrand, instance, listener, skeleton_trace_or_none, term_event_at, UniqueAt, Skeleton}
+use Rattle.cp_model.specs.Skeleton.{instance, skeleton_trace_or_none, term_event_at, UniqueAt, Skeleton}
 use Rattle.cp_model.specs.declared.node.OrderPair.{OrderPair}
 use Rattle.cp_model.specs.Derivable.{IsOnInstance}
 use Rattle.cp_model.specs.Realisation.{OriginatesAtTerm}
-use Rattle.cp_skel.specs.Events.{LocatedEvent, events_of}
+use Rattle.cp_skel.specs.Events.{LocatedEvent, is_role_strand, events_of}
 use Rattle.cp_collapse.specs.Property.{Has}
 use Rattle.cp_normal.specs.Events.{Gathers, CarriesOne, HasOtherOrigin, IsSentAtOrigin, IsCarriedBefore, IsPairBetween}
-use Rattle.cp_collapse.specs.Partitions.{is_some_instance}
 use Rattle.cp_normal.specs.Findings.{CarriesNonOriginating, HasTwoOrigins, LosesOrigin, IsAddedPair}
-use Rattle.cp_skel.proofs.EventLists.{listed_event, located_event_at, listed_at}
+use Rattle.cp_skel.proofs.EventLists.{stands_among, listed_event, located_event_at, listed_at}
 
 module _ (k : Skeleton) (all read : List LocatedEvent) (listed : all ≡ events_of k) (is_read : read ≡ all) where
   the_events : read ≡ events_of k
@@ -58,6 +57,10 @@ module _ (k : Skeleton) (all read : List LocatedEvent) (listed : all ≡ events_
   sent_if_originates u or =
       has_listed (IsSentAtOrigin u) (located_event_at k u.origin (send or.1.sent), listed_at k u.origin (send or.1.sent) or.1.transmission, (or.1.sent, refl, or.1.carried, refl))
 
+  -- There is an event where a value originates.
+  pub there_if_originates : (v : AtomTerm) (n : Node) → OriginatesAtTerm k v n → Has (λ o. o.node ≡ n) read
+  there_if_originates v n or = let sent = sent_if_originates (record { value = v; origin = n }) or in (sent.0, sent.1, sent.2.3)
+
   pub not_before_if_originates : (u : UniqueAt) → OriginatesAtTerm k u.value u.origin → Has (IsCarriedBefore u) read → ⊥
   not_before_if_originates u or before =
       let r : Has (IsCarriedBefore u) (events_of k) = listed_has (IsCarriedBefore u) before in
@@ -68,15 +71,25 @@ module _ (k : Skeleton) (all read : List LocatedEvent) (listed : all ≡ events_
 pub same_origination : (k : Skeleton) (v w : AtomTerm) (x y : Node) → v ≡ w → x ≡ y → OriginatesAtTerm k w y → OriginatesAtTerm k v x
 same_origination k v w x y same at o = subst (λ (n : Node). OriginatesAtTerm k v n) (sym at) (subst (λ (u : AtomTerm). OriginatesAtTerm k u y) (sym same) o)
 
--- ---- a strand that is an instance
+-- ---- an event that is listed
 
-pub on_instance_if : (k : Skeleton) (n : Node) (o : Option SkeletonStrand) → item_at k.strands n.strand ≡ o → is_some_instance o ≡ true → IsOnInstance k n
-on_instance_if k n None e t = absurd (cc)
-on_instance_if k n (Some (instance role height terms)) e t = record { role = role; height = height; terms = terms; on_instance = e }
-on_instance_if k n (Some (listener m)) e t = absurd (cc)
+-- A listed event is on a role strand if its node is on an instance.
+pub by_role_if_on : (k : Skeleton) (o : LocatedEvent) → IsIn o (events_of k) → IsOnInstance k o.node → o.by_role ≡ true
+by_role_if_on k o i on =
+    let h = stands_among 0 k.strands o i in
+    let at : o.node.strand ≡ h.place = let n = h.number in omega (arith, n) in
+    let found : item_at k.strands o.node.strand ≡ Some h.strand = ap (item_at k.strands) at ∙ h.there_is in
+    let known : item_at k.strands o.node.strand ≡ Some (instance on.role on.height on.terms) = on.on_instance in
+    let same : h.strand ≡ instance on.role on.height on.terms = cc in
+    h.role ∙ ap is_role_strand same
 
-pub if_on_instance : (k : Skeleton) (n : Node) → IsOnInstance k n → is_some_instance (item_at k.strands n.strand) ≡ true
-if_on_instance k n on = ap is_some_instance on.on_instance
+-- A value that originates at its node is sent there.
+pub sent_if_there : (k : Skeleton) (o : LocatedEvent) (v : AtomTerm) (n : Node) → IsIn o (events_of k) → n ≡ o.node → OriginatesAtTerm k v o.node → IsSentAtOrigin (record { value = v; origin = n }) o
+sent_if_there k o v n i at or =
+    let there : term_event_at k.strands o.node ≡ Some o.event = listed_event k o i in
+    let sent : term_event_at k.strands o.node ≡ Some (send or.1.sent) = or.1.transmission in
+    let same : o.event ≡ send or.1.sent = cc in
+    (or.1.sent, same, or.1.carried, sym at)
 
 -- ---- entries of unique values
 

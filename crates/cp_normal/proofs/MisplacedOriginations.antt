@@ -1,19 +1,22 @@
 -- The first of the unique values that are misplaced.
-use Rattle.std.proofs.Common.{Bool, ◌≡◌, ◌⊎◌, inl, inr, ℕ, zero, suc, ◌+◌, ◌<◌, ◌≤◌, List, [], ◌∷◌, length, get_or, Some, None, sym, ap, ◌∙◌, subst, arith}
+use Rattle.std.proofs.Common.{Bool, true, false, ◌≡◌, ◌≢◌, ◌⊎◌, inl, inr, ℕ, zero, suc, ◌+◌, ◌<◌, ◌≤◌, List, [], ◌∷◌, length, get_or, Some, None, refl, sym, ap, ◌∙◌, subst, arith}
+use Rattle.std.proofs.lemmas.Bool.{both_ways}
 use Rattle.std.proofs.lemmas.List.{get_or_default}
-use Rattle.cp_lists.specs.Lists.{item_at, IsIn}
-use Rattle.cp_lists.proofs.Items.{place_of, item_of_read, item_past, at_append}
+use Rattle.cp_lists.specs.Lists.{item_at, IsIn, here, there}
+use Rattle.cp_lists.proofs.Items.{place_of, item_of_read, item_past, at_append, at_place}
 use Rattle.cp_lists.proofs.Members.{item_is_in}
-use Rattle.cp_model.specs.Term.{AtomTerm, Term, atom_term, IsCarriedByTerm}
-use Rattle.cp_model.specs.Strand.{payload}
+use Rattle.cp_model.specs.Term.{AtomTerm, Term}
 use Rattle.cp_model.specs.declared.strand.Event.{Event}
 use Rattle.cp_model.specs.declared.strand.Event.TheVariants.{Send as send}
 use Rattle.cp_model.specs.Bundle.{node_at}
 use Rattle.cp_model.specs.declared.node.Node.{Node}
 use Rattle.cp_model.specs.Given.{listed}
-use Rattle.cp_model.specs.Skeleton.{SkeletonStrand, skeleton_trace, term_event_at, UniqueAt, Skeleton}
+use Rattle.cp_model.specs.Same.{same_atom, same_node}
+use Rattle.cp_model.specs.Realisation.{OriginatesAtTerm}
+use Rattle.cp_model.proofs.SameTests.{atom_is, is_atom, node_is, is_node}
+use Rattle.cp_model.specs.Skeleton.{SkeletonStrand, skeleton_trace, UniqueAt, Skeleton}
 use Rattle.cp_skel.proofs.EachOnce.{listed-unique}
-use Rattle.cp_skel.proofs.EventLists.{listed_event, located_event_at, listed_at}
+use Rattle.cp_skel.proofs.EventLists.{located_event_at, listed_at}
 use Rattle.cp_skel.specs.Events.{LocatedEvent, is_role_strand, located_events_on, located_events_from, events_of}
 use Rattle.cp_normal.specs.NormalForms.{IsMisplaced}
 use Rattle.cp_normal.specs.Branches.{IsSettled}
@@ -54,18 +57,58 @@ module _ {A : Type 0} (has : A → Type 0) (xs : List A) (i : ℕ) where
 
 -- ---- one event
 
-pub not_carried : (k : Skeleton) (o : LocatedEvent) (u : UniqueAt) → IsIn o (events_of k) → (IsCarriedByTerm (atom_term u.value) (payload o.event) → ⊥) → OriginatesElsewhere k o.node u → ⊥
-not_carried k o u inside not s =
-    let at : term_event_at k.strands o.node ≡ Some o.event = listed_event k o inside in
-    let sent : term_event_at k.strands o.node ≡ Some (send s.1.1.sent) = s.1.1.transmission in
-    let same : send s.1.1.sent ≡ o.event = cc in
-    not (subst (λ (e : Event Term). IsCarriedByTerm (atom_term u.value) (payload e)) same s.1.1.carried)
-
 pub first_found : (k : Skeleton) (x : Node) (us : List UniqueAt) (i : ℕ) (u d : UniqueAt) (v : AtomTerm) → i < length us → u ≡ get_or us i d → OriginatesElsewhere k x u → u.value ≡ v → NoneBefore (OriginatesElsewhere k x) us i → IsFirstMisplacedAt k x us v
 first_found k x us i u d v l e s q inv = record { place = i; entry = u; at_place = read_at us i u d l e; originates_elsewhere = s; is_value = q; first = inv }
 
-pub none_of_entries : (k : Skeleton) (o : LocatedEvent) (us : List UniqueAt) → us ≡ (listed k).uniquely_originating → ((u : UniqueAt) → IsIn u us → OriginatesElsewhere k o.node u → ⊥) → OriginatesMisplaced k o → ⊥
-none_of_entries k o us same none h = none h.0 (subst (IsIn h.0) (sym same) (((listed-unique k).same h.0).1 h.1)) h.2
+pub none_of_own : (k : Skeleton) (o : LocatedEvent) (us : List UniqueAt) → us ≡ k.assumptions.uniquely_originating → ((u : UniqueAt) → IsIn u us → OriginatesElsewhere k o.node u → ⊥) → OriginatesMisplaced k o → ⊥
+none_of_own k o us same none h = none h.0 (subst (IsIn h.0) (sym same) h.1) h.2
+
+-- ---- a value that is misplaced alone
+
+module _ (k : Skeleton) (x : Node) (v : AtomTerm) (originates : OriginatesAtTerm k v x) where
+  -- Of the entries, those are misplaced at the node that have this value and another origin.
+  by_tests : (u : UniqueAt) (same at : Bool) → same_atom u.value v ≡ same → same_node x u.origin ≡ at → (OriginatesElsewhere k x u → u.value ≢ v → ⊥) → ((u.value ≡ v) × OriginatesElsewhere k x u) ⊎ (OriginatesElsewhere k x u → ⊥)
+  by_tests u false at e f alone = inr (λ s. alone s (λ q. both_ways (same_atom u.value v) e (is_atom u.value v q)))
+  by_tests u true true e f alone = inr (λ s. s.0 (node_is x u.origin f))
+  by_tests u true false e f alone =
+      let q : u.value ≡ v = atom_is u.value v e in
+      inl (q, ((λ at. both_ways (same_node x u.origin) f (is_node x u.origin at)), subst (λ (w : AtomTerm). OriginatesAtTerm k w x) (sym q) originates))
+
+  none_before_next : (w : UniqueAt) (us : List UniqueAt) (p : ℕ) → (OriginatesElsewhere k x w → ⊥) → NoneBefore (OriginatesElsewhere k x) us p → NoneBefore (OriginatesElsewhere k x) (w ∷ us) (suc p)
+  none_before_next w us p never first zero y l at s = let q : y ≡ w = cc in never (subst (OriginatesElsewhere k x) q s)
+  none_before_next w us p never first (suc j) y l at s = first j y (omega (arith, l)) at s
+
+  first_or_next : (w : UniqueAt) (us : List UniqueAt) → ((w.value ≡ v) × OriginatesElsewhere k x w) ⊎ (OriginatesElsewhere k x w → ⊥) → ((OriginatesElsewhere k x w → ⊥) → IsFirstMisplacedAt k x us v) → IsFirstMisplacedAt k x (w ∷ us) v
+  first_or_next w us (inl s) rest = record { place = 0; entry = w; at_place = refl; originates_elsewhere = s.1; is_value = s.0; first = λ j y l at h. omega (arith, l) }
+  first_or_next w us (inr never) rest =
+      let f = rest never in
+      record {
+        place = suc f.place;
+        entry = f.entry;
+        at_place = f.at_place;
+        originates_elsewhere = f.originates_elsewhere;
+        is_value = f.is_value;
+        first = none_before_next w us f.place never f.first;
+      }
+
+  first_of : (us : List UniqueAt) (u : UniqueAt) → IsIn u us → OriginatesElsewhere k x u → ((w : UniqueAt) → IsIn w us → OriginatesElsewhere k x w → w.value ≢ v → ⊥) → IsFirstMisplacedAt k x us v
+  first_of [] u i s alone = elim i [ ]
+  first_of (w ∷ us) u here s alone = first_or_next w us (by_tests w (same_atom w.value v) (same_node x w.origin) refl refl (alone w here)) (λ never. absurd (never s))
+  first_of (w ∷ us) u (there i) s alone = first_or_next w us (by_tests w (same_atom w.value v) (same_node x w.origin) refl refl (alone w here)) (λ never. first_of us u i s (λ z j. alone z (there j)))
+
+-- The value that alone is misplaced at a node is the first in any order.
+pub alone_first : (k : Skeleton) (x : Node) (us : List UniqueAt) (v : AtomTerm) → us ≡ k.assumptions.uniquely_originating → ((u : UniqueAt) → IsIn u us → OriginatesElsewhere k x u → u.value ≢ v → ⊥) → IsFirstMisplacedAt k x k.assumptions.uniquely_originating v →
+    IsFirstMisplacedAt k x (listed k).uniquely_originating v
+alone_first k x us v own alone f =
+    let same = (listed-unique k).same in
+    let inside : IsIn f.entry k.assumptions.uniquely_originating = at_place _ f.place f.entry f.at_place in
+    let originates = subst (λ (w : AtomTerm). OriginatesAtTerm k w x) f.is_value f.originates_elsewhere.1 in
+    first_of k x v originates (listed k).uniquely_originating f.entry ((same f.entry).1 inside) f.originates_elsewhere (λ w i. alone w (subst (IsIn w) (sym own) ((same w).0 i)))
+
+-- What is misplaced is so in the order of a report too.
+pub some_listed : (k : Skeleton) (x : Node) (us : List UniqueAt) (v : AtomTerm) → us ≡ (listed k).uniquely_originating → IsFirstMisplacedAt k x k.assumptions.uniquely_originating v → ((u : UniqueAt) → IsIn u us → OriginatesElsewhere k x u → ⊥) → ⊥
+some_listed k x us v same f none =
+    none f.entry (subst (IsIn f.entry) (sym same) (((listed-unique k).same f.entry).1 (at_place _ f.place f.entry f.at_place))) f.originates_elsewhere
 
 -- ---- the order of the events
 
@@ -141,9 +184,6 @@ module _ (k : Skeleton) (xs : List LocatedEvent) (events : xs ≡ events_of k) w
       let at_x : item_at (events_of k) i ≡ Some x = subst (λ (os : List LocatedEvent). item_at os i ≡ Some x) events (read_at xs i x d l e) in
       inv r.0 o (in_order 0 k.strands i r.0 x o earlier at_x at_o) r.1 (u, misplaced.listed, (misplaced.elsewhere, misplaced.originates))
 
-  pub first_misplaced_found : (i : ℕ) (x d : LocatedEvent) (v : AtomTerm) (us : List UniqueAt) → us ≡ (listed k).uniquely_originating → i < length xs → x ≡ get_or xs i d → NoneBefore (OriginatesMisplaced k) xs i →
-      IsFirstMisplacedAt k x.node us v → IsFirstMisplaced k v x.node
-  first_misplaced_found i x d v us same l e inv found = record {
-    here = subst (λ (ws : List UniqueAt). IsFirstMisplacedAt k x.node ws v) same found;
-    earliest = earliest_found i x d l e inv;
-  }
+  pub first_misplaced_found : (i : ℕ) (x d : LocatedEvent) (v : AtomTerm) → i < length xs → x ≡ get_or xs i d → NoneBefore (OriginatesMisplaced k) xs i → IsFirstMisplacedAt k x.node (listed k).uniquely_originating v →
+      IsFirstMisplaced k v x.node
+  first_misplaced_found i x d v l e inv found = record { here = found; earliest = earliest_found i x d l e inv }

@@ -4,7 +4,7 @@ use Rattle.std.specs.Prelude.{not}
 use Rattle.std.proofs.lemmas.List.{map-append}
 use Rattle.cp_lists.specs.Lists.{IsIn, here, there}
 use Rattle.cp_lists.proofs.Items.{at_place}
-use Rattle.cp_lists.proofs.Members.{in_append, from_map, only_item}
+use Rattle.cp_lists.proofs.Members.{in_append, from_map, only_item, not_in_none}
 use Rattle.cp_normal.specs.declared.rewriting.Candidate.{Candidate}
 use Rattle.cp_normal.specs.declared.rewriting.Candidate.TheVariants.{Open, Done}
 use Rattle.cp_normal.specs.Leaves.{LeavesOf, of_result, of_item, EachHasLeaves, of_none, of_first, HasOpen}
@@ -189,8 +189,25 @@ pub branches_narrowed : (f : Form) (v : AtomTerm) (x : Node) (atoms : List AtomT
     AreOpenBranches f v atoms made → NarrowsInto f made
 branches_narrowed f v x atoms made consistent misplaced in_order are = into_branches consistent misplaced (subst (λ (vs : List AtomTerm). AreOpenBranches f v vs made) in_order are)
 
-pub form_narrowed : (f r : Form) (pairs : List OrderPair) (made : List (Candidate Form Form)) → IsSettled f.skeleton → AreNormalPairs f.skeleton pairs × (IsContradictory f.skeleton → ⊥) → r.skeleton ≡ with_pairs f.skeleton pairs →
-    r.substitution ≡ f.substitution → made ≡ Done r ∷ [] → NarrowsInto f made
-form_narrowed f r pairs made settled are same substitution is =
-    subst (NarrowsInto f) (sym is)
-    (into_form (record { settled = settled; pairs = pairs; normal = are.0; consistent = are.1; same = same; variables = ap (λ (k : Skeleton). k.variables) same; substitution = substitution }))
+pub form_narrowed : (f r : Form) (pairs : List OrderPair) → IsSettled f.skeleton → AreNormalPairs f.skeleton pairs × (IsContradictory f.skeleton → ⊥) → r.skeleton ≡ with_pairs f.skeleton pairs → r.substitution ≡ f.substitution → IsNormalFormOfSettled f r
+form_narrowed f r pairs settled are same substitution =
+    record { settled = settled; pairs = pairs; normal = are.0; consistent = are.1; same = same; variables = ap (λ (k : Skeleton). k.variables) same; substitution = substitution }
+
+pub settled_narrowed : (f r : Form) (made : List (Candidate Form Form)) → IsNormalFormOfSettled f r → made ≡ Done r ∷ [] → NarrowsInto f made
+settled_narrowed f r made n is = subst (NarrowsInto f) (sym is) (into_form n)
+
+-- ---- the normal forms, where a step tells them
+
+pub ends_beside : (f : Form) (rs : List Form) → IsRefuted f.skeleton ⊎ (IsSettled f.skeleton × IsContradictory f.skeleton) → rs ≡ [] → AreFormsBeside f.skeleton f.substitution rs
+ends_beside f rs ends e = subst (AreFormsBeside f.skeleton f.substitution) (sym e) (leaves_are_beside f [] (of_item (ends_narrowed f [] ends refl) of_none))
+
+pub settled_beside : (f r : Form) (rs : List Form) → IsNormalFormOfSettled f r → rs ≡ r ∷ [] → AreFormsBeside f.skeleton f.substitution rs
+settled_beside f r rs n e = subst (AreFormsBeside f.skeleton f.substitution) (sym e) (leaves_are_beside f (r ∷ []) (of_item (into_form n) (of_first of_result of_none)))
+
+pub none_kept : (f : Form) (rs : List Form) → rs ≡ [] → (g : Form) → IsIn g rs → Keeps f.skeleton f.substitution g
+none_kept f rs e g i = absurd (not_in_none (subst (IsIn g) e i))
+
+pub settled_kept : (f r : Form) (rs : List Form) → IsNormalFormOfSettled f r → rs ≡ r ∷ [] → (g : Form) → IsIn g rs → Keeps f.skeleton f.substitution g
+settled_kept f r rs n e g i =
+    let same : g ≡ r = only_item (subst (IsIn g) e i) in
+    subst (Keeps f.skeleton f.substitution) (sym same) (record { strands = ap (λ (k : Skeleton). k.strands) n.same; substitution = n.substitution })

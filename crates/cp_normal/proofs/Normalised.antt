@@ -34,3 +34,7 @@ consistent k refuted cycle (inl c) = refuted (inl c)
 consistent k refuted cycle (inr (inl t)) = refuted (inr (inl t))
 consistent k refuted cycle (inr (inr (inl l))) = refuted (inr (inr l))
 consistent k refuted cycle (inr (inr (inr c))) = cycle c
+
+-- A skeleton's own pairs close no cycle.
+pub own_close_none : (k : Skeleton) → AreNormalPairs k k.pairs → ((n : Node) → Before k n n → ⊥) → ClosesCycle k → ⊥
+own_close_none k normal no_cycle c = no_cycle c.node (cycle_of_these k k.pairs normal c)

@@ -3,13 +3,12 @@ use Rattle.std.proofs.Common.{◌≡◌, ◌↔◌, ◌⊎◌, inl, inr, ℕ, su
 use Rattle.std.proofs.Math.Bool.{or-false}
 use Rattle.std.proofs.Math.Seq.{drop-cons}
 use Rattle.std.proofs.lemmas.Bool.{or_cases}
-use Rattle.std.proofs.lemmas.List.{drop_all}
+use Rattle.std.proofs.lemmas.List.{append-nil, drop_all}
 use Rattle.std.proofs.lemmas.Bool.Decides.{Decides-eqb, Decides-and}
 use Rattle.std.specs.HashSet.{HashSet, contains}
 use Rattle.std.specs.List.{filter}
 use Rattle.cp_lists.specs.Lists.{IsIn, here, there}
 use Rattle.cp_lists.proofs.Members.{in_append, in_append_left, in_append_right, from_filter, into_filter}
-use Rattle.cp_lists.proofs.Appended.{moved_behind}
 use Rattle.cp_model.specs.Skeleton.{Skeleton}
 use Rattle.cp_model.specs.declared.node.Node.{Node}
 use Rattle.cp_model.specs.declared.node.OrderPair.{OrderPair}
@@ -40,15 +39,9 @@ module _ {S : Type 0} (ps : List OrderPair) (i : ℕ) (old : HashSet PairKey S) 
   all_keys l inv q =
       sym (ap (λ (xs : List OrderPair). contains is_same_key old q || has_key xs q) (drop_all i ps l) ∙ or-false (contains is_same_key old q)) ∙ inv q
 
-module _ {A : Type 0} (f : A → Bool) (xs : List A) (i : ℕ) (old whole : List A) (l : i < length xs) (inv : old ++ filter f (drop i xs) ≡ whole) where
-  next_kept : (d : A) (b : Bool) → f (get_or xs i d) ≡ b → filter f (drop i xs) ≡ cond b (get_or xs i d ∷ filter f (drop (suc i) xs)) (filter f (drop (suc i) xs))
-  next_kept d b e = ap (filter f) (drop-cons xs i d l) ∙ ap (λ c. cond c (get_or xs i d ∷ filter f (drop (suc i) xs)) (filter f (drop (suc i) xs))) e
-
-  pub other_added : (d : A) (new : List A) → f (get_or xs i d) ≡ true → new ≡ old ++ (get_or xs i d ∷ []) → new ++ filter f (drop (i + 1) xs) ≡ whole
-  other_added d new e n = rw add-one (moved_behind old new (filter f (drop i xs)) (filter f (drop (suc i) xs)) whole (get_or xs i d) n (next_kept d true e) inv)
-
-  pub own_passed : (d : A) → f (get_or xs i d) ≡ false → old ++ filter f (drop (i + 1) xs) ≡ whole
-  own_passed d e = rw add-one (sym (ap (λ ys. old ++ ys) (next_kept d false e)) ∙ inv)
+-- By the keys of the pairs the same ones are left out.
+pub by_keys : {S : Type 0} (keys : HashSet PairKey S) (own pairs : List OrderPair) → AreKeysOf keys own → filter (λ p. not (contains is_same_key keys (pair_key p))) pairs ≡ filter (is_other own) pairs
+by_keys keys own pairs are = λ i. filter (λ p. not (are (pair_key p) i)) pairs
 
 -- ---- a pair whose key is found is among the pairs
 
@@ -71,49 +64,47 @@ pub leads_among : (own sorted : List OrderPair) (x y : Node) (l : Target) (b : B
 leads_among own sorted x y l b same e h = subst (λ (ps : List OrderPair). (b ≡ true) ↔ ReachesAlong ps x y) same (subst (λ (t : Target). (b ≡ true) ↔ ReachesAlong t.pairs x t.node) e h)
 
 -- The earlier node of a pair whose key is found reaches the later one in the order.
-pub own_leads : {S : Type 0} (keys : HashSet PairKey S) (ps : List OrderPair) (p : OrderPair) → AreKeysOf keys ps → contains is_same_key keys (pair_key p) ≡ true → ReachesAlong ps p.earlier p.later
-own_leads keys ps p are e = over_pair (key_found ps p (sym (are (pair_key p)) ∙ e)) (refl, omega arith) (on_strand (refl, omega arith))
+own_leads : (ps : List OrderPair) (p : OrderPair) → has_key ps (pair_key p) ≡ true → ReachesAlong ps p.earlier p.later
+own_leads ps p e = over_pair (key_found ps p e) (refl, omega arith) (on_strand (refl, omega arith))
 
 -- Where that is so of each pair that is not found, it is so of each.
-pub others_decide : {S : Type 0} (keys : HashSet PairKey S) (own pairs others : List OrderPair) (all : Bool) → AreKeysOf keys own → others ≡ filter (λ p. is_other keys p) pairs →
-    (all ≡ true) ↔ AllLead own others → (all ≡ true) ↔ AllLead own pairs
-others_decide keys own pairs others all are is h = (λ e p m. found_or_other (h.0 e) p (contains is_same_key keys (pair_key p)) refl m, λ lead. h.1 (others_lead lead))
+pub others_decide : (own pairs others : List OrderPair) (all : Bool) → others ≡ filter (is_other own) pairs → (all ≡ true) ↔ AllLead own others → (all ≡ true) ↔ AllLead own pairs
+others_decide own pairs others all is h = (λ e p m. found_or_other (h.0 e) p (has_key own (pair_key p)) refl m, λ lead. h.1 (others_lead lead))
   where
-    found_or_other : AllLead own others → (p : OrderPair) (b : Bool) → contains is_same_key keys (pair_key p) ≡ b → IsIn p pairs → ReachesAlong own p.earlier p.later
-    found_or_other lead p true e m = own_leads keys own p are e
-    found_or_other lead p false e m = lead p (subst (IsIn p) (sym is) (into_filter (λ q. is_other keys q) pairs m (ap not e)))
+    found_or_other : AllLead own others → (p : OrderPair) (b : Bool) → has_key own (pair_key p) ≡ b → IsIn p pairs → ReachesAlong own p.earlier p.later
+    found_or_other lead p true e m = own_leads own p e
+    found_or_other lead p false e m = lead p (subst (IsIn p) (sym is) (into_filter (is_other own) pairs m (ap not e)))
 
     others_lead : AllLead own pairs → AllLead own others
-    others_lead lead p m = lead p (from_filter (λ q. is_other keys q) pairs (subst (IsIn p) is m)).0
+    others_lead lead p m = lead p (from_filter (is_other own) pairs (subst (IsIn p) is m)).0
 
 -- ---- own pairs, and the others that are added
 
-module _ {S : Type 0} (k : Skeleton) (own added : List OrderPair) (keys : HashSet PairKey S) (are_own : own ≡ k.pairs) (are_added : (p : OrderPair) → IsIn p added ↔ IsAddedPair k p)
-    (are_keys : AreKeysOf keys k.pairs) where
+module _ (k : Skeleton) (added : List OrderPair) (are_added : (p : OrderPair) → IsIn p added ↔ IsAddedPair k p) where
   abbrev others : List OrderPair
-  others = filter (λ p. is_other keys p) added
+  others = filter (is_other k.pairs) added
 
-  own_or_added : (p : OrderPair) → IsIn p own ⊎ IsIn p others → IsIn p k.pairs ⊎ IsAddedPair k p
-  own_or_added p (inl h) = inl (subst (IsIn p) are_own h)
-  own_or_added p (inr h) = inr ((are_added p).0 (from_filter (λ q. is_other keys q) added h).0)
+  own_or_added : (p : OrderPair) → IsIn p k.pairs ⊎ IsIn p others → IsIn p k.pairs ⊎ IsAddedPair k p
+  own_or_added p (inl h) = inl h
+  own_or_added p (inr h) = inr ((are_added p).0 (from_filter (is_other k.pairs) added h).0)
 
-  own_or_other : (q : OrderPair) (b : Bool) → contains is_same_key keys (pair_key q) ≡ b → IsIn q added → IsIn q (own ++ others)
-  own_or_other q true e m = in_append_left others (subst (IsIn q) (sym are_own) (key_found k.pairs q (sym (are_keys (pair_key q)) ∙ e)))
-  own_or_other q false e m = in_append_right own (into_filter (λ p. is_other keys p) added m (ap not e))
+  own_or_other : (q : OrderPair) (b : Bool) → has_key k.pairs (pair_key q) ≡ b → IsIn q added → IsIn q (k.pairs ++ others)
+  own_or_other q true e m = in_append_left others (key_found k.pairs q e)
+  own_or_other q false e m = in_append_right k.pairs (into_filter (is_other k.pairs) added m (ap not e))
 
-  in_one : (p : OrderPair) → IsIn p k.pairs ⊎ IsAddedPair k p → IsIn p (own ++ others)
-  in_one p (inl h) = in_append_left others (subst (IsIn p) (sym are_own) h)
-  in_one p (inr a) = own_or_other p (contains is_same_key keys (pair_key p)) refl ((are_added p).1 a)
+  in_one : (p : OrderPair) → IsIn p k.pairs ⊎ IsAddedPair k p → IsIn p (k.pairs ++ others)
+  in_one p (inl h) = in_append_left others h
+  in_one p (inr a) = own_or_other p (has_key k.pairs (pair_key p)) refl ((are_added p).1 a)
 
-  pub normal_of_both : (all : List OrderPair) → all ≡ own ++ others → AreNormalPairs k all
-  normal_of_both all whole p = (λ h. own_or_added p (in_append own others (subst (IsIn p) whole h)), λ h. subst (IsIn p) (sym whole) (in_one p h))
+  pub normal_of_both : (own more : List OrderPair) → own ≡ k.pairs → more ≡ filter (is_other own) added → AreNormalPairs k (k.pairs ++ more)
+  normal_of_both own more same is =
+      subst (λ (ps : List OrderPair). AreNormalPairs k (k.pairs ++ ps)) (sym (is ∙ ap (λ (ps : List OrderPair). filter (is_other ps) added) same))
+      (λ p. (λ h. own_or_added p (in_append k.pairs others h), λ h. in_one p h))
 
--- Where unique values add no pair, a skeleton's own pairs are those of its normal form.
-pub own_alone : (k : Skeleton) (pairs added : List OrderPair) → pairs ≡ k.pairs → ((p : OrderPair) → IsIn p added → ⊥) → ((p : OrderPair) → IsIn p added ↔ IsAddedPair k p) → AreNormalPairs k pairs
-own_alone k pairs added own none are p = (
-  λ i. inl (subst (λ (ps : List OrderPair). IsIn p ps) own i),
-  λ h. elim h [
-    | inl i ↦ subst (λ (ps : List OrderPair). IsIn p ps) (sym own) i
-    | inr a ↦ absurd (none p ((are p).1 a))
-  ],
-)
+-- The own pairs and the others in one list.
+pub normal_joined : (k : Skeleton) (own more added all : List OrderPair) → own ≡ k.pairs → more ≡ added → all ≡ own ++ more → AreNormalPairs k (k.pairs ++ added) → AreNormalPairs k all
+normal_joined k own more added all same is joined are = subst (λ (ps : List OrderPair). AreNormalPairs k ps) (sym (joined ∙ ap (λ ps. ps ++ more) same ∙ ap (λ ps. k.pairs ++ ps) is)) are
+
+-- Where unique values add no other pair, a skeleton's own pairs are those of its normal form.
+pub own_alone : (k : Skeleton) (added : List OrderPair) → AreNormalPairs k (k.pairs ++ added) → added ≡ [] → AreNormalPairs k k.pairs
+own_alone k added are none = subst (λ (ps : List OrderPair). AreNormalPairs k ps) (ap (λ ps. k.pairs ++ ps) none ∙ append-nil k.pairs) are

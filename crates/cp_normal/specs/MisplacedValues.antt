@@ -13,6 +13,10 @@ use Rattle.cp_skel.specs.Events.{LocatedEvent}
 abbrev pub OriginatesElsewhere : Skeleton → Node → UniqueAt → Type 0
 OriginatesElsewhere k x u = (x ≢ u.origin) × OriginatesAtTerm k u.value x
 
+-- Another value than v originates at the node, which is not its recorded origin.
+abbrev pub IsOtherMisplaced : Skeleton → Node → AtomTerm → UniqueAt → Type 0
+IsOtherMisplaced k x v u = OriginatesElsewhere k x u × (u.value ≢ v)
+
 -- Some unique value is misplaced where the event is.
 abbrev pub OriginatesMisplaced : Skeleton → LocatedEvent → Type 0
 OriginatesMisplaced k o = (u : UniqueAt) × IsIn u k.assumptions.uniquely_originating × OriginatesElsewhere k o.node u

@@ -24,9 +24,9 @@ has_key ps q = list_any (λ p. is_same_key (pair_key p) q) ps
 abbrev pub AreKeysOf : {S : Type 0} → HashSet PairKey S → List OrderPair → Type 0
 AreKeysOf keys ps = (q : PairKey) → contains is_same_key keys q ≡ has_key ps q
 
--- The pair's key is not in the set.
-abbrev pub is_other : {S : Type 0} → HashSet PairKey S → OrderPair → Bool
-is_other keys p = not (contains is_same_key keys (pair_key p))
+-- The pair is not among these.
+abbrev pub is_other : List OrderPair → OrderPair → Bool
+is_other own p = not (has_key own (pair_key p))
 
 -- Of each of the pairs the first node reaches the second in the order.
 abbrev pub AllLead : List OrderPair → List OrderPair → Type 0

@@ -5,10 +5,9 @@ ghost use Rattle.cp_lists.specs.Lists.{IsIn};
 ghost use Rattle.cp_model.specs.Skeleton.{UniqueAt as Plain};
 ghost use Rattle.cp_normal.specs.Branches.{IsSettled};
 ghost use Rattle.cp_skel.specs.Events.{events_of};
-ghost use Rattle.cp_normal.specs.MisplacedValues.{OriginatesElsewhere, IsFirstMisplacedAt, IsFirstMisplaced};
+ghost use Rattle.cp_normal.specs.MisplacedValues.{OriginatesElsewhere, IsOtherMisplaced, IsFirstMisplacedAt, IsFirstMisplaced};
 
-use crate::carried_values::carries_value;
-use crate::origins::originates;
+use crate::origins::originates_at;
 use cp_skel::{Atom, ListedSkeleton, LocatedEvent, Node, UniqueAt, listed};
 use std::alloc::{AllocError, Global};
 
@@ -32,11 +31,7 @@ fn originates_elsewhere(
     if node == unique.origin() {
         return false;
     }
-    let value = unique.value();
-    if !carries_value(occurrence, value) {
-        return false;
-    }
-    originates(k, value, node)
+    originates_at(k, occurrence, unique.value())
 }
 
 /// The value of the first entry that is misplaced at this event.
@@ -74,32 +69,63 @@ pub(crate) fn some_is_misplaced(k: &ListedSkeleton<'_>) -> bool
     false
 }
 
-/// The first unique value that is misplaced. The unique values are listed in report order.
-fn first_among(
+/// Whether another unique value than this one is misplaced at this event.
+fn is_other_misplaced(
     k: &ListedSkeleton<'_>,
-    uniques: &[UniqueAt],
-) -> Result<Option<Misplaced>, AllocError>
-    requires in_order { uniques.now ≡ (listed k.now).uniquely_originating }
-    ensures { IfOk result (λ found. MatchOption found
-        (IsSettled k.now)
-        (λ s. IsFirstMisplaced k.now s.value s.node)) }
+    occurrence: &LocatedEvent<'_>,
+    unique: &UniqueAt,
+    value: &Atom,
+) -> bool
+    requires is_there { IsIn occurrence.now (events_of k.now) }
+    ensures { IsTrue result ↔ IsOtherMisplaced k.now occurrence.now.node value.now unique.now }
 {
-    let occurrences = k.events();
-    for occurrence in occurrences {
-        match first_at(k, occurrence, uniques) {
-            Some(found) => {
-                let value = found.copy()?;
-                let node = occurrence.node();
-                return Ok(Some(Misplaced { value, node }));
-            }
-            None => {}
+    !unique.value().same(value) && originates_elsewhere(k, occurrence, unique)
+}
+
+/// Whether no other unique value than this one is misplaced at this event.
+fn is_alone(
+    k: &ListedSkeleton<'_>,
+    occurrence: &LocatedEvent<'_>,
+    uniques: &[UniqueAt],
+    value: &Atom,
+) -> bool
+    requires is_there { IsIn occurrence.now (events_of k.now) }
+    ensures { IsTrue result
+        → (u : Plain) → IsIn u uniques.now → IsOtherMisplaced k.now occurrence.now.node value.now u → ⊥ }
+{
+    for unique in uniques {
+        if is_other_misplaced(k, occurrence, unique, value) {
+            return false;
         }
     }
-    Ok(None)
+    true
+}
+
+/// The value that a report lists first of those that are misplaced at this event; `found` is the one that the skeleton lists
+/// first. They are put into the order of the report only if there are several.
+fn first_listed(
+    alloc: Global,
+    k: &ListedSkeleton<'_>,
+    occurrence: &LocatedEvent<'_>,
+    found: &Atom,
+) -> Result<Atom, AllocError>
+    requires is_there { IsIn occurrence.now (events_of k.now) }
+    requires misplaced { IsFirstMisplacedAt k.now occurrence.now.node k.now.assumptions.uniquely_originating found.now }
+    ensures { IfOk result (λ v. IsFirstMisplacedAt k.now occurrence.now.node (listed k.now).uniquely_originating v) }
+{
+    let uniques = k.skeleton().assumptions().uniquely_originating();
+    if is_alone(k, occurrence, uniques, found) {
+        return found.copy();
+    }
+    let assumptions = listed(alloc, k.skeleton())?;
+    match first_at(k, occurrence, assumptions.uniquely_originating()) {
+        Some(first) => first.copy(),
+        None => found.copy(),
+    }
 }
 
 /// The first unique value that is misplaced: by the strand of the node where it originates, then the node's index, then the
-/// report order of unique values. They are sorted only if some value is misplaced.
+/// report order of unique values.
 pub(crate) fn first_misplaced(
     alloc: Global,
     k: &ListedSkeleton<'_>,
@@ -108,9 +134,17 @@ pub(crate) fn first_misplaced(
         (IsSettled k.now)
         (λ s. IsFirstMisplaced k.now s.value s.node)) }
 {
-    if !some_is_misplaced(k) {
-        return Ok(None);
+    let occurrences = k.events();
+    let uniques = k.skeleton().assumptions().uniquely_originating();
+    for occurrence in occurrences {
+        match first_at(k, occurrence, uniques) {
+            Some(found) => {
+                let value = first_listed(alloc, k, occurrence, found)?;
+                let node = occurrence.node();
+                return Ok(Some(Misplaced { value, node }));
+            }
+            None => {}
+        }
     }
-    let assumptions = listed(alloc, k.skeleton())?;
-    first_among(k, assumptions.uniquely_originating())
+    Ok(None)
 }

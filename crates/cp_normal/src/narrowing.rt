@@ -1,13 +1,13 @@
 // Narrowing: the steps by which a skeleton comes to its normal forms.
 ghost use Rattle.std.specs.Prelude.{Some, IfOk};
 ghost use Rattle.cp_normal.specs.Branches.{IsSettled};
-ghost use Rattle.cp_normal.specs.Candidates.{NarrowsInto};
+ghost use Rattle.cp_normal.specs.Candidates.{IsNormalFormOfSettled, NarrowsInto};
 ghost use Rattle.cp_normal.specs.Findings.{IsNormalised};
-ghost use Rattle.cp_normal.specs.NextSteps.{IsNextOf};
+ghost use Rattle.cp_normal.specs.NextSteps.{form_pairs, IsNextOf};
 
 use crate::form::Form;
 use crate::misplaced_values::{Misplaced, first_misplaced};
-use crate::normal::{is_refuted, normal_pairs_among};
+use crate::normal::{FormPairs, is_refuted, normal_pairs_among};
 use crate::received_atoms::atoms_received;
 use crate::rewriting::{Candidate, Rewriting};
 use crate::unified_branches::branches;
@@ -20,13 +20,13 @@ pub(crate) struct Narrowing;
 
 /// What narrowing makes of a skeleton next.
 #[derive(Drop)]
-enum Next {
+pub(crate) enum Next {
     /// Nothing.
     Ends,
     /// The branches by a misplaced value and the atoms received before it.
     Branches(Misplaced, Vec<Atom>),
     /// The normal form, with these pairs.
-    Settles(Vec<OrderPair>),
+    Settles(FormPairs),
 }
 
 /// What narrowing makes of the skeleton next.
@@ -49,22 +49,18 @@ fn next_among(alloc: Global, k: &ListedSkeleton<'_>) -> Result<Next, AllocError>
 }
 
 /// What narrowing makes of the skeleton next. The skeleton's events are listed only here.
-fn next_of(alloc: Global, k: &Skeleton) -> Result<Next, AllocError>
+pub(crate) fn next_of(alloc: Global, k: &Skeleton) -> Result<Next, AllocError>
     ensures { IfOk result (λ next. IsNextOf k.now next) }
 {
     let listed = ListedSkeleton::of(alloc, k)?;
     next_among(alloc, &listed)
 }
 
-/// The normal form of a skeleton in which no unique value is misplaced, given the pairs of that form.
-fn settled(
-    alloc: Global,
-    form: Form,
-    pairs: Vec<OrderPair>,
-) -> Result<Vec<Candidate<Form, Form>>, AllocError>
+/// The form with these pairs, those of its normal form.
+fn with_form_pairs(alloc: Global, form: Form, pairs: Vec<OrderPair>) -> Result<Form, AllocError>
     requires settled { IsSettled form.skeleton }
     requires normal { IsNormalised form.skeleton (Some pairs.items) }
-    ensures { IfOk result (λ made. NarrowsInto form made.items) }
+    ensures { IfOk result (λ r. IsNormalFormOfSettled form r) }
 {
     let Form {
         skeleton,
@@ -72,11 +68,23 @@ fn settled(
     } = form;
     skeleton.is_sound();
     let skeleton = skeleton.with_pairs(alloc, pairs)?;
-    let normal = Form {
+    Ok(Form {
         skeleton,
         substitution,
-    };
-    Ok(vec![in alloc; Candidate::Done(normal)]?)
+    })
+}
+
+/// The normal form of a skeleton in which no unique value is misplaced, given the pairs of that form. If these are the skeleton's
+/// own, it stays as it is.
+pub(crate) fn settled(alloc: Global, form: Form, pairs: FormPairs) -> Result<Form, AllocError>
+    requires settled { IsSettled form.skeleton }
+    requires normal { IsNormalised form.skeleton (Some (form_pairs form.skeleton pairs)) }
+    ensures { IfOk result (λ r. IsNormalFormOfSettled form r) }
+{
+    match pairs {
+        FormPairs::Own => Ok(form),
+        FormPairs::More(pairs) => with_form_pairs(alloc, form, pairs),
+    }
 }
 
 impl Rewriting for Narrowing {
@@ -92,7 +100,10 @@ impl Rewriting for Narrowing {
         match next_of(alloc, &form.skeleton)? {
             Next::Ends => Ok(Vec::new(alloc)),
             Next::Branches(misplaced, atoms) => branches(alloc, &form, &misplaced.value, &atoms),
-            Next::Settles(pairs) => settled(alloc, form, pairs),
+            Next::Settles(pairs) => {
+                let normal = settled(alloc, form, pairs)?;
+                Ok(vec![in alloc; Candidate::Done(normal)]?)
+            }
         }
     }
 }

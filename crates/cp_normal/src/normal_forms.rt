@@ -9,13 +9,11 @@ ghost use Rattle.cp_normal.specs.Exact.{HasForms};
 ghost use Rattle.cp_normal.specs.Formed.{AreFormsBeside};
 ghost use Rattle.cp_normal.specs.NormalForms.{IsNormalFormOf};
 
+use crate::beside::forms_beside;
 use crate::form::Form;
-use crate::narrowing::Narrowing;
-use crate::rewriting::leaves;
 use cp_skel::Skeleton;
 use cp_unify::Subst;
 use std::alloc::{AllocError, Global};
-use std::marker::Brand;
 
 /// The normal forms of a skeleton, in the order of [`normalise`], each with a substitution: the given one, followed by the one by
 /// which the normal form comes from the skeleton, independent of any bundle. So if the given substitution maps terms to terms of
@@ -24,11 +22,8 @@ pub fn normalise_beside(alloc: Global, k: Skeleton, beside: &Subst) -> Result<Ve
     ensures forms { IfOk result (λ fs. AreFormsBeside k beside.now fs.items) }
 {
     let substitution = beside.copy(alloc)?;
-    let form = Form {
-        skeleton: k,
-        substitution,
-    };
-    leaves::<Narrowing, Brand>(alloc, &Narrowing, form)
+    let found = forms_beside(alloc, k, substitution)?;
+    Ok(found.forms)
 }
 
 /// The skeletons of forms, in their order.

@@ -1,17 +1,14 @@
 // Recorded origins of unique values: values that have two, and values that do not originate there.
 ghost use Rattle.std.specs.Prelude.{◌≡◌, ◌↔◌, IsTrue, IfOk};
-ghost use Rattle.cp_model.specs.Derivable.{IsOnInstance};
 ghost use Rattle.cp_model.specs.Realisation.{OriginatesAtTerm};
-ghost use Rattle.cp_lists.specs.Lists.{item_at};
+ghost use Rattle.cp_lists.specs.Lists.{IsIn};
 ghost use Rattle.cp_collapse.specs.Property.{Has};
-ghost use Rattle.cp_collapse.specs.Partitions.{is_some_instance};
+ghost use Rattle.cp_skel.specs.Events.{events_of};
 ghost use Rattle.cp_normal.specs.Events.{HasOtherOrigin, IsSentAtOrigin, IsCarriedBefore};
 ghost use Rattle.cp_normal.specs.Findings.{HasTwoOrigins, LosesOrigin};
 
 use crate::carried_values::carries_value;
-use cp_skel::{
-    Atom, Event, ListedSkeleton, LocatedEvent, Node, Skeleton, Strand, StrandShape, UniqueAt,
-};
+use cp_skel::{Atom, Event, ListedSkeleton, LocatedEvent, Node, Skeleton, UniqueAt};
 use std::alloc::{AllocError, Global};
 
 /// Whether the other entry has the same value and another origin.
@@ -69,15 +66,6 @@ fn is_carried_before(occurrence: &LocatedEvent<'_>, value: &Atom, origin: Node) 
     at.strand == origin.strand && at.index < origin.index && carries_value(occurrence, value)
 }
 
-/// Whether some event is a transmission at the node that carries the value.
-fn some_is_sent_at_origin(occurrences: &[LocatedEvent<'_>], value: &Atom, origin: Node) -> bool
-    ensures { IsTrue result ↔ Has (λ o. IsSentAtOrigin (record { value = value.now; origin = origin }) o) occurrences.now }
-{
-    occurrences
-        .iter()
-        .any(|occurrence| is_sent_at_origin(occurrence, value, origin))
-}
-
 /// Whether some event before the node, on its strand, carries the value.
 fn some_is_carried_before(occurrences: &[LocatedEvent<'_>], value: &Atom, origin: Node) -> bool
     ensures { IsTrue result ↔ Has (λ o. IsCarriedBefore (record { value = value.now; origin = origin }) o) occurrences.now }
@@ -87,35 +75,43 @@ fn some_is_carried_before(occurrences: &[LocatedEvent<'_>], value: &Atom, origin
         .any(|occurrence| is_carried_before(occurrence, value, origin))
 }
 
-/// Whether the strand with this number exists and is a role strand.
-fn is_instance_at(strands: &[Strand], number: usize) -> bool
-    ensures { result ≡ is_some_instance (item_at strands.now number) }
+/// Whether the event stands at the node.
+fn is_at(occurrence: &LocatedEvent<'_>, node: Node) -> bool
+    ensures { IsTrue result ↔ (occurrence.now.node ≡ node) }
 {
-    let Some(strand) = strands.get(number) else {
-        return false;
-    };
-    matches!(strand.shape(), StrandShape::Instance(_))
+    occurrence.node() == node
 }
 
-/// Whether the node is on a role strand.
-fn is_on_instance(k: &Skeleton, node: Node) -> bool
-    ensures { IsTrue result ↔ IsOnInstance k.now node }
+/// Whether the value originates at this event.
+pub(crate) fn originates_at(
+    k: &ListedSkeleton<'_>,
+    occurrence: &LocatedEvent<'_>,
+    value: &Atom,
+) -> bool
+    requires is_there { IsIn occurrence.now (events_of k.now) }
+    ensures { IsTrue result ↔ OriginatesAtTerm k.now value.now occurrence.now.node }
 {
-    is_instance_at(k.strands(), node.strand)
+    if !occurrence.is_by_role() {
+        return false;
+    }
+    let node = occurrence.node();
+    if !is_sent_at_origin(occurrence, value, node) {
+        return false;
+    }
+    !some_is_carried_before(k.events(), value, node)
 }
 
 /// Whether the value originates at the node.
-pub(crate) fn originates(k: &ListedSkeleton<'_>, value: &Atom, origin: Node) -> bool
+fn originates(k: &ListedSkeleton<'_>, value: &Atom, origin: Node) -> bool
     ensures { IsTrue result ↔ OriginatesAtTerm k.now value.now origin }
 {
-    if !is_on_instance(k.skeleton(), origin) {
-        return false;
-    }
     let occurrences = k.events();
-    if !some_is_sent_at_origin(occurrences, value, origin) {
-        return false;
+    for occurrence in occurrences {
+        if is_at(occurrence, origin) {
+            return originates_at(k, occurrence, value);
+        }
     }
-    !some_is_carried_before(occurrences, value, origin)
+    false
 }
 
 /// Whether some of these unique values does not originate at its recorded origin.

@@ -1,14 +1,17 @@
 // Looks pairs up among those of an order.
-ghost use Rattle.std.specs.Prelude.{◌≡◌, ◌↔◌, ◌++◌, IsTrue, IfOk, OnOk};
+ghost use Rattle.std.specs.Prelude.{◌≡◌, ◌↔◌, IsTrue, IfOk};
 ghost use Rattle.std.specs.List.{filter};
-ghost use Rattle.cp_normal.specs.OwnPairs.{pair_key, AreKeysOf, is_other, AllLead};
+ghost use Rattle.cp_normal.specs.OwnPairs.{pair_key, has_key, AreKeysOf, is_other, AllLead};
 
 use cp_skel::{OrderPair, SortedPairs};
 use std::alloc::{AllocError, Global};
 use std::collections::HashSet;
 
+/// So many pairs are few.
+const FEW: usize = 64;
+
 /// Strand and index of a pair's earlier node, then of its later node.
-pub(crate) type Key = ((usize, usize), (usize, usize));
+type Key = ((usize, usize), (usize, usize));
 
 /// The key under which a pair is looked up.
 fn key_of(pair: OrderPair) -> Key
@@ -19,7 +22,7 @@ fn key_of(pair: OrderPair) -> Key
 }
 
 /// The keys of the pairs.
-pub(crate) fn keys_of(alloc: Global, pairs: &[OrderPair]) -> Result<HashSet<Key>, AllocError>
+fn keys_of(alloc: Global, pairs: &[OrderPair]) -> Result<HashSet<Key>, AllocError>
     ensures { IfOk result (λ keys. AreKeysOf keys pairs.now) }
 {
     let mut keys = HashSet::new(alloc);
@@ -29,21 +32,28 @@ pub(crate) fn keys_of(alloc: Global, pairs: &[OrderPair]) -> Result<HashSet<Key>
     Ok(keys)
 }
 
-/// Appends those of the pairs `more` whose keys are not in the set.
-pub(crate) fn add_others(
-    more: &[OrderPair],
-    keys: &HashSet<Key>,
-    pairs: &mut Vec<OrderPair>,
-) -> Result<(), AllocError>
-    ensures { OnOk result (pairs.new.items ≡ pairs.old.items ++ filter (λ p. is_other keys.now p) more.now) }
+/// Whether the pair is among these.
+fn is_among(pairs: &[OrderPair], pair: OrderPair) -> bool
+    ensures { result ≡ has_key pairs.now (pair_key pair) }
 {
-    for pair in more {
-        if keys.contains(&key_of(*pair)) {
-            continue;
-        }
-        pairs.push(*pair)?;
+    pairs.iter().any(|own| *own == pair)
+}
+
+/// Those of the pairs that are not among `own`. Few are compared with each of these; many are looked up by their keys.
+pub(crate) fn others(
+    alloc: Global,
+    own: &[OrderPair],
+    mut pairs: Vec<OrderPair>,
+) -> Result<Vec<OrderPair>, AllocError>
+    ensures { IfOk result (λ others. others.items ≡ filter (is_other own.now) pairs.items) }
+{
+    if pairs.len() <= FEW {
+        pairs.retain(|pair| !is_among(own, *pair));
+        return Ok(pairs);
     }
-    Ok(())
+    let keys = keys_of(alloc, own)?;
+    pairs.retain(|pair| !keys.contains(&key_of(*pair)));
+    Ok(pairs)
 }
 
 /// Whether in each pair the earlier node reaches the later one along strands and the pairs of an order.
@@ -68,11 +78,7 @@ fn lead_along(alloc: Global, order: &[OrderPair], pairs: &[OrderPair]) -> Result
 pub fn all_lead(alloc: Global, order: &[OrderPair], pairs: &[OrderPair]) -> Result<bool, AllocError>
     ensures { IfOk result (λ all. IsTrue all ↔ AllLead order.now pairs.now) }
 {
-    if pairs.is_empty() {
-        return Ok(true);
-    }
-    let keys = keys_of(alloc, order)?;
-    let mut others = Vec::new(alloc);
-    add_others(pairs, &keys, &mut others)?;
+    let pairs = Vec::from_slice(alloc, pairs)?;
+    let others = others(alloc, order, pairs)?;
     lead_along(alloc, order, &others)
 }

@@ -1,5 +1,5 @@
 -- The search for the predecessors of one node: what a step keeps, and what there is at the end.
-use Rattle.std.proofs.Common.{◌≡◌, ◌==◌, ◌⊎◌, inl, inr, ℕ, suc, ◌+◌, ◌<◌, ◌≤◌, nat_le, List, [], ◌∷◌, ◌++◌, length, Bool, true, false, not, ◌&&◌, ◌||◌, if◌then◌else◌, refl, sym, ap, ap₂, ◌∙◌, subst, arith}
+use Rattle.std.proofs.Common.{◌≡◌, ◌==◌, ◌↔◌, ◌⊎◌, inl, inr, ℕ, suc, ◌+◌, ◌<◌, ◌≤◌, nat_le, List, [], ◌∷◌, ◌++◌, length, Bool, true, false, not, ◌&&◌, ◌||◌, if◌then◌else◌, refl, sym, ap, ap₂, ◌∙◌, subst, arith}
 use Rattle.std.specs.Prelude.{Option, Some, None, IsSome, option_to_list}
 use Rattle.std.proofs.lemmas.Bool.Decides.{nat_tests}
 use Rattle.std.proofs.lemmas.Bool.{or_left, or_right, and_from, and_parts, not_from_false}
@@ -222,6 +222,13 @@ ends_on_strand pairs x y (on_strand a) none = true_after x y a
 ends_on_strand pairs x y (over_pair {p} m a l) none =
     let e : at_or_after p.later y ≡ true = ends_on_strand pairs p.later y l none in
     absurd (let f : at_or_after p.later y ≡ false = none p m in cc)
+
+-- Where no pair ends at a node or before it, what reaches the node is at it or before it on its strand.
+pub reached_alone : (pairs : List OrderPair) (x y : Node) (b : Bool) → b ≡ at_or_after x y → any_pair (λ p. at_or_after p.later y) pairs ≡ false → (b ≡ true) ↔ ReachesAlong pairs x y
+reached_alone pairs x y b is none = (
+  λ h. on_strand (after_true x y (sym is ∙ h)),
+  λ r. is ∙ ends_on_strand pairs x y r (λ p m. none_in (λ q. at_or_after q.later y) pairs p none m),
+)
 
 pub alone : (pairs : List OrderPair) (y : Node) (old new : Tops) → ((s : ℕ) → old s ≡ None) → ((s : ℕ) → new s ≡ (if s == y.strand then Some y.index else old s)) → any_pair (λ p. at_or_after p.later y) pairs ≡ false → AreTops pairs y new
 alone pairs y old new empty put none x = (

@@ -9,7 +9,9 @@ mod closure;
 mod order;
 mod paths;
 mod predecessors;
+mod reaching;
 mod tops;
 
 pub use order::Order;
 pub use predecessors::{Predecessors, SortedPairs};
+pub use reaching::reaches;

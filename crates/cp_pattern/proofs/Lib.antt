@@ -2,6 +2,8 @@ pub mod BothMapped
 pub mod LawMatches
 pub mod Unifiers
 pub mod DifferentTerms
+pub mod CandidatesUnder
+pub mod CandidateParts
 pub mod AgreedBindings
 pub mod Matched
 pub mod Inside

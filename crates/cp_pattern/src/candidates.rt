@@ -2,7 +2,7 @@
 ghost use Rattle.std.specs.Prelude.{◌≡◌, IfOk};
 ghost use Rattle.cp_model.specs.Term.{tag_term};
 ghost use Rattle.cp_model.specs.Positions.{positions_where};
-ghost use Rattle.cp_pattern.specs.Candidates.{may_equal};
+ghost use Rattle.cp_pattern.specs.Candidates.{may_equal, carries_where};
 
 use cp_term::{Path, Shape, Sort, Term, TermTest, is_of_sort, paths_where};
 use std::alloc::{AllocError, Global};
@@ -17,25 +17,41 @@ fn is_tag(text: &str, term: &Term) -> bool
     }
 }
 
-/// Whether values may make the two terms equal, judged by their outermost form: tags of the same text, atoms of the same sort,
-/// two pairs, or two encryptions.
+/// Whether values may make the two terms equal, as far as their forms and the sorts of their atoms tell. Right parts and
+/// plaintexts are walked by a loop, since a term may be long.
 fn is_candidate(critical: &Term, term: &Term) -> bool
     ensures { result ≡ may_equal critical.now term.now }
 {
-    match critical.shape() {
-        Shape::Tag(text) => is_tag(text, term),
-        Shape::Variable(_, sort) => is_of_sort(term, sort),
-        Shape::Inverse(_) => is_of_sort(term, Sort::Akey),
-        Shape::Pubk(..) => is_of_sort(term, Sort::Akey),
-        Shape::Ltk(..) => is_of_sort(term, Sort::Skey),
-        Shape::Pair(..) => match term.shape() {
-            Shape::Pair(..) => true,
-            _ => false,
-        },
-        Shape::Encryption(..) => match term.shape() {
-            Shape::Encryption(..) => true,
-            _ => false,
-        },
+    let mut sought = critical;
+    let mut there = term;
+    'parts: loop {
+        match sought.shape() {
+            Shape::Tag(text) => return is_tag(text, there),
+            Shape::Variable(_, sort) => return is_of_sort(there, sort),
+            Shape::Inverse(_) => return is_of_sort(there, Sort::Akey),
+            Shape::Pubk(..) => return is_of_sort(there, Sort::Akey),
+            Shape::Ltk(..) => return is_of_sort(there, Sort::Skey),
+            Shape::Pair(left, right) => {
+                let Shape::Pair(left_there, right_there) = there.shape() else {
+                    return false;
+                };
+                if !is_candidate(left, left_there) {
+                    return false;
+                }
+                sought = right;
+                there = right_there;
+            }
+            Shape::Encryption(body, key) => {
+                let Shape::Encryption(body_there, key_there) = there.shape() else {
+                    return false;
+                };
+                if !is_candidate(key, key_there) {
+                    return false;
+                }
+                sought = body;
+                there = body_there;
+            }
+        }
     }
 }
 
@@ -58,4 +74,26 @@ pub fn positions_for(alloc: Global, whole: &Term, critical: &Term) -> Result<Vec
     ensures { IfOk result (λ v. v.items ≡ positions_where (may_equal critical.now) whole.now) }
 {
     paths_where(alloc, whole, &MayEqual { critical })
+}
+
+/// Whether the whole carries a term that may equal the critical one.
+pub fn may_carry(whole: &Term, critical: &Term) -> bool
+    ensures { result ≡ carries_where (may_equal critical.now) whole.now }
+{
+    let mut rest = whole;
+    'rest: loop {
+        if is_candidate(critical, rest) {
+            return true;
+        }
+        match rest.shape() {
+            Shape::Pair(left, right) => {
+                if may_carry(left, critical) {
+                    return true;
+                }
+                rest = right;
+            }
+            Shape::Encryption(body, _) => rest = body,
+            _ => return false,
+        }
+    }
 }

@@ -15,7 +15,7 @@ mod term_unifier;
 mod test_terms;
 mod within;
 
-pub use candidates::positions_for;
+pub use candidates::{may_carry, positions_for};
 pub use guard::is_guarded;
 pub use laws::{
     matching_stays, most_general_unifiers_are_determined, others_are_never_equal, unifiers_match,

@@ -118,8 +118,7 @@ fn push_few(
     if names.len() <= FEW {
         return Ok(None);
     }
-    let places = table_of(alloc, names)?;
-    Ok(Some(places))
+    table_of(alloc, names).map(Some)
 }
 
 impl NameSet {

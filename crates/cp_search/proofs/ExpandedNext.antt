@@ -26,7 +26,7 @@ use Rattle.cp_search.specs.declared.waiting.Queue.{Queue}
 use Rattle.cp_search.specs.declared.waiting.Waiting.{Waiting}
 use Rattle.cp_search.specs.declared.resolved.Resolved.{Resolved}
 use Rattle.cp_search.specs.declared.resolved.Resolved.TheVariants as settled
-use Rattle.cp_search.specs.declared.resolved.Expanded.{Expanded}
+use Rattle.cp_search.specs.declared.expanded.Expanded.{Expanded}
 use Rattle.cp_search.specs.MadeLabels.{made_view, AreFound, AddMade}
 use Rattle.cp_search.specs.ResolvedLabels.{facts_of, expanded_label, IsOpenMark, AreSoundMade, ExpandsLabel, IsNextToExpand, IsSearched}
 use Rattle.cp_search.specs.WaitingRecords.{Waits, AreKept, TakesRecord}

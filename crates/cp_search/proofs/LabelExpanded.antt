@@ -16,7 +16,7 @@ use Rattle.cp_expansion.specs.declared.expansion.Expansion as expansions
 use Rattle.cp_tree.specs.Made as plain
 use Rattle.cp_tree.specs.Sound.{ExpandsSoundly}
 use Rattle.cp_search.specs.declared.made.Made.{Made}
-use Rattle.cp_search.specs.declared.resolved.Expanded.{Expanded}
+use Rattle.cp_search.specs.declared.expanded.Expanded.{Expanded}
 use Rattle.cp_search.specs.MadeLabels.{AddMade}
 use Rattle.cp_search.specs.ResolvedLabels.{ExpandsLabel, AreSoundMade}
 use Rattle.cp_search.proofs.ExpandedNext.{children_sound}

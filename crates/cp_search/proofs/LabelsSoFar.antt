@@ -11,7 +11,7 @@ use Rattle.cp_tree.specs.Searched.{IsMarked}
 use Rattle.cp_search.specs.declared.made.Made.{Made}
 use Rattle.cp_search.specs.declared.resolved.Resolved.{Resolved}
 use Rattle.cp_search.specs.declared.resolved.Resolved.TheVariants as settled
-use Rattle.cp_search.specs.declared.resolved.Expanded.{Expanded}
+use Rattle.cp_search.specs.declared.expanded.Expanded.{Expanded}
 use Rattle.cp_search.specs.TreeLabels.{label_with, labels_with}
 use Rattle.cp_search.specs.ResolvedLabels.{AreExpandedOf}
 

@@ -20,7 +20,7 @@ use Rattle.cp_tree.proofs.Numbered.{numbers_append}
 use Rattle.cp_search.specs.declared.made.Made.{Made}
 use Rattle.cp_search.specs.declared.resolved.Resolved.{Resolved}
 use Rattle.cp_search.specs.declared.resolved.Resolved.TheVariants as settled
-use Rattle.cp_search.specs.declared.resolved.Expanded.{Expanded}
+use Rattle.cp_search.specs.declared.expanded.Expanded.{Expanded}
 use Rattle.cp_search.specs.MadeLabels.{made_view, made_link, made_untabled, IsFound, AreFound}
 use Rattle.cp_search.specs.ResolvedLabels.{facts_of, resolved_label, resolved_labels, label_untabled, IsOpenMark, AreExpandedOf, AreSoundMade, IsSearched}
 use Rattle.cp_search.proofs.OneMoreResolved.{numbers_of_map, children_behind, count_behind, one_more, resolved_still}

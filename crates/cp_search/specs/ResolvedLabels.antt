@@ -22,7 +22,7 @@ use Rattle.cp_roots.specs.declared.root.Root.{Root}
 use Rattle.cp_search.specs.declared.made.Made.{Made}
 use Rattle.cp_search.specs.declared.resolved.Resolved.{Resolved}
 use Rattle.cp_search.specs.declared.resolved.Resolved.TheVariants as settled
-use Rattle.cp_search.specs.declared.resolved.Expanded.{Expanded}
+use Rattle.cp_search.specs.declared.expanded.Expanded.{Expanded}
 use Rattle.cp_search.specs.declared.label_search.Search.{Search}
 use Rattle.cp_search.specs.declared.waiting.Waiting.{Waiting}
 use Rattle.cp_search.specs.MadeLabels.{made_view, made_link, untabled, made_untabled, AreFound, AddMade}

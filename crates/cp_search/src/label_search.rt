@@ -14,9 +14,11 @@ ghost use Rattle.cp_search.specs.ResolvedLabels.{facts_of, IsNextToExpand, Expan
 ghost use Rattle.cp_search.specs.WaitingRecords.{AreKept, NoneWaits, KeepsRecords};
 
 use crate::children::make_children;
+use crate::expanded::Expanded;
+use crate::expanded_box::ExpandedBox;
 use crate::general_labels::resolve_realised;
 use crate::made::Made;
-use crate::resolved::{Expanded, Resolved};
+use crate::resolved::Resolved;
 use crate::roots::make_roots;
 use crate::waiting::{Queue, Waiting};
 use cp_expansion::{Expansion, expand};
@@ -100,7 +102,7 @@ fn expand_to(
     number: usize,
     test: Test,
     expansion: Expansion,
-) -> Result<Expanded, AllocError>
+) -> Result<ExpandedBox, AllocError>
     requires there { number < length queue.old.made }
     ensures kept { OnOk result (KeepsRecords queue.old queue.new) }
     ensures made { IfOk result (λ e. AddMade (map (plain.made_of_child number) expansion.children.items) queue.old.made queue.new.made × (e.children ≡ numbers_from (length queue.old.made) expansion.children.items) × (e.skeleton ≡ expansion.skeleton) × (e.test ≡ test) × (e.patterns ≡ expansion.patterns.items)) }
@@ -111,12 +113,13 @@ fn expand_to(
         children,
     } = expansion;
     let children = make_children(alloc, queue, number, children)?;
-    Ok(Expanded {
+    let label = Expanded {
         skeleton,
         test,
         patterns: Patterns::of(patterns),
         children: Numbers::of(children),
-    })
+    };
+    ExpandedBox::of(alloc, label)
 }
 
 /// Expands a label, of which these are the events: finds its test and appends the labels of that test's children.
@@ -126,7 +129,7 @@ fn expand_label(
     queue: &mut Queue,
     number: usize,
     events: &[LocatedEvent<'_>],
-) -> Result<Expanded, AllocError>
+) -> Result<ExpandedBox, AllocError>
     requires there { number < length queue.old.made }
     requires sound { AreSoundMade protocol.now queue.old.made }
     requires unrealised { (m : program.Made) → item_at queue.old.made number ≡ Some m → (m.dead ≡ false) × (m.unrealised ≢ []) }

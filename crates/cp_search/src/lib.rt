@@ -5,6 +5,8 @@
 mod candidates;
 mod children;
 mod copy_index;
+mod expanded;
+mod expanded_box;
 mod general_labels;
 mod isomorphism;
 mod label_search;

@@ -9,12 +9,13 @@ ghost use Rattle.cp_search.specs.ResolvedLabels.{leaf_label, generalised_label, 
 ghost use Rattle.cp_search.specs.declared.made.Made as program;
 ghost use Rattle.cp_search.specs.declared.resolved.Resolved as program_resolved;
 ghost use Rattle.cp_search.specs.declared.resolved.Resolved.TheVariants as resolved_as;
-ghost use Rattle.cp_search.specs.declared.resolved.Expanded as program_expanded;
+ghost use Rattle.cp_search.specs.declared.expanded.Expanded as program_expanded;
 
 use crate::candidates::candidate_marks;
+use crate::expanded::Expanded;
 use crate::label_search::Search;
 use crate::made::Made;
-use crate::resolved::{Expanded, Resolved};
+use crate::resolved::Resolved;
 use crate::waiting::Queue;
 use cp_skel::{Label, Labels, Mark, Numbers, Outcome, Tree};
 use cp_term::Patterns;
@@ -103,7 +104,7 @@ fn label(
     ensures { IfOk result (λ l. l ≡ label_with made settled mark) }
 {
     match settled {
-        Resolved::Expanded(expansion) => Ok(expanded(made, expansion)),
+        Resolved::Expanded(expansion) => Ok(expanded(made, expansion.into_inner())),
         Resolved::Generalised(child) => generalised(alloc, made, child),
         Resolved::Leaf(Some(own)) => Ok(leaf(alloc, made, Some(own))),
         Resolved::Leaf(None) => Ok(leaf(alloc, made, mark)),

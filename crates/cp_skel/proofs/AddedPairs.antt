@@ -1,18 +1,17 @@
 -- A skeleton to whose order a pair is added, or that refuses one since it would close a cycle.
-use Rattle.std.proofs.Common.{◌≡◌, ◌↔◌, List, ◌∷◌, Bool, true, false, sym, ap, ◌∙◌, subst}
+use Rattle.std.proofs.Common.{◌≡◌, ◌↔◌, List, ◌∷◌, Bool, true, false, sym, subst}
 use Rattle.cp_model.specs.declared.node.Node.{Node}
 use Rattle.cp_model.specs.declared.node.OrderPair.{OrderPair}
 use Rattle.cp_model.specs.Order.{ReachesAlong}
 use Rattle.cp_model.specs.Skeleton.{Skeleton, Before, IsOrderPair}
 use Rattle.cp_order.specs.Closed.{KeepsOrder}
-use Rattle.cp_order.specs.PredecessorNodes.{Target}
 use Rattle.cp_skel.specs.Ordered.{IsOrdered, ordered_by}
 use Rattle.cp_skel.specs.Sound.{IsSound}
 use Rattle.cp_skel.proofs.OrderKept.{leads_back, leads_not_back, more_ordered, kept_before}
 use Rattle.cp_skel.proofs.SoundSkeletons.{sound_ordered, added_sound}
 
 module _ (parts seen : Skeleton) (same : parts ≡ seen) (sound : IsSound parts) (p : OrderPair) (fits : IsOrderPair seen p)
-    (leads : Bool) (l : Target) (pairs : List OrderPair) (gathered : l ≡ record { pairs = pairs; node = p.earlier }) (own : pairs ≡ parts.pairs) (has : (leads ≡ true) ↔ ReachesAlong l.pairs p.later l.node) where
+    (leads : Bool) (pairs : List OrderPair) (own : pairs ≡ parts.pairs) (has : (leads ≡ true) ↔ ReachesAlong pairs p.later p.earlier) where
   abbrev k : Skeleton
   k = parts
 
@@ -20,7 +19,7 @@ module _ (parts seen : Skeleton) (same : parts ≡ seen) (sound : IsSound parts)
   pair = subst (λ d. IsOrderPair d p) (sym same) fits
 
   told : (leads ≡ true) ↔ ReachesAlong parts.pairs p.later p.earlier
-  told = subst (λ (t : Target). (leads ≡ true) ↔ ReachesAlong t.pairs p.later t.node) (gathered ∙ ap (λ (ps : List OrderPair). record { pairs = ps; node = p.earlier }) own) has
+  told = subst (λ (ps : List OrderPair). (leads ≡ true) ↔ ReachesAlong ps p.later p.earlier) own has
 
   free : leads ≡ false → Before k p.later p.earlier → ⊥
   free = leads_not_back k p leads (sound_ordered k sound) pair told

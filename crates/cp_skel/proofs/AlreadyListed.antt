@@ -1,15 +1,16 @@
 -- Lists whose items already stand in the order in which a report lists them.
-use Rattle.std.proofs.Common.{◌≡◌, ℕ, suc, ◌+◌, ◌<◌, ◌≤◌, List, [], ◌∷◌, ◌++◌, length, get_or, map, take, drop, refl, sym, ap, ap₂, ◌∙◌, subst, arith, Bool, true, false, if◌then◌else◌, ⊎_elim, append_assoc, Option, Some, None}
+use Rattle.std.proofs.Common.{◌≡◌, ℕ, suc, ◌+◌, ◌<◌, ◌≤◌, List, [], ◌∷◌, ◌++◌, length, get_or, map, take, drop, refl, sym, ap, ◌∙◌, subst, arith, Bool, true, false, if◌then◌else◌, ⊎_elim, append_assoc, Option, Some, None}
 use Rattle.std.specs.Prelude.{IfSome}
 use Rattle.std.specs.List.{filter}
-use Rattle.std.proofs.lemmas.List.{map-append, take-append-drop, take_all, drop_all, length-take-le}
+use Rattle.std.proofs.lemmas.List.{map-append, take-append-drop, take_all, length-take-le}
 use Rattle.std.proofs.lemmas.List.Elements.{filter-append}
-use Rattle.cp_lists.specs.Lists.{IsIn}
+use Rattle.cp_lists.specs.Lists.{IsIn, here, there}
 use Rattle.cp_lists.proofs.Fronts.{take_next}
 use Rattle.cp_lists.proofs.Items.{item_of_read}
-use Rattle.cp_lists.proofs.Members.{drop_read, only_item, not_in_none, item_is_in, in_append}
+use Rattle.cp_lists.proofs.Members.{drop_read, only_item, not_in_none, item_is_in, in_append, in_append_right}
 use Rattle.cp_model.specs.Skeleton.{SkeletonStrand, instance, listener, Assumptions, Skeleton}
 use Rattle.cp_model.specs.Given.{has_atom, atoms_onto, has_unique, uniques_onto, applying, applying_uniques, given_non, given_penetrator_non, given_uniques, listed}
+use Rattle.cp_model.specs.GivenAssumptions.{IsEachOnce}
 use Rattle.cp_model.proofs.Gathered.{IsGathering, onto-append, atoms, uniques}
 use Rattle.cp_strand.specs.declared.given.IndexedUnique.{IndexedUnique}
 use Rattle.cp_strand.specs.declared.given.Given.{Given}
@@ -25,15 +26,29 @@ none-first : {A : Type 0} (xs : List A) → take 0 xs ≡ []
 none-first [] = refl
 none-first (x ∷ xs) = refl
 
+-- Where each item stands once, none of the first ones stands behind them.
+once-apart : {A : Type 0} (xs ys : List A) → IsEachOnce (xs ++ ys) → (v : A) → IsIn v xs → IsIn v ys → ⊥
+once-apart [] ys once v i j = not_in_none i
+once-apart (x ∷ xs) ys once v here j = once.0 (in_append_right xs j)
+once-apart (x ∷ xs) ys once v (there i) j = once-apart xs ys once.1 v i j
+
+once-behind : {A : Type 0} (xs ys : List A) → IsEachOnce (xs ++ ys) → IsEachOnce ys
+once-behind [] ys once = once
+once-behind (x ∷ xs) ys once = once-behind xs ys once.1
+
+not_before : {A : Type 0} (xs : List A) (n : ℕ) (v : A) → IsEachOnce xs → n < length xs → v ≡ get_or xs n v → IsIn v (take n xs) → ⊥
+not_before xs n v once lt is i =
+    once-apart (take n xs) (drop n xs) (subst IsEachOnce (sym (take-append-drop n xs)) once) v i (subst (IsIn v) (sym (drop_read xs n v lt is)) here)
+
 module _ {A : Type 0} {has : List A → A → Bool} {onto : List A → List A → List A} (g : IsGathering has onto) (old : List A) where
   pub lists-none : (m : ℕ) → m ≤ length old → ListsTo has onto old m [] m
-  lists-none m le = (le, g.ends (take m old))
+  lists-none m le = (le, λ once. g.ends (take m old))
 
   pub lists-then : (xs ys : List A) (m n k : ℕ) → ListsTo has onto old m xs n → ListsTo has onto old n ys k → ListsTo has onto old m (xs ++ ys) k
   lists-then xs ys m n k p q = (
     q.0,
-    ap (onto (take m old)) (filter-append (has old) xs ys) ∙ onto-append g (take m old) (filter (has old) xs) (filter (has old) ys)
-        ∙ ap (λ zs. onto zs (filter (has old) ys)) p.1 ∙ q.1,
+    λ once. ap (onto (take m old)) (filter-append (has old) xs ys) ∙ onto-append g (take m old) (filter (has old) xs) (filter (has old) ys)
+        ∙ ap (λ zs. onto zs (filter (has old) ys)) (p.1 once) ∙ q.1 once,
   )
 
   -- ---- one item
@@ -43,23 +58,23 @@ module _ {A : Type 0} {has : List A → A → Bool} {onto : List A → List A �
   known-one m v false i = g.ends (take m old)
 
   pub lists-known : (m : ℕ) (v : A) → m ≤ length old → IsIn v (take m old) → ListsTo has onto old m (v ∷ []) m
-  lists-known m v le i = (le, known-one m v (has old v) i)
+  lists-known m v le i = (le, λ once. known-one m v (has old v) i)
 
   filtered : (m : ℕ) (v : A) (b : Bool) → has old v ≡ b → onto (take m old) (filter (has old) (v ∷ [])) ≡ onto (take m old) (if b then v ∷ [] else [])
   filtered m v b e = ap (λ c. onto (take m old) (if c then v ∷ [] else [])) e
 
-  pub lists-next : (m : ℕ) (v : A) → m < length old → v ≡ get_or old m v → (IsIn v (take m old) → ⊥) → ListsTo has onto old m (v ∷ []) (m + 1)
-  lists-next m v lt is apart = (
+  pub lists-next : (m : ℕ) (v : A) → m < length old → v ≡ get_or old m v → ListsTo has onto old m (v ∷ []) (m + 1)
+  lists-next m v lt is = (
     omega (arith, lt),
-    filtered m v true (g.finds old v (item_is_in old m v lt is))
-        ∙ onto-new g (take m old) (v ∷ []) ((λ i. not_in_none i), tt) (λ w i j. apart (subst (λ y. IsIn y (take m old)) (only_item i) j))
+    λ once. filtered m v true (g.finds old v (item_is_in old m v lt is))
+        ∙ onto-new g (take m old) (v ∷ []) ((λ i. not_in_none i), tt) (λ w i j. not_before old m v once lt is (subst (λ y. IsIn y (take m old)) (only_item i) j))
         ∙ sym (one-more old m v lt is),
   )
 
   pub lists-other : (m : ℕ) (v : A) → m ≤ length old → (IsIn v (take m old) → ⊥) → (IsIn v (drop m old) → ⊥) → ListsTo has onto old m (v ∷ []) m
   lists-other m v le before behind = (
     le,
-    filtered m v false (is-new g old v (λ i. ⊎_elim before behind (in_append (take m old) (drop m old) (subst (IsIn v) (sym (take-append-drop m old)) i))))
+    λ once. filtered m v false (is-new g old v (λ i. ⊎_elim before behind (in_append (take m old) (drop m old) (subst (IsIn v) (sym (take-append-drop m old)) i))))
         ∙ g.ends (take m old),
   )
 
@@ -83,29 +98,26 @@ module _ {A : Type 0} {has : List A → A → Bool} {onto : List A → List A �
   lists-given f bs ys zs m n k i b lt is joined same p q =
       subst (λ us. ListsTo has onto old m us k) (sym (ap f (one-more bs i b lt is) ∙ joined ∙ ap (λ us. f (take i bs) ++ us) (sym same))) (lists-then (f (take i bs)) ys m n k p q)
 
-  -- ---- items that stand nowhere before
+  -- ---- items each of which stands once
 
-  pub new-next : (i : ℕ) (x : A) (all : List A) → i < length old → x ≡ get_or old i x → (IsIn x (take i old) → ⊥) → onto (take i old) (drop i old) ≡ all
-      → onto (take (i + 1) old) (drop (i + 1) old) ≡ all
-  new-next i x all lt is apart h =
-      ap (λ ys. onto ys (drop (i + 1) old)) (one-more old i x lt is)
-      ∙ ap (λ b. onto (if b then take i old else take i old ++ x ∷ []) (drop (i + 1) old)) (sym (is-new g (take i old) x apart))
-      ∙ sym (g.goes (take i old) x (drop (i + 1) old)) ∙ ap (onto (take i old)) (sym (drop_read old i x lt is)) ∙ h
-
-  pub new-end : (start i : ℕ) → length old ≤ i → onto (take i old) (drop i old) ≡ onto (take start old) (drop start old) → onto (take start old) old ≡ old
-  new-end start i le h =
-      ap (onto (take start old)) (sym (take-append-drop start old)) ∙ onto-append g (take start old) (take start old) (drop start old)
-      ∙ ap (λ b. onto b (drop start old)) (onto-known g (take start old) (take start old) (λ v j. j)) ∙ sym h
-      ∙ ap₂ onto (take_all i old le) (drop_all i old le) ∙ g.ends old
+  pub put-again : (n : ℕ) → IsEachOnce old → onto (take n old) old ≡ old
+  put-again n once =
+      ap (onto (take n old)) (sym (take-append-drop n old)) ∙ onto-append g (take n old) (take n old) (drop n old)
+      ∙ ap (λ b. onto b (drop n old)) (onto-known g (take n old) (take n old) (λ v j. j))
+      ∙ onto-new g (take n old) (drop n old) (once-behind (take n old) (drop n old) (split-once n once)) (λ v i j. once-apart (take n old) (drop n old) (split-once n once) v j i)
+      ∙ take-append-drop n old
+    where
+      split-once : (n : ℕ) → IsEachOnce old → IsEachOnce (take n old ++ drop n old)
+      split-once n once = subst IsEachOnce (sym (take-append-drop n old)) once
 
   -- ---- the whole list
 
-  pub listed-already : (own given : List A) (m n : ℕ) → ListsTo has onto old 0 own m → ListsTo has onto old m given n → onto (take n old) old ≡ old
+  pub listed-already : (own given : List A) (m n : ℕ) → ListsTo has onto old 0 own m → ListsTo has onto old m given n → IsEachOnce old
       → onto [] (filter (has old) (own ++ given) ++ old) ≡ old
-  listed-already own given m n p q new =
+  listed-already own given m n p q once =
       let both = lists-then own given 0 m n p q in
       onto-append g [] (filter (has old) (own ++ given)) old
-      ∙ ap (λ zs. onto zs old) (ap (λ zs. onto zs (filter (has old) (own ++ given))) (sym (none-first old)) ∙ both.1) ∙ new
+      ∙ ap (λ zs. onto zs old) (ap (λ zs. onto zs (filter (has old) (own ++ given))) (sym (none-first old)) ∙ both.1 once) ∙ put-again n once
 
 -- ---- what strands give
 
@@ -170,9 +182,7 @@ pub each_all : (old : Assumptions) (m n : Counts) (ks : List SkeletonStrand) (i 
 each_all old m n ks i le p = subst (λ js. ListEach old m (given_from 0 js) n) (take_all i ks le) p
 
 pub each_listed : (k : Skeleton) (m n : Counts) → ListEach k.assumptions none_listed k.from_problem.assumptions m → ListEach k.assumptions m (given_from 0 k.strands) n
-    → atoms_onto (take n.non_originating k.assumptions.non_originating) k.assumptions.non_originating ≡ k.assumptions.non_originating
-    → atoms_onto (take n.penetrator_non_originating k.assumptions.penetrator_non_originating) k.assumptions.penetrator_non_originating ≡ k.assumptions.penetrator_non_originating
-    → uniques_onto (take n.uniquely_originating k.assumptions.uniquely_originating) k.assumptions.uniquely_originating ≡ k.assumptions.uniquely_originating
+    → IsEachOnce k.assumptions.non_originating → IsEachOnce k.assumptions.penetrator_non_originating → IsEachOnce k.assumptions.uniquely_originating
     → listed k ≡ k.assumptions
 each_listed k m n p q a b c =
     let own = k.from_problem.assumptions in
@@ -192,14 +202,9 @@ pub some_given : (r : Option Counts) (old : Assumptions) (m : Counts) (s : ℕ) 
 some_given None old m s g k given h = tt
 some_given (Some n) old m s g k given h = each_given old m n s g k given h
 
-pub new_moved : {A : Type 0} (onto : List A → List A → List A) (read old : List A) (n : ℕ) → read ≡ old → onto (take n read) read ≡ read → onto (take n old) old ≡ old
-new_moved onto read old n e h = subst (λ xs. onto (take n xs) xs ≡ xs) e h
-
 pub listed_of : (k : Skeleton) (old own : Assumptions) (ks : List SkeletonStrand) (m n : Counts) → old ≡ k.assumptions → own ≡ k.from_problem.assumptions → ks ≡ k.strands
     → ListEach old none_listed own m → ListEach old m (given_from 0 ks) n
-    → atoms_onto (take n.non_originating k.assumptions.non_originating) k.assumptions.non_originating ≡ k.assumptions.non_originating
-    → atoms_onto (take n.penetrator_non_originating k.assumptions.penetrator_non_originating) k.assumptions.penetrator_non_originating ≡ k.assumptions.penetrator_non_originating
-    → uniques_onto (take n.uniquely_originating k.assumptions.uniquely_originating) k.assumptions.uniquely_originating ≡ k.assumptions.uniquely_originating
+    → IsEachOnce k.assumptions.non_originating → IsEachOnce k.assumptions.penetrator_non_originating → IsEachOnce k.assumptions.uniquely_originating
     → listed k ≡ k.assumptions
 listed_of k old own ks m n e f s p q a b c =
     each_listed k m n

@@ -175,10 +175,17 @@ module _ {A : Type 0} {has : List A → A → Bool} {onto : List A → List A �
     pub kept-left : (IsIn v old → ⊥) → ws ≡ xs → onto ws (filter (has old) rest) ≡ all
     kept-left apart e = ap (λ l. onto l (filter (has old) rest)) e ∙ taken false (is-new old v apart)
 
-  pub kept-end : (old stated left xs new : List A) → left ≡ [] → onto xs (filter (has old) left) ≡ onto [] (filter (has old) stated) → new ≡ onto xs old
-      → new ≡ onto [] (filter (has old) stated ++ old)
-  kept-end old stated left xs new end so-far e =
-      e ∙ ap (λ l. onto l old) (sym (g.ends xs) ∙ ap (λ l. onto xs (filter (has old) l)) (sym end) ∙ so-far) ∙ sym (onto-append g [] (filter (has old) stated) old)
+  pub kept-end : (old left xs all : List A) → left ≡ [] → onto xs (filter (has old) left) ≡ all → xs ≡ all
+  kept-end old left xs all end so-far = sym (g.ends xs) ∙ ap (λ l. onto xs (filter (has old) l)) (sym end) ∙ so-far
+
+  -- What is stated comes in two parts.
+  pub kept-both : (old own given start first second new : List A) → start ≡ [] → first ≡ onto start (filter (has old) own) → second ≡ onto first (filter (has old) given)
+      → new ≡ onto second old → new ≡ onto [] (filter (has old) (own ++ given) ++ old)
+  kept-both old own given start first second new none p q r =
+      let both : second ≡ onto [] (filter (has old) (own ++ given)) =
+      q ∙ ap (λ l. onto l (filter (has old) given)) (p ∙ ap (λ l. onto l (filter (has old) own)) none)
+      ∙ sym (onto-append g [] (filter (has old) own) (filter (has old) given)) ∙ ap (onto []) (sym (filter-append (has old) own given)) in
+      r ∙ ap (λ l. onto l old) both ∙ sym (onto-append g [] (filter (has old) (own ++ given)) old)
 
 -- ---- whole assumptions
 

@@ -16,6 +16,7 @@ pub mod Grown
 pub mod StaySkeletons
 pub mod EachOnce
 mod AlreadyListed
+mod KeyLaws
 pub mod StrandsGive
 pub mod DeclaredChanges
 pub mod CarriedHomomorphisms
@@ -26,3 +27,4 @@ pub mod TableAlone
 mod VariablesOfLists
 pub mod ThreeLists
 pub mod FourParts
+mod NumberedEvents

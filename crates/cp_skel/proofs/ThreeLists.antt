@@ -1,8 +1,16 @@
 -- Assumptions that are made of three lists, each of which may fail to be made.
-use Rattle.std.proofs.Common.{◌≡◌, IfOk, MatchResult}
+use Rattle.std.proofs.Common.{◌≡◌, List, IfOk, MatchResult}
 use Rattle.std.specs.Result.{IsOkAnd}
 use Rattle.std.specs.declared.result.Result.{Result}
 use Rattle.std.specs.declared.result.Result.TheVariants.{Ok, Err}
+use Rattle.cp_model.specs.Term.{AtomTerm}
+use Rattle.cp_model.specs.Skeleton.{UniqueAt, Assumptions}
+use Rattle.cp_skel.specs.JoinedAssumptions.{joined_assumptions}
+
+-- Assumptions with three lists behind them, which are those of others.
+pub joined_lists : (own more : Assumptions) (ns ps : List AtomTerm) (us : List UniqueAt) → ns ≡ more.non_originating → ps ≡ more.penetrator_non_originating → us ≡ more.uniquely_originating →
+    joined_assumptions own (record { non_originating = ns; penetrator_non_originating = ps; uniquely_originating = us }) ≡ joined_assumptions own more
+joined_lists own more ns ps us non penetrator_non unique = λ i. joined_assumptions own (record { non_originating = non i; penetrator_non_originating = penetrator_non i; uniquely_originating = unique i })
 
 -- What two facts say of one value.
 pub both_said : {V E : Type 0} {P Q : V → Type 0} (x : Result V E) → IfOk x P → IsOkAnd x Q → (v : V) × P v × Q v

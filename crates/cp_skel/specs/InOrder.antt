@@ -3,13 +3,15 @@ use Rattle.std.specs.Prelude.{◌≡◌, ◌≤◌, ℕ, List, Bool, map, take, 
 use Rattle.std.specs.List.{filter}
 use Rattle.cp_model.specs.Skeleton.{SkeletonStrand, Assumptions}
 use Rattle.cp_model.specs.Given.{has_atom, atoms_onto, has_unique, uniques_onto, given_non, given_penetrator_non, given_uniques}
+use Rattle.cp_model.specs.GivenAssumptions.{IsEachOnce}
 use Rattle.cp_strand.specs.declared.given.Given.{Given}
 use Rattle.cp_strand.specs.Givens.{unique_on}
 use Rattle.cp_skel.specs.declared.already_listed.Counts.{Counts}
 
--- The first m of the old items, and behind them the stated ones that are among the old, each once, are the first n.
+-- The first m of the old items, and behind them the stated ones that are among the old, each once, are the first n, if each
+-- old item stands once.
 abbrev pub ListsTo : {A : Type 0} → (List A → A → Bool) → (List A → List A → List A) → List A → ℕ → List A → ℕ → Type 0
-ListsTo among onto old m stated n = (n ≤ length old) × (onto (take m old) (filter (among old) stated) ≡ take n old)
+ListsTo among onto old m stated n = (n ≤ length old) × (IsEachOnce old → onto (take m old) (filter (among old) stated) ≡ take n old)
 
 -- No more are listed than there are.
 pub record AreCountsWithin (old : Assumptions) (n : Counts) : Type 0 where

@@ -9,6 +9,7 @@ pub mod Deletion
 pub mod Bridges
 pub mod Kinds
 pub mod InOrder
+pub mod KeyTable
 pub mod Events
 pub mod LentEvents
 pub mod EventLists

@@ -1,11 +1,12 @@
 // Whether assumptions already stand in the order in which a report lists them.
-ghost use Rattle.std.specs.Prelude.{◌≡◌, ◌≤◌, ◌∷◌, [], length, map, take, IsTrue, IfSome};
+ghost use Rattle.std.specs.Prelude.{◌≡◌, ◌≤◌, ◌∷◌, [], length, map, IsTrue, IfSome};
 ghost use Rattle.cp_model.specs.Given.{has_unique, uniques_onto, listed};
 ghost use Rattle.cp_strand.specs.Givens.{unique_on};
 ghost use Rattle.cp_skel.specs.InOrder.{ListsTo, AreCountsWithin, none_listed, these, given_from, ListEach};
 
 use crate::assumptions::{Assumptions, UniqueAt};
 use crate::gathered::Gathered;
+use crate::keys::are_distinct;
 use crate::skeleton::{Node, Skeleton};
 use cp_strand::{Given, IndexedUnique, Strand, has};
 use std::alloc::Global;
@@ -16,12 +17,12 @@ fn listed_with<T: Gathered>(item: &T, old: &[T], count: usize) -> Option<usize>
     requires { count ≤ length old.now }
     ensures { IfSome result (λ n. ListsTo T.among T.onto old.now count (item.now ∷ []) n) }
 {
+    if count < old.len() && old[count].is_same(item) {
+        return Some(count + 1);
+    }
     let (before, behind) = old.split_at(count);
     if has(before, item) {
         return Some(count);
-    }
-    if count < old.len() && old[count].is_same(item) {
-        return Some(count + 1);
     }
     if has(behind, item) {
         return None;
@@ -39,20 +40,6 @@ fn listed_with_all<T: Gathered>(stated: &[T], old: &[T], start: usize) -> Option
         count = listed_with(item, old, count)?;
     }
     Some(count)
-}
-
-/// Whether each of the items from a place on stands nowhere before its own.
-fn are_new<T: Gathered>(items: &[T], start: usize) -> bool
-    requires { start ≤ length items.now }
-    ensures { IsTrue result → T.onto (take start items.now) items.now ≡ items.now }
-{
-    for index in start..items.len() {
-        let (before, _) = items.split_at(index);
-        if has(before, &items[index]) {
-            return false;
-        }
-    }
-    true
 }
 
 /// How many of the old unique values are listed with those that are given to the strand with this number, where so many
@@ -192,17 +179,14 @@ pub fn is_listed(alloc: Global, skeleton: &Skeleton) -> bool
     let Some(first) = listed_with_own(skeleton.from_problem().assumptions(), old) else {
         return false;
     };
-    let Some(counts) = listed_with_strands(alloc, skeleton.strands(), old, first) else {
+    let Some(_) = listed_with_strands(alloc, skeleton.strands(), old, first) else {
         return false;
     };
-    if !are_new(old.non_originating(), counts.non_originating) {
+    if !are_distinct(alloc, old.non_originating()) {
         return false;
     }
-    if !are_new(
-        old.penetrator_non_originating(),
-        counts.penetrator_non_originating,
-    ) {
+    if !are_distinct(alloc, old.penetrator_non_originating()) {
         return false;
     }
-    are_new(old.uniquely_originating(), counts.uniquely_originating)
+    are_distinct(alloc, old.uniquely_originating())
 }

@@ -221,15 +221,33 @@ impl Assumptions {
         if more.is_empty() {
             return Ok(());
         }
-        // Where there are no others, the list is shared.
-        let both = Assumptions::of_shared(
-            self.non_originating.joined(more.non_originating()),
-            self.penetrator_non_originating
-                .joined(more.penetrator_non_originating()),
-            self.uniquely_originating
-                .joined(more.uniquely_originating()),
+        let both = self.joined(
+            more.non_originating(),
+            more.penetrator_non_originating(),
+            more.uniquely_originating(),
         )?;
         *self = both;
         Ok(())
+    }
+
+    /// These assumptions, and others behind them, kind by kind. Where there are no others of a kind, its list is shared.
+    pub(crate) fn joined(
+        &self,
+        non_originating: &[Atom],
+        penetrator_non_originating: &[Atom],
+        uniquely_originating: &[UniqueAt],
+    ) -> Result<Assumptions, AllocError>
+        ensures { IfOk result (λ a. a ≡ joined_assumptions self.now (record {
+          non_originating = non_originating.now;
+          penetrator_non_originating = penetrator_non_originating.now;
+          uniquely_originating = uniquely_originating.now;
+        })) }
+    {
+        Assumptions::of_shared(
+            self.non_originating.joined(non_originating),
+            self.penetrator_non_originating
+                .joined(penetrator_non_originating),
+            self.uniquely_originating.joined(uniquely_originating),
+        )
     }
 }

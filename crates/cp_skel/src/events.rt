@@ -106,18 +106,16 @@ fn add_held<'a>(
 ) -> Result<(), AllocError>
     ensures { OnOk result (occurrences.new.items ≡ occurrences.old.items ++ located_events_on number 0 by_role events.now) }
 {
-    for (index, event) in events.iter().enumerate() {
-        let node = Node {
-            strand: number,
-            index,
-        };
-        occurrences.push(LocatedEvent {
-            node,
+    occurrences.extend(
+        events.iter().enumerate().map(|(index, event)| LocatedEvent {
+            node: Node {
+                strand: number,
+                index,
+            },
             event: Lent::Held(event),
             by_role,
-        })?;
-    }
-    Ok(())
+        }),
+    )
 }
 
 /// Makes the events of the strand with this number, and appends them.

@@ -48,9 +48,8 @@ impl Skeleton {
         let number = self.strands.len();
         let instance = instance_of(alloc, role, 0, height, &[], values)?;
         let strand = Strand::with_events(alloc, instance)?;
-        let more = missing_on(alloc, number, &strand, &self.assumptions)?;
-        let mut assumptions = self.assumptions.copy(alloc)?;
-        assumptions.append(more)?;
+        let missing = missing_on(alloc, number, &strand, &self.assumptions)?;
+        let assumptions = missing.behind(&self.assumptions)?;
         self.strands.push(strand)?;
         self.assumptions = assumptions;
         Ok(number)
@@ -85,8 +84,8 @@ impl Skeleton {
             values,
         )?;
         let grown = Strand::with_events(alloc, instance)?;
-        let more = missing_on(alloc, strand, &grown, &self.assumptions)?;
-        self.assumptions.append(more)?;
+        let missing = missing_on(alloc, strand, &grown, &self.assumptions)?;
+        self.assumptions.append(missing.into_assumptions())?;
         self.strands[strand] = grown;
         Ok(())
     }

@@ -1,11 +1,16 @@
 // Lists in which each item stands once.
-ghost use Rattle.std.specs.Prelude.{◌≡◌, [], ◌∷◌, ◌++◌, List, Bool, IfOk, OnOk, OnErr};
+ghost use Rattle.std.specs.Prelude.{◌≡◌, ◌↔◌, [], ◌∷◌, ◌++◌, List, Bool, IsTrue, IfOk, OnOk, OnErr};
+ghost use Rattle.cp_lists.specs.Lists.{IsIn};
+ghost use Rattle.cp_model.specs.Term.{Term as Plain, atom_term};
+ghost use Rattle.cp_skel.specs.KeyTable.{HasKey};
 ghost use Rattle.std.specs.List.{filter};
 ghost use Rattle.cp_model.specs.Given.{has_atom, atoms_onto, has_unique, uniques_onto};
 ghost use Rattle.cp_model.proofs.Gathered.{IsGathering, atoms, uniques};
 
 use crate::assumptions::UniqueAt;
+use crate::keys::{Keys, is_long};
 use cp_strand::{Atom, Same, has};
+use cp_term::Term;
 use std::alloc::{AllocError, Global};
 
 /// Items gathered into lists in which each stands once.
@@ -15,6 +20,13 @@ pub(crate) trait Gathered: Same + Clone {
 
     /// The first items, then those of the second that are not there yet.
     ghost onto: { List Self → List Self → List Self };
+
+    /// The term by which an item is looked up.
+    ghost key: { Self → Plain };
+
+    /// The term by which an item is looked up. The same items have the same one.
+    fn key(&self) -> &Term
+        ensures { result.now ≡ key self.now };
 
     /// A clone is the same.
     ghost same_clone: { (x y : Self) → Self.is_clone x y → y ≡ x };
@@ -31,6 +43,12 @@ impl Gathered for Atom {
     ghost same_clone = { λ _ _ e. e };
 
     ghost gathers = { atoms };
+
+    ghost key = { atom_term };
+
+    fn key(&self) -> &Term {
+        self.as_term()
+    }
 }
 
 impl Gathered for UniqueAt {
@@ -41,6 +59,12 @@ impl Gathered for UniqueAt {
     ghost same_clone = { λ _ _ e. e };
 
     ghost gathers = { uniques };
+
+    ghost key = { λ u. atom_term u.value };
+
+    fn key(&self) -> &Term {
+        self.value().as_term()
+    }
 }
 
 /// Appends an item, unless it is already in the list. On an error the list is unchanged.
@@ -52,6 +76,13 @@ pub(crate) fn add_once<T: Gathered + Drop>(items: &mut Vec<T>, item: T) -> Resul
         return Ok(());
     }
     items.push(item).map_err(AllocError::from)
+}
+
+/// Whether an item is in one of the two lists.
+fn is_there<T: Gathered>(item: &T, old: &[T], more: &[T]) -> bool
+    ensures { IsTrue result ↔ IsIn item.now (old.now ++ more.now) }
+{
+    has(old, item) || has(more, item)
 }
 
 /// Appends an item to `more`, unless it is already there or in `old`.
@@ -68,6 +99,19 @@ pub(crate) fn push_missing<T: Gathered + Drop>(
     more.push(item).map_err(AllocError::from)
 }
 
+/// The keys of the items that are there, for putting these to them: in a table, if these are many and none is there yet.
+fn keys_for<T: Gathered>(alloc: Global, given: &[T], old: &[T], more: &[T]) -> Keys
+    ensures { (v : T) → IsIn v (old.now ++ more.now) → HasKey result (T.key v) }
+{
+    if !old.is_empty() {
+        return Keys::new(alloc, false);
+    }
+    if !more.is_empty() {
+        return Keys::new(alloc, false);
+    }
+    Keys::new(alloc, is_long(given))
+}
+
 /// Appends copies of these items to `more`, except those already there or in `old`. On an error some may have been added.
 pub(crate) fn add_missing<T: Gathered + Drop>(
     given: &[T],
@@ -76,26 +120,45 @@ pub(crate) fn add_missing<T: Gathered + Drop>(
 ) -> Result<(), AllocError>
     ensures { OnOk result (old.now ++ more.new.items ≡ T.onto (old.now ++ more.old.items) given.now) }
 {
+    let mut keys = keys_for(*more.allocator(), given, old, more);
     for item in given {
-        push_missing(old, more, item.clone()?)?;
+        let is_new = keys.put(item.key())?;
+        if is_new || !is_there(item, old, more) {
+            more.push(item.clone()?)?;
+        }
     }
     Ok(())
 }
 
-/// The stated items that are among the old ones, then the other old ones, each once.
-pub(crate) fn stated_first<T: Gathered + Drop>(
-    alloc: Global,
+/// Appends copies of the stated items that are among the old ones to `listed`, except those already there. On an error some may
+/// have been added.
+fn add_stated<T: Gathered + Drop>(
     stated: &[T],
     old: &[T],
-) -> Result<Vec<T>, AllocError>
-    ensures { IfOk result (λ v. v.items ≡ T.onto [] (filter (T.among old.now) stated.now ++ old.now)) }
+    listed: &mut Vec<T>,
+) -> Result<(), AllocError>
+    ensures { OnOk result (listed.new.items ≡ T.onto listed.old.items (filter (T.among old.now) stated.now)) }
 {
-    let mut listed = Vec::new(alloc);
     for item in stated {
         if has(old, item) {
-            add_once(&mut listed, item.clone()?)?;
+            add_once(listed, item.clone()?)?;
         }
     }
+    Ok(())
+}
+
+/// The stated items that are among the old ones, in two parts, then the other old ones, each once.
+pub(crate) fn stated_first<T: Gathered + Drop>(
+    alloc: Global,
+    first: &[T],
+    second: &[T],
+    old: &[T],
+) -> Result<Vec<T>, AllocError>
+    ensures { IfOk result (λ v. v.items ≡ T.onto [] (filter (T.among old.now) (first.now ++ second.now) ++ old.now)) }
+{
+    let mut listed = Vec::new(alloc);
+    add_stated(first, old, &mut listed)?;
+    add_stated(second, old, &mut listed)?;
     add_missing(old, &[], &mut listed)?;
     Ok(listed)
 }

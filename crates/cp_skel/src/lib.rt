@@ -16,6 +16,7 @@ mod extensions;
 mod from_problem;
 mod gathered;
 mod given_assumptions;
+mod keys;
 mod laws;
 mod new_numbers;
 mod node_order;

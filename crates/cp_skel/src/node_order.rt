@@ -7,7 +7,7 @@ ghost use Rattle.cp_skel.specs.Ordered.{ordered_by, ChangesOrderOnly};
 ghost use Rattle.cp_skel.specs.Sound.{IsSound};
 
 use crate::skeleton::{Node, OrderPair, Skeleton};
-use cp_order::Predecessors;
+use cp_order::reaches;
 use std::alloc::{AllocError, Global};
 
 impl Skeleton {
@@ -61,7 +61,8 @@ impl Skeleton {
             → Before self.new x y ↔ Before (ordered_by self.old (record { earlier = n; later = m } ∷ self.old.pairs)) x y) }
         ensures unchanged { OnErr result (self.new ≡ self.old) }
     {
-        if Predecessors::new(alloc, self.order.pairs(), n)?.has(m) {
+        let leads_back = reaches(alloc, self.order.pairs(), m, n)?;
+        if leads_back {
             return Ok(false);
         }
         let (earlier, later) = (n, m);

@@ -5,7 +5,7 @@ ghost use Rattle.cp_model.specs.Given.{listed};
 use crate::already_listed::is_listed;
 use crate::assumptions::Assumptions;
 use crate::gathered::stated_first;
-use crate::given_assumptions::add_given;
+use crate::given_assumptions::lacking;
 use crate::skeleton::Skeleton;
 use std::alloc::{AllocError, Global};
 
@@ -14,19 +14,26 @@ use std::alloc::{AllocError, Global};
 pub fn listed(alloc: Global, skeleton: &Skeleton) -> Result<Assumptions, AllocError>
     ensures { IfOk result (λ a. a ≡ listed skeleton.now) }
 {
-    let mut stated = skeleton.from_problem().assumptions().copy(alloc)?;
-    add_given(alloc, skeleton.strands(), &mut stated)?;
+    let own = skeleton.from_problem().assumptions();
+    let given = lacking(alloc, skeleton.strands(), own)?;
     let old = skeleton.assumptions();
     Assumptions::of(
-        stated_first(alloc, stated.non_originating(), old.non_originating()),
         stated_first(
             alloc,
-            stated.penetrator_non_originating(),
+            own.non_originating(),
+            given.non_originating(),
+            old.non_originating(),
+        ),
+        stated_first(
+            alloc,
+            own.penetrator_non_originating(),
+            given.penetrator_non_originating(),
             old.penetrator_non_originating(),
         ),
         stated_first(
             alloc,
-            stated.uniquely_originating(),
+            own.uniquely_originating(),
+            given.uniquely_originating(),
             old.uniquely_originating(),
         ),
     )

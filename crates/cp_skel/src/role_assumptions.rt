@@ -94,6 +94,17 @@ impl Missing {
         )
     }
 
+    /// The assumptions with what is missing behind them.
+    pub(crate) fn behind(&self, assumptions: &Assumptions) -> Result<Assumptions, AllocError>
+        ensures { IfOk result (λ a. a ≡ joined_assumptions assumptions.now self.now) }
+    {
+        assumptions.joined(
+            &self.non_originating,
+            &self.penetrator_non_originating,
+            &self.uniquely_originating,
+        )
+    }
+
     /// Appends what is given to the strand with this number and neither the assumptions have nor is there yet.
     fn add(
         &mut self,
@@ -147,12 +158,12 @@ pub(crate) fn missing_on(
     number: usize,
     strand: &Strand,
     assumptions: &Assumptions,
-) -> Result<Assumptions, AllocError>
+) -> Result<Missing, AllocError>
     ensures { IfOk result (λ more. (i : InstanceData) → strand.now ≡ instance_view i → AddsGiven i.role i.height (bindings_of i.values) number
         assumptions.now (joined_assumptions assumptions.now more)) }
 {
     let mut missing = Missing::none(alloc);
     missing
         .add_lacking(alloc, number, strand, assumptions)
-        .map(|_| missing.into_assumptions())
+        .map(|_| missing)
 }

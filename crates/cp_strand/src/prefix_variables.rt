@@ -116,7 +116,11 @@ pub fn is_added(role: &Role, before: usize, height: usize, id: VarId, sort: Sort
     ensures { result ≡ is_added (variables_of_prefix role.now before) (variables_of_prefix role.now height)
         (record { sort = sort; number = id }) }
 {
-    role.occurs_before(id, sort, height) && !role.occurs_before(id, sort, before)
+    let occurs = role.occurs_before(id, sort, height);
+    if before == 0 {
+        return occurs;
+    }
+    occurs && !role.occurs_before(id, sort, before)
 }
 
 /// Whether all variables of an atom occur in the first `height` events of a role.

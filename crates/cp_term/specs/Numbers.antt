@@ -1,5 +1,5 @@
 -- Two numbers that are made of a term: one by which most different terms are told apart, and the greatest of its variables.
-use Rattle.std.specs.Prelude.{◌+◌, ◌*◌, ◌%◌, ◌^◌, ℕ, List, [], ◌∷◌, true, false, max}
+use Rattle.std.specs.Prelude.{◌+◌, ◌*◌, ◌%◌, ◌^◌, ℕ, List, [], ◌∷◌, Option, None, Some, true, false, max}
 use Rattle.cp_model.specs.Term.{skey_variable, ltk_term, akey_variable, pubk_term, KeyTerm, symmetric_term, asymmetric_term, AtomTerm, text_variable, datum_variable, name_variable, key_term, Term, tag_term, atom_term, pair_term, enc_term}
 
 -- m * (2 * m + 1), which differs for different m.
@@ -15,14 +15,19 @@ abbrev pub mixed_bytes : ℕ → List ℕ → ℕ
 mixed_bytes n [] = n
 mixed_bytes n (byte ∷ bytes) = mixed_bytes (mixed_with n byte) bytes
 
--- The number of a key, whatever its purpose, of an atom, of a term.
+-- A number mixed from a number and bytes, if there are any.
+abbrev pub mixed_purpose : ℕ → Option (List ℕ) → ℕ
+mixed_purpose n None = n
+mixed_purpose n (Some bytes) = mixed_bytes n bytes
+
+-- The number of a key, of an atom, of a term.
 abbrev pub number_of_key : KeyTerm → ℕ
 number_of_key (symmetric_term (skey_variable n)) = mixed_with 5 n
 number_of_key (symmetric_term (ltk_term a b)) = mixed_with (mixed_with 6 a) b
 number_of_key (asymmetric_term false (akey_variable n)) = mixed_with 7 n
 number_of_key (asymmetric_term true (akey_variable n)) = mixed_with 8 n
-number_of_key (asymmetric_term false (pubk_term purpose a)) = mixed_with 9 a
-number_of_key (asymmetric_term true (pubk_term purpose a)) = mixed_with 10 a
+number_of_key (asymmetric_term false (pubk_term purpose a)) = mixed_purpose (mixed_with 9 a) purpose
+number_of_key (asymmetric_term true (pubk_term purpose a)) = mixed_purpose (mixed_with 10 a) purpose
 
 abbrev pub number_of_atom : AtomTerm → ℕ
 number_of_atom (text_variable n) = mixed_with 2 n

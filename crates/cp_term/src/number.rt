@@ -1,6 +1,8 @@
 // Numbers that are mixed from others.
 ghost use Rattle.std.specs.Prelude.{◌≡◌};
-ghost use Rattle.cp_term.specs.Numbers.{mixed_with, mixed_bytes};
+ghost use Rattle.cp_term.specs.Numbers.{mixed_with, mixed_bytes, mixed_purpose};
+
+use cp_base::Text;
 
 /// A number mixed from two others, in this order.
 pub(crate) fn mixed(number: usize, part: usize) -> usize
@@ -19,4 +21,14 @@ pub(crate) fn mixed_bytes(number: usize, bytes: &[u8]) -> usize
         so_far = mixed(so_far, usize::from(*byte));
     }
     so_far
+}
+
+/// A number mixed from a number and the bytes of a purpose, if there is one.
+pub(crate) fn mixed_purpose(number: usize, purpose: &Option<Text>) -> usize
+    ensures { result ≡ mixed_purpose number purpose.now }
+{
+    match purpose {
+        Some(text) => mixed_bytes(number, text.as_bytes()),
+        None => number,
+    }
 }

@@ -6,7 +6,7 @@ ghost use Rattle.cp_model.specs.declared.variable.Variable.{Variable};
 ghost use Rattle.cp_term.specs.Layer.{term_of_node, IsWellSorted};
 ghost use Rattle.cp_term.specs.Numbers.{number_of_term, top_of_term};
 
-use crate::number::{mixed, mixed_bytes};
+use crate::number::{mixed, mixed_bytes, mixed_purpose};
 use crate::variable::VarId;
 use cp_base::Text;
 use std::alloc::{AllocError, Global};
@@ -108,7 +108,7 @@ impl Drop for Term {
     }
 }
 
-/// The number of a node's term, mixed from its kind, the numbers of its variables and those of its parts.
+/// The number of a node's term, mixed from its kind, its text, the numbers of its variables and those of its parts.
 fn number_of(node: &Node) -> usize
     requires { IsWellSorted node.now }
     ensures { result ≡ number_of_term (term_of_node node.now) }
@@ -122,8 +122,8 @@ fn number_of(node: &Node) -> usize
         Node::Ltk(a, b) => mixed(mixed(6, a.number()), b.number()),
         Node::AkeyVariable(false, id) => mixed(7, id.number()),
         Node::AkeyVariable(true, id) => mixed(8, id.number()),
-        Node::Pubk(false, _, id) => mixed(9, id.number()),
-        Node::Pubk(true, _, id) => mixed(10, id.number()),
+        Node::Pubk(false, purpose, id) => mixed_purpose(mixed(9, id.number()), purpose),
+        Node::Pubk(true, purpose, id) => mixed_purpose(mixed(10, id.number()), purpose),
         Node::Pair(left, right) => mixed(mixed(11, left.number()), right.number()),
         Node::Encryption(body, key) => mixed(mixed(12, body.number()), key.number()),
     }

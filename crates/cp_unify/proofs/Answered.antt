@@ -1,14 +1,15 @@
 -- The answers of unification.
-use Rattle.std.proofs.Common.{◌≡◌, ◌<◌, ◌≤◌, ◌+◌, ℕ, List, [], ◌∷◌, ◌++◌, Option, Some, None, MatchOption, IfSome, IfNone, length, get_or, drop, sym, ap, ◌∙◌, subst}
+use Rattle.std.proofs.Common.{◌≡◌, ◌<◌, ◌≤◌, ◌+◌, ℕ, Bool, true, false, List, [], ◌∷◌, ◌++◌, length, get_or, drop, sym, ap, ◌∙◌, subst}
 use Rattle.std.proofs.lemmas.List.{drop_all}
 use Rattle.cp_lists.specs.Lists.{here, there}
 use Rattle.cp_model.specs.Term.{Term, variable_term, variables_of, value_of}
 use Rattle.cp_unify.specs.Bindings.{Binding, variables_of_bindings}
-use Rattle.cp_unify.specs.Solved.{IsSolved, SolvesBeside, AreSolvedBut}
+use Rattle.cp_unify.specs.Solved.{IsSolved, IsSolution, SolvesBeside, AreSolvedBut}
 use Rattle.cp_unify.specs.Unifiers.{AreVariablesAmong, IsMostGeneralUnifier, HasNoUnifier}
 use Rattle.cp_lists.proofs.Members.{not_in_none, in_append_left, in_append_right, drop_read}
 use Rattle.cp_unify.proofs.Members.{among_append}
 use Rattle.cp_unify.proofs.SolvedBindings.{factoring, idempotent_term, unified, solves, solvable}
+use Rattle.cp_unify.proofs.SolvedParts.{is_solved, is_unsolvable}
 use Rattle.cp_unify.proofs.Steps.{one_variable}
 
 pub none_at_all : IsSolved []
@@ -83,30 +84,24 @@ most_general s r answer a b h k = record {
   later_to_earlier = k.solved.later_to_earlier;
 }
 
-pub some_answer : (s r : List Binding) (a b : Term) → AreSolvedBut s [] r → (answer : Option (List Binding)) →
-    MatchOption answer (HasNoUnifier a b r) (λ q. SolvesBeside a b r q) → IfSome answer (λ q. IsMostGeneralUnifier a b s q)
-some_answer s r a b h None k = tt
-some_answer s r a b h (Some q) k = most_general s r q a b h k
-
-pub none_answer : (s r : List Binding) (a b : Term) → AreSolvedBut s [] r → (answer : Option (List Binding)) →
-    MatchOption answer (HasNoUnifier a b r) (λ q. SolvesBeside a b r q) → IfNone answer (HasNoUnifier a b s)
-none_answer s r a b h None k = λ g m e. k g (h.general g m).0 e
-none_answer s r a b h (Some q) k = tt
-
 -- What the loop has found, for bindings that are those given.
 pub all_found : (s given r : List Binding) (i : ℕ) → s ≡ given → AreSolvedBut s (drop i s) r → length s ≤ i → AreSolvedBut given [] r
 all_found s given r i e h end = subst (λ (t : List Binding). AreSolvedBut t [] r) e (all_solved s r i h end)
 
 pub none_early : (s given r : List Binding) (i : ℕ) (x : Binding) (left right : Term) → s ≡ given → AreSolvedBut s (drop i s) r → i < length s → x ≡ get_or s i x →
-    left ≡ variable_term x.variable → right ≡ x.term → (answer : Option (List Binding)) → answer ≡ None →
-    MatchOption answer (HasNoUnifier left right r) (λ q. SolvesBeside left right r q) → (a b : Term) → HasNoUnifier a b given
-none_early s given r i x left right e h below read el er answer is_none k a b =
-    let k' : HasNoUnifier left right r = rw is_none at k in
-    subst (λ (t : List Binding). HasNoUnifier a b t) e (no_next s r i x left right h below read el er k' a b)
+    left ≡ variable_term x.variable → right ≡ x.term → (same : Bool) (q : List Binding) → IsSolution same left right r q → same ≡ false → (a b : Term) → HasNoUnifier a b given
+none_early s given r i x left right e h below read el er same q found f a b =
+    subst (λ (t : List Binding). HasNoUnifier a b t) e (no_next s r i x left right h below read el er (is_unsolvable left right r q same found f) a b)
 
 pub next_early : (s r : List Binding) (i : ℕ) (x : Binding) (left right : Term) → AreSolvedBut s (drop i s) r → i < length s → x ≡ get_or s i x →
-    left ≡ variable_term x.variable → right ≡ x.term → (answer : Option (List Binding)) (next : List Binding) → answer ≡ Some next →
-    MatchOption answer (HasNoUnifier left right r) (λ q. SolvesBeside left right r q) → AreSolvedBut s (drop (i + 1) s) next
-next_early s r i x left right h below read el er answer next is_some k =
-    let k' : SolvesBeside left right r next = rw is_some at k in
-    next_solved s r next i x left right h below read el er k'
+    left ≡ variable_term x.variable → right ≡ x.term → (same : Bool) (next : List Binding) → IsSolution same left right r next → same ≡ true →
+    AreSolvedBut s (drop (i + 1) s) next
+next_early s r i x left right h below read el er same next found e =
+    next_solved s r next i x left right h below read el er (is_solved left right r next same found e)
+
+-- The answer is that of the bindings r, to which those of s were solved.
+pub some_answer : (s r q : List Binding) (a b : Term) (same : Bool) → AreSolvedBut s [] r → IsSolution same a b r q → same ≡ true → IsMostGeneralUnifier a b s q
+some_answer s r q a b same h found e = most_general s r q a b h (is_solved a b r q same found e)
+
+pub none_answer : (s r q : List Binding) (a b : Term) (same : Bool) → AreSolvedBut s [] r → IsSolution same a b r q → same ≡ false → HasNoUnifier a b s
+none_answer s r q a b same h found e g m f = is_unsolvable a b r q same found e g (h.general g m).0 f

@@ -12,5 +12,6 @@ pub mod Looked
 pub mod Composed
 pub mod DifferenceSteps
 pub mod Answered
+pub mod SolvedParts
 pub mod MatchedTerms
 pub mod KnownMatches

@@ -18,7 +18,7 @@ use Rattle.cp_model.proofs.SameTests.{variable_in, in_has_variable}
 use Rattle.cp_term.proofs.SameTerms.{bytes_Decides, flag_Decides, purpose_Decides, same_Decides}
 use Rattle.cp_unify.specs.Bindings.{Binding, put_term, as_substitution}
 use Rattle.cp_unify.specs.Beside.{Agrees, MatchesBeside, NeverMatchesBeside}
-use Rattle.cp_unify.specs.Matched.{is_listed, bound_term, matched_local, matched_variable, matched_names, matched_symmetric, matched_pairs, matched_keys, matched_atoms, matched}
+use Rattle.cp_unify.specs.Matched.{IsFound, is_listed, bound_term, matched_local, matched_variable, matched_names, matched_symmetric, matched_pairs, matched_keys, matched_atoms, matched}
 use Rattle.cp_unify.specs.Matches.{ChangesOnly, BindsOnly, IsMatch, HasNoMatch}
 use Rattle.cp_term.specs.Keys.{key_as_term, IsKey}
 use Rattle.cp_term.specs.Variables.{variable_of_sort}
@@ -375,7 +375,53 @@ own_match name_sort n is_local r e = own_choice _ (n == n) _ r e (eq-eqb n n ref
 own_match skey_sort n is_local r e = own_choice _ (n == n) _ r e (eq-eqb n n refl)
 own_match akey_sort n is_local r e = own_choice _ (n == n) _ r e (eq-eqb n n refl)
 
-pub variable_matches_itself : (sort : Sort) (n : ℕ) (t : Term) (is_local : Variable → Bool) (r : List Binding) (listed : Bool) → t ≡ variable_of_sort sort n →
-    listed ≡ is_local (record { sort = sort; number = n }) → listed ≡ false → Some r ≡ matched is_local (variable_of_sort sort n) t r
-variable_matches_itself sort n t is_local r listed e is f =
-    own_match sort n is_local r (sym is ∙ f) ∙ sym (ap (λ (u : Term). matched is_local (variable_of_sort sort n) u r) e)
+itself : (sort : Sort) (n : ℕ) (t : Term) (is_local : Variable → Bool) (r : List Binding) → t ≡ variable_of_sort sort n →
+    is_local (record { sort = sort; number = n }) ≡ false → Some r ≡ matched is_local (variable_of_sort sort n) t r
+itself sort n t is_local r e f = own_match sort n is_local r f ∙ sym (ap (λ (u : Term). matched is_local (variable_of_sort sort n) u r) e)
+
+-- As another variable it is matched with nothing.
+as_variable : (sort : Sort) (n : ℕ) (t : Term) (is_local : Variable → Bool) (r : List Binding) →
+    matched is_local (variable_of_sort sort n) t r ≡ matched_variable is_local (record { sort = sort; number = n }) t r
+as_variable text_sort n (atom_term v) is_local r = refl
+as_variable datum_sort n (atom_term v) is_local r = refl
+as_variable name_sort n (atom_term v) is_local r = refl
+as_variable skey_sort n (atom_term (key_term (symmetric_term j))) is_local r = refl
+as_variable skey_sort n (atom_term (key_term (asymmetric_term g j))) is_local r = refl
+as_variable skey_sort n (atom_term (text_variable m)) is_local r = refl
+as_variable skey_sort n (atom_term (datum_variable m)) is_local r = refl
+as_variable skey_sort n (atom_term (name_variable m)) is_local r = refl
+as_variable akey_sort n (atom_term (key_term (symmetric_term j))) is_local r = refl
+as_variable akey_sort n (atom_term (key_term (asymmetric_term g j))) is_local r = refl
+as_variable akey_sort n (atom_term (text_variable m)) is_local r = refl
+as_variable akey_sort n (atom_term (datum_variable m)) is_local r = refl
+as_variable akey_sort n (atom_term (name_variable m)) is_local r = refl
+as_variable text_sort n (tag_term x) is_local r = refl
+as_variable datum_sort n (tag_term x) is_local r = refl
+as_variable name_sort n (tag_term x) is_local r = refl
+as_variable skey_sort n (tag_term x) is_local r = refl
+as_variable akey_sort n (tag_term x) is_local r = refl
+as_variable text_sort n (pair_term a b) is_local r = refl
+as_variable datum_sort n (pair_term a b) is_local r = refl
+as_variable name_sort n (pair_term a b) is_local r = refl
+as_variable skey_sort n (pair_term a b) is_local r = refl
+as_variable akey_sort n (pair_term a b) is_local r = refl
+as_variable text_sort n (enc_term a k) is_local r = refl
+as_variable datum_sort n (enc_term a k) is_local r = refl
+as_variable name_sort n (enc_term a k) is_local r = refl
+as_variable skey_sort n (enc_term a k) is_local r = refl
+as_variable akey_sort n (enc_term a k) is_local r = refl
+
+no_choice : (b c d : Bool) (found : Option (List Binding)) (r : List Binding) → c ≡ false → (d ≡ true → ⊥) →
+    None ≡ (if b then (if c then found else (if d then Some r else None)) else None)
+no_choice false c d found r e f = refl
+no_choice true true d found r e f = absurd (let g : true ≡ false = e in cc)
+no_choice true false true found r e f = absurd (f refl)
+no_choice true false false found r e f = refl
+
+pub own_found : (sort : Sort) (n : ℕ) (t : Term) (is_local : Variable → Bool) (r : List Binding) (same : Bool) → Decides same (t ≡ variable_of_sort sort n) →
+    is_local (record { sort = sort; number = n }) ≡ false → IsFound same r (matched is_local (variable_of_sort sort n) t r)
+own_found sort n t is_local r true d e = itself sort n t is_local r (d.0 refl) e
+own_found sort n t is_local r false d e =
+    no_choice (is_of_sort sort t) _ (same_term (variable_of_sort sort n) t) _ r e
+    (λ f. let g : false ≡ true = d.1 (sym ((same_Decides (variable_of_sort sort n) t).0 f)) in cc)
+    ∙ sym (as_variable sort n t is_local r)

@@ -1,19 +1,28 @@
 -- The loop that mends one difference after the other.
-use Rattle.std.proofs.Common.{◌≡◌, ◌⊎◌, inl, inr, ◌<◌, ℕ, true, false, List, [], ◌∷◌, ◌++◌, refl, sym, ap, ◌∙◌, subst, arith}
+use Rattle.std.proofs.Common.{◌≡◌, ◌⊎◌, inl, inr, ◌<◌, ℕ, Bool, true, false, if◌then◌else◌, ◌==◌, ◌&&◌, List, [], ◌∷◌, ◌++◌, Option, refl, sym, ap, ap₂, ◌∙◌, subst, arith}
+use Rattle.std.specs.Prelude.{nat_eq, nat_lt}
+use Rattle.std.specs.Bool.{Decides}
+use Rattle.std.specs.Cmp.Lexicographic.{pointwise}
+use Rattle.std.specs.Option.{option_eq}
+use Rattle.std.proofs.lemmas.Bool.Decides.{Decides-and}
+use Rattle.cp_model.specs.Same.{same_bool}
+use Rattle.cp_term.specs.Keys.{key_as_term}
+use Rattle.cp_term.proofs.SameTerms.{flag_Decides, purpose_Decides}
 use Rattle.cp_lists.specs.Lists.{IsIn, here, there}
-use Rattle.cp_model.specs.Term.{skey_variable, ltk_term, akey_variable, pubk_term, symmetric_term, asymmetric_term, AtomTerm, text_variable, datum_variable, name_variable, key_term, Term, tag_term, pair_term, enc_term, variable_term, variables_of_atom, variables_of, Assignment, value_of, Substitution, apply_to, atom_term}
+use Rattle.cp_model.specs.Term.{PairTerm, skey_variable, ltk_term, akey_variable, pubk_term, symmetric_term, asymmetric_term, AtomTerm, text_variable, datum_variable, name_variable, key_term, Term, tag_term, pair_term, enc_term, variable_term, variables_of_atom, variables_of, Assignment, value_of, Substitution, apply_to, atom_term}
 use Rattle.cp_model.specs.declared.sort.Sort.{Sort}
 use Rattle.cp_model.specs.declared.sort.Sort.TheVariants.{Text as text_sort, Datum as datum_sort, Name as name_sort, Skey as skey_sort, Akey as akey_sort}
 use Rattle.cp_model.specs.declared.variable.Variable.{Variable}
 use Rattle.cp_model.specs.Identity.{unchanged}
 use Rattle.cp_model.proofs.LawTerms.{atom_unchanged, term_unchanged, term_composed}
-use Rattle.cp_unify.specs.Bindings.{Binding, HasItsSort, Meets, put_term, as_substitution, variables_of_bindings}
+use Rattle.cp_term.specs.Spines.{HasTail}
+use Rattle.cp_unify.specs.Bindings.{Binding, HasItsSort, IsBetween, Meets, put_term, as_substitution, variables_of_bindings}
 use Rattle.cp_unify.specs.Joined.{moved, joined_bindings}
-use Rattle.cp_unify.specs.Unifiers.{IsBefore, AreLaterToEarlier, AreVariablesAmong}
+use Rattle.cp_unify.specs.Unifiers.{IsBefore, AreLaterToEarlier, AreVariablesAmong, HasNoUnifier}
 use Rattle.cp_unify.specs.Solved.{IsSolved, SolvesBeside}
 use Rattle.cp_unify.proofs.VariableTests.{is_variable, is_variable_tells, occurs, occurs_tells, occurs_in, occurs_not, count, fewer}
 use Rattle.cp_unify.proofs.Found.{Narrows, IsDifference, found}
-use Rattle.cp_unify.specs.Differences.{difference_of}
+use Rattle.cp_unify.specs.Differences.{binds, between_names, difference_of}
 use Rattle.cp_unify.specs.declared.difference.Difference.TheVariants.{Same, Clash, Bind}
 use Rattle.cp_lists.proofs.Members.{not_in_none, only_item, in_append_left, in_append_right, in_append}
 use Rattle.cp_unify.proofs.Members.{among_cons, among_append, among_left, among_right}
@@ -275,6 +284,92 @@ pub unbound_falls : (a0 b0 : Term) (r0 : List Binding) (a b : Term) (r : List Bi
 unbound_falls a0 b0 r0 a b r x q a1 b1 h e eq ea eb =
     rw (ea, eb, eq) (fewer_unbound _ a b x (among_append _ _ _ h.left_within h.right_within) (bind_found a b x e))
 
-pub reduced_first : (a0 b0 : Term) (r0 : List Binding) (a b : Term) → IsSolved r0 → a ≡ apply_to (as_substitution r0) a0 → b ≡ apply_to (as_substitution r0) b0 →
-    IsReducedTo a0 b0 r0 a b r0
-reduced_first a0 b0 r0 a b h ea eb = rw (ea, eb) (reduced_at_first a0 b0 r0 h)
+-- How far the loop has come beside the bindings r, under which it looks at both terms.
+abbrev pub IsReducedBy : Term → Term → List Binding → List Binding → Type 0
+IsReducedBy a0 b0 r0 r = IsReducedTo a0 b0 r0 (apply_to (as_substitution r) a0) (apply_to (as_substitution r) b0) r
+
+joined_under : (r q r1 : List Binding) (t u : Term) → r1 ≡ joined_bindings r q → u ≡ apply_to (as_substitution r) t →
+    apply_to (as_substitution r1) t ≡ apply_to (as_substitution q) u
+joined_under r q r1 t u er e = rw (er, e) (ap (λ (s : Substitution). apply_to s t) (as_joined r q) ∙ term_composed (as_substitution r) (as_substitution q) t)
+
+-- What a binding is between becomes equal.
+both_bound : (x : Binding) (a b : Term) → HasItsSort x → (IsIn x.variable (variables_of x.term) → ⊥) → a ≡ variable_term x.variable → x.term ≡ b →
+    apply_to (as_substitution (x ∷ [])) a ≡ apply_to (as_substitution (x ∷ [])) b
+both_bound x a b sorted absent ea eb =
+    ap (apply_to (as_substitution (x ∷ []))) ea ∙ bound x unchanged sorted ∙ sym (leaves_absent x x.term absent) ∙ ap (apply_to (as_substitution (x ∷ []))) eb
+
+between_same : (x : Binding) (a b : Term) → HasItsSort x → (IsIn x.variable (variables_of x.term) → ⊥) → IsBetween x a b →
+    apply_to (as_substitution (x ∷ [])) a ≡ apply_to (as_substitution (x ∷ [])) b
+between_same x a b sorted absent (inl p) = both_bound x a b sorted absent p.0 p.1
+between_same x a b sorted absent (inr p) = sym (both_bound x b a sorted absent p.0 p.1)
+
+names_between : (m n : ℕ) (x : Binding) → Bind x ≡ between_names m n → IsBetween x (atom_term (name_variable m)) (atom_term (name_variable n))
+names_between m n x = choose (m == n) (nat_lt m n)
+  where
+    choose : (b c : Bool) → Bind x ≡ (if b then Same else (if c then binds name_sort n (atom_term (name_variable m)) else binds name_sort m (atom_term (name_variable n)))) →
+        IsBetween x (atom_term (name_variable m)) (atom_term (name_variable n))
+    choose true c e = absurd (cc)
+    choose false true e =
+        let f : x ≡ record { variable = record { sort = name_sort; number = n }; term = atom_term (name_variable m) } = cc in
+        inr (ap (λ (y : Binding). variable_term y.variable) (sym f), ap (λ (y : Binding). y.term) f)
+    choose false false e =
+        let f : x ≡ record { variable = record { sort = name_sort; number = m }; term = atom_term (name_variable n) } = cc in
+        inl (ap (λ (y : Binding). variable_term y.variable) (sym f), ap (λ (y : Binding). y.term) f)
+
+-- Two keys of names become equal with their names.
+names_same : (f h : Bool) (p q : Option (List ℕ)) (m n : ℕ) (x : Binding) (r : Bool) → Decides r ((f ≡ h) × (p ≡ q)) → HasItsSort x → (IsIn x.variable (variables_of x.term) → ⊥) →
+    Bind x ≡ (if r then between_names m n else Clash) →
+    apply_to (as_substitution (x ∷ [])) (key_as_term (asymmetric_term f (pubk_term p m))) ≡ apply_to (as_substitution (x ∷ [])) (key_as_term (asymmetric_term h (pubk_term q n)))
+names_same f h p q m n x true d sorted absent e =
+    let both : (f ≡ h) × (p ≡ q) = d.0 refl in
+    let k : apply_to (as_substitution (x ∷ [])) (atom_term (name_variable m)) ≡ apply_to (as_substitution (x ∷ [])) (atom_term (name_variable n)) =
+    between_same x _ _ sorted absent (names_between m n x e) in
+    let k' : (as_substitution (x ∷ [])).names m ≡ (as_substitution (x ∷ [])).names n = cc in
+    ap (λ (u : AtomTerm). atom_term u) (ap₂ (λ (b : Bool) (j : PairTerm). key_term (asymmetric_term b j)) both.0 (ap₂ pubk_term both.1 k'))
+names_same f h p q m n x false d sorted absent e = absurd (cc)
+
+-- Where the first difference of two terms is all in which they differ.
+pub between_all : (x : Binding) (a b : Term) → IsBetween x a b → Bind x ≡ difference_of a b → apply_to (as_substitution (x ∷ [])) a ≡ apply_to (as_substitution (x ∷ [])) b
+between_all x a b k e = let n = bind_found a b x e in between_same x a b n.sorted n.absent k
+
+pub names_all : (x : Binding) (a b : Term) (f h : Bool) (p q : Option (List ℕ)) (m n : ℕ) → a ≡ key_as_term (asymmetric_term f (pubk_term p m)) →
+    b ≡ key_as_term (asymmetric_term h (pubk_term q n)) → Bind x ≡ difference_of a b →
+    apply_to (as_substitution (x ∷ [])) a ≡ apply_to (as_substitution (x ∷ [])) b
+names_all x a b f h p q m n ea eb e =
+    let found = bind_found a b x e in
+    rw (ea, eb)
+    (names_same f h p q m n x (same_bool f h && option_eq (pointwise nat_eq) p q) (Decides-and _ _ (flag_Decides f h) (purpose_Decides p q)) found.sorted found.absent
+    (e ∙ ap₂ difference_of ea eb))
+
+module _ (a0 b0 : Term) (r0 r : List Binding) (a b : Term) (x : Binding) (q r1 : List Binding) (h : IsReducedBy a0 b0 r0 r) (ea : a ≡ apply_to (as_substitution r) a0) (eb : b ≡ apply_to (as_substitution r) b0) (e : Bind x ≡ difference_of a b) (eq : q ≡ x ∷ []) (er : r1 ≡ joined_bindings r q) where
+  so_far : IsReducedTo a0 b0 r0 a b r
+  so_far = rw (ea, eb) h
+
+  pub next_reduced : IsReducedBy a0 b0 r0 r1
+  next_reduced = reduced_next a0 b0 r0 a b r x q _ _ r1 so_far e eq (joined_under r q r1 a0 a er ea) (joined_under r q r1 b0 b er eb) er
+
+  pub all_solved : apply_to (as_substitution (x ∷ [])) a ≡ apply_to (as_substitution (x ∷ [])) b → SolvesBeside a0 b0 r0 r1
+  all_solved k = reduced_to_same a0 b0 r0 _ _ r1 (reduced_next a0 b0 r0 a b r x q _ _ r1 so_far e eq refl refl er) (rw eq k)
+
+  pub unbound_next : unbound (variables_of a0 ++ (variables_of b0 ++ variables_of_bindings r0)) (apply_to (as_substitution r1) a0) (apply_to (as_substitution r1) b0)
+      < unbound (variables_of a0 ++ (variables_of b0 ++ variables_of_bindings r0)) (apply_to (as_substitution r) a0) (apply_to (as_substitution r) b0)
+  unbound_next =
+      rw (← ea, ← eb) (unbound_falls a0 b0 r0 a b r x q _ _ so_far e eq (joined_under r q r1 a0 a er ea) (joined_under r q r1 b0 b er eb))
+
+pub same_solved : (a0 b0 : Term) (r0 r : List Binding) (a b : Term) → IsReducedBy a0 b0 r0 r → a ≡ apply_to (as_substitution r) a0 → b ≡ apply_to (as_substitution r) b0 →
+    Same ≡ difference_of a b → SolvesBeside a0 b0 r0 r
+same_solved a0 b0 r0 r a b h ea eb e = reduced_to_same a0 b0 r0 _ _ r h (sym ea ∙ same_found a b e ∙ eb)
+
+pub clash_unsolved : (a0 b0 : Term) (r0 r : List Binding) (a b : Term) → IsReducedBy a0 b0 r0 r → a ≡ apply_to (as_substitution r) a0 → b ≡ apply_to (as_substitution r) b0 →
+    Clash ≡ difference_of a b → HasNoUnifier a0 b0 r0
+clash_unsolved a0 b0 r0 r a b h ea eb e = clash_found a0 b0 r0 _ _ r h (rw (← ea, ← eb) e)
+
+-- A term without parts has none under a substitution.
+no_tail : (s : Substitution) (t : Term) → (HasTail t → ⊥) → HasTail (apply_to s t) → ⊥
+no_tail s (tag_term bytes) h k = h k
+no_tail s (atom_term u) h k = h k
+no_tail s (pair_term a b) h k = h tt
+no_tail s (enc_term a k) h j = h tt
+
+pub leaf_under : (r : List Binding) (t u : Term) → u ≡ apply_to (as_substitution r) t → (HasTail t → ⊥) → HasTail u → ⊥
+leaf_under r t u e h = rw e (no_tail (as_substitution r) t h)

@@ -1,6 +1,6 @@
 -- Bindings of variables to terms: that they are of a sort, what assignments meet them, and their variables.
-use Rattle.std.specs.Prelude.{◌≡◌, ◌≤◌, ℕ, true, List, [], ◌∷◌, ◌++◌}
-use Rattle.cp_model.specs.Term.{variable_term, variables_of, Assignment, value_of}
+use Rattle.std.specs.Prelude.{◌≡◌, ◌⊎◌, ◌≤◌, ℕ, true, List, [], ◌∷◌, ◌++◌}
+use Rattle.cp_model.specs.Term.{Term, variable_term, variables_of, Assignment, value_of}
 use Rattle.cp_model.specs.declared.variable.Variable.{Variable}
 use Rattle.cp_term.specs.Sorts.{is_of_sort}
 -- A variable and a term, and the substitution that bindings are.
@@ -9,6 +9,10 @@ pub use Rattle.cp_model.specs.Bindings.{Binding, put, put_of_sort, put_term, as_
 -- The term has the sort of the variable.
 abbrev pub HasItsSort : Binding → Type 0
 HasItsSort b = is_of_sort b.variable.sort b.term ≡ true
+
+-- One of two terms is the variable of the binding, and the other its term.
+abbrev pub IsBetween : Binding → Term → Term → Type 0
+IsBetween x a b = ((a ≡ variable_term x.variable) × (x.term ≡ b)) ⊎ ((b ≡ variable_term x.variable) × (x.term ≡ a))
 
 -- The assignment gives the variable of the binding the value of its term.
 abbrev pub MeetsBinding : Assignment → Binding → Type 0

@@ -1,6 +1,6 @@
 -- The bindings of variables that make a pattern a term, beside some that there are already. A test says which variables are
 -- local, and may become other terms.
-use Rattle.std.specs.Prelude.{ℕ, Bool, true, List, [], ◌∷◌, Option, Some, None, ◌&&◌, nat_eq, if◌then◌else◌, option_and_then}
+use Rattle.std.specs.Prelude.{◌≡◌, ℕ, Bool, true, List, [], ◌∷◌, Option, Some, None, ◌&&◌, nat_eq, if◌then◌else◌, option_and_then}
 use Rattle.std.specs.Cmp.Lexicographic.{pointwise}
 use Rattle.std.specs.Option.{option_eq}
 use Rattle.cp_model.specs.Term.{SymmetricTerm, skey_variable, ltk_term, PairTerm, akey_variable, pubk_term, KeyTerm, symmetric_term, asymmetric_term, AtomTerm, text_variable, datum_variable, name_variable, key_term, Term, tag_term, atom_term, pair_term, enc_term, variable_term, flag_of}
@@ -72,3 +72,7 @@ matched is_local (atom_term u) (atom_term v) r = matched_atoms is_local u v r
 matched is_local (pair_term a b) (pair_term c d) r = option_and_then (matched is_local b d) (matched is_local a c r)
 matched is_local (enc_term a k) (enc_term b j) r = option_and_then (matched is_local a b) (matched_keys is_local k j r)
 matched is_local _ _ r = None
+
+-- The answer and the bindings r are what is found: these bindings, or none.
+abbrev pub IsFound : Bool → List Binding → Option (List Binding) → Type 0
+IsFound same r found = (if same then Some r else None) ≡ found

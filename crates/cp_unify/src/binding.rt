@@ -3,10 +3,10 @@ ghost use Rattle.std.specs.Prelude.{◌≡◌, ◌↔◌, true, IsTrue, IfOk};
 ghost use Rattle.cp_model.specs.Term.{variable_term};
 ghost use Rattle.cp_term.specs.Sorts.{is_of_sort};
 ghost use Rattle.cp_term.specs.Variables.{variable_of_sort};
-ghost use Rattle.cp_unify.specs.Bindings.{HasItsSort};
+ghost use Rattle.cp_unify.specs.Bindings.{HasItsSort, IsBetween};
 
 use cp_model::Variable;
-use cp_term::{Sort, Term, VarId, var};
+use cp_term::{Shape, Sort, Term, VarId, var};
 use std::alloc::{AllocError, Global};
 use std::marker::Model;
 
@@ -76,6 +76,27 @@ impl Binding {
         ensures { IsTrue result ↔ (variable_of_sort sort variable ≡ variable_term self.now.variable) }
     {
         self.variable.sort == sort && self.variable.number == variable.number()
+    }
+
+    /// Whether the term is the variable that is bound.
+    fn is_of(&self, term: &Term) -> bool
+        ensures { IsTrue result ↔ (term.now ≡ variable_term self.now.variable) }
+    {
+        match term.shape() {
+            Shape::Variable(variable, sort) => self.binds(sort, variable),
+            _ => false,
+        }
+    }
+
+    /// Whether one of two terms is the variable that is bound, and the other what it is bound to.
+    pub(crate) fn is_between(&self, a: &Term, b: &Term) -> bool
+        ensures { IsTrue result → IsBetween self.now a.now b.now }
+    {
+        if self.is_of(a) {
+            self.term.same(b)
+        } else {
+            self.is_of(b) && self.term.same(a)
+        }
     }
 
     /// The variable as a term.

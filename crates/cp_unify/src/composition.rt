@@ -1,5 +1,5 @@
 // Composition of substitutions.
-ghost use Rattle.std.specs.Prelude.{◌≡◌, ◌++◌, IfOk};
+ghost use Rattle.std.specs.Prelude.{◌≡◌, [], ◌∷◌, ◌++◌, IfOk, OnOk};
 ghost use Rattle.cp_model.specs.Term.{Term as Plain, Assignment, after, value_of, apply_to};
 ghost use Rattle.cp_unify.specs.Bindings.{as_substitution, variables_of_bindings};
 ghost use Rattle.cp_unify.specs.Joined.{joined_bindings};
@@ -41,14 +41,16 @@ fn join(alloc: Global, first: &Subst, second: &Subst) -> Result<Subst, AllocErro
     join_all(alloc, first, second)
 }
 
-/// The same for a second that is given away, which is not copied.
-pub(crate) fn join_onto(alloc: Global, first: &Subst, second: Subst) -> Result<Subst, AllocError>
-    ensures { IfOk result (λ s. s ≡ joined_bindings first.now second) }
+/// Adds a binding behind the others, whose terms are put under it.
+pub(crate) fn join_one(alloc: Global, s: &mut Subst, binding: Binding) -> Result<(), AllocError>
+    ensures { OnOk result (s.new ≡ joined_bindings s.old (binding ∷ [])) }
 {
-    if first.bindings().is_empty() {
-        return Ok(second);
+    if s.bindings().is_empty() {
+        return s.put(binding);
     }
-    join(alloc, first, &second)
+    let one = Subst::of(alloc, binding)?;
+    *s = join_all(alloc, s, &one)?;
+    Ok(())
 }
 
 /// The substitution that does what the first does, then what the second does.

@@ -1,8 +1,10 @@
 // The first difference of two terms.
-ghost use Rattle.std.specs.Prelude.{◌≡◌, true, nat_eq, IfOk};
+ghost use Rattle.std.specs.Prelude.{◌≡◌, true, nat_eq, [], ◌∷◌, IfOk, IsTrue};
 ghost use Rattle.std.specs.Cmp.Lexicographic.{pointwise};
 ghost use Rattle.std.specs.Option.{option_map, option_eq};
-ghost use Rattle.cp_model.specs.Term.{atom_term, pubk_term, symmetric_term, ltk_term, tag_term, asymmetric_term, KeyTerm, inverse_term};
+ghost use Rattle.cp_model.specs.Term.{atom_term, pubk_term, symmetric_term, ltk_term, tag_term, asymmetric_term, KeyTerm, inverse_term, apply_to};
+ghost use Rattle.cp_unify.specs.Bindings.{as_substitution};
+ghost use Rattle.cp_unify.specs.declared.difference.Difference.TheVariants.{Bind};
 ghost use Rattle.cp_model.specs.declared.sort.Sort.TheVariants.{Akey as akey_sort};
 ghost use Rattle.cp_term.specs.Keys.{key_as_term};
 ghost use Rattle.cp_term.specs.Variables.{variable_of_sort};
@@ -11,7 +13,6 @@ ghost use Rattle.cp_unify.specs.Differences.{akey_atom, binds, between, between_
 ghost use Rattle.cp_term.specs.Spines.{HasTail};
 
 use crate::binding::Binding;
-use crate::sides::{Sides, beside};
 use cp_term::{Shape, Sort, Term, VarId, invert, var};
 use std::alloc::{AllocError, Global};
 
@@ -254,7 +255,7 @@ fn pubk_difference(
 }
 
 /// The difference of two terms, the first a tag or of an atom sort.
-fn leaf_difference(alloc: Global, a: &Term, b: &Term) -> Result<Difference, AllocError>
+pub(crate) fn leaf_difference(alloc: Global, a: &Term, b: &Term) -> Result<Difference, AllocError>
     requires { ¬ HasTail a.now }
     ensures { IfOk result (λ d. d ≡ difference_of a.now b.now) }
 {
@@ -268,24 +269,13 @@ fn leaf_difference(alloc: Global, a: &Term, b: &Term) -> Result<Difference, Allo
     }
 }
 
-/// The first difference of two terms. Right parts and plaintexts are walked by a loop, since a term may be long.
-pub(crate) fn first_difference(alloc: Global, a: &Term, b: &Term) -> Result<Difference, AllocError>
-    ensures { IfOk result (λ d. d ≡ difference_of a.now b.now) }
+/// Fast test: true only if two terms do not differ any more under the binding that removes their first difference.
+pub(crate) fn is_all(binding: &Binding, a: &Term, b: &Term) -> bool
+    ensures { IsTrue result → Bind binding.now ≡ difference_of a.now b.now
+        → apply_to (as_substitution (binding.now ∷ [])) a.now ≡ apply_to (as_substitution (binding.now ∷ [])) b.now }
 {
-    let mut left = a;
-    let mut right = b;
-    loop {
-        match beside(left, right) {
-            Sides::Parts(first, other_first, rest, other_rest) => {
-                match first_difference(alloc, first, other_first)? {
-                    Difference::Same => {}
-                    found => return Ok(found),
-                }
-                left = rest;
-                right = other_rest;
-            }
-            Sides::Leaf => return leaf_difference(alloc, left, right),
-            Sides::Apart => return Ok(Difference::Clash),
-        }
+    match (a.shape(), b.shape()) {
+        (Shape::Pubk(..), Shape::Pubk(..)) => true,
+        _ => binding.is_between(a, b),
     }
 }

@@ -1,13 +1,15 @@
 // Matching: values of local variables that make a pattern a term.
-ghost use Rattle.std.specs.Prelude.{◌≡◌, ◌↔◌, ◌==◌, [], true, IsTrue, IfSome, IfNone, IfOk};
+ghost use Rattle.std.specs.Prelude.{◌≡◌, ◌↔◌, ◌==◌, Bool, true, List, [], IsTrue, IfSome, IfNone, IfOk};
 ghost use Rattle.std.specs.Option.{option_map};
 ghost use Rattle.cp_model.specs.Term.{atom_term, ltk_term, pubk_term, symmetric_term, asymmetric_term, tag_term, variables_of};
 ghost use Rattle.cp_term.specs.Keys.{key_as_term};
+ghost use Rattle.cp_model.specs.declared.variable.Variable.{Variable};
 ghost use Rattle.cp_model.specs.Same.{same_term};
 ghost use Rattle.cp_term.specs.Variables.{variable_of_sort};
 ghost use Rattle.cp_unify.specs.Differences.{akey_atom};
 ghost use Rattle.cp_unify.specs.Beside.{MatchesBeside, NeverMatchesBeside};
-ghost use Rattle.cp_unify.specs.Matched.{is_listed, bound_term, matched, matched_names};
+ghost use Rattle.cp_unify.specs.Bindings.{Binding as Plain};
+ghost use Rattle.cp_unify.specs.Matched.{IsFound, is_listed, bound_term, matched, matched_names};
 ghost use Rattle.cp_unify.specs.Matches.{BindsOnly, IsMatch, HasNoMatch};
 ghost use Rattle.cp_term.specs.Spines.{HasTail};
 
@@ -56,32 +58,28 @@ pub(crate) fn is_bound_to(given: &Subst, sort: Sort, variable: VarId, term: &Ter
     }
 }
 
-/// Matches a variable of this sort with a term.
+/// Matches a variable of this sort with a term: adds to what was found so far, or answers that it contradicts it.
 fn variable_match(
     variable: VarId,
     sort: Sort,
     term: &Term,
     locals: Option<&[Variable]>,
-    given: Subst,
-) -> Result<Option<Subst>, AllocError>
-    ensures { IfOk result (λ found. found
-        ≡ matched (is_listed (option_map (λ xs. xs.now) locals.entry)) (variable_of_sort sort variable) term.now given) }
+    found: &mut Subst,
+) -> Result<bool, AllocError>
+    ensures { IfOk result (λ same. IsFound same found.new
+        (matched (is_listed (option_map (λ xs. xs.now) locals.entry)) (variable_of_sort sort variable) term.now found.old)) }
 {
     if !is_of_sort(term, sort) {
-        return Ok(None);
+        return Ok(false);
     }
     if !is_local(locals, sort, variable) {
-        if is_variable(term, sort, variable) {
-            return Ok(Some(given));
-        }
-        return Ok(None);
+        return Ok(is_variable(term, sort, variable));
     }
-    match is_bound_to(&given, sort, variable, term) {
-        Some(true) => Ok(Some(given)),
-        Some(false) => Ok(None),
+    match is_bound_to(found, sort, variable, term) {
+        Some(same) => Ok(same),
         None => {
             let copy = term.copy()?;
-            given.with(Binding::of(sort, variable, copy)).map(Some)
+            found.put(Binding::of(sort, variable, copy)).map(|_| true)
         }
     }
 }
@@ -92,22 +90,30 @@ fn name_match(
     a: VarId,
     b: VarId,
     locals: Option<&[Variable]>,
-    given: Subst,
-) -> Result<Option<Subst>, AllocError>
-    ensures { IfOk result (λ found. found
-        ≡ matched_names (is_listed (option_map (λ xs. xs.now) locals.entry)) a b given) }
+    found: &mut Subst,
+) -> Result<bool, AllocError>
+    ensures { IfOk result (λ same. IsFound same found.new
+        (matched_names (is_listed (option_map (λ xs. xs.now) locals.entry)) a b found.old)) }
 {
-    let name = var(alloc, b, Sort::Name)?;
-    variable_match(a, Sort::Name, &name, locals, given)
+    if !is_local(locals, Sort::Name, a) {
+        return Ok(a == b);
+    }
+    match found.bound(Sort::Name, a) {
+        Some(name) => Ok(is_variable(name, Sort::Name, b)),
+        None => {
+            let name = var(alloc, b, Sort::Name)?;
+            found.put(Binding::of(Sort::Name, a, name)).map(|_| true)
+        }
+    }
 }
 
-/// Matches a tag with a term.
-fn tag_match(text: &str, term: &Term, locals: Option<&[Variable]>, given: Subst) -> Option<Subst>
-    ensures { result ≡ matched (is_listed (option_map (λ xs. xs.now) locals.entry)) (tag_term text.now) term.now given }
+/// Whether a term is this tag.
+fn is_tag(text: &str, term: &Term) -> bool
+    ensures { (f : Variable → Bool) (r : List Plain) → IsFound result r (matched f (tag_term text.now) term.now r) }
 {
     match term.shape() {
-        Shape::Tag(other) => { if text == other { Some(given) } else { None } }
-        _ => None,
+        Shape::Tag(other) => text == other,
+        _ => false,
     }
 }
 
@@ -117,16 +123,16 @@ fn inverse_match(
     variable: VarId,
     term: &Term,
     locals: Option<&[Variable]>,
-    given: Subst,
-) -> Result<Option<Subst>, AllocError>
-    ensures { IfOk result (λ found. found
-        ≡ matched (is_listed (option_map (λ xs. xs.now) locals.entry)) (atom_term (akey_atom true variable)) term.now given) }
+    found: &mut Subst,
+) -> Result<bool, AllocError>
+    ensures { IfOk result (λ same. IsFound same found.new
+        (matched (is_listed (option_map (λ xs. xs.now) locals.entry)) (atom_term (akey_atom true variable)) term.now found.old)) }
 {
     if !is_of_sort(term, Sort::Akey) {
-        return Ok(None);
+        return Ok(false);
     }
     let inverse = invert(alloc, term)?;
-    variable_match(variable, Sort::Akey, &inverse, locals, given)
+    variable_match(variable, Sort::Akey, &inverse, locals, found)
 }
 
 /// Matches a long-term key of two names with a term.
@@ -136,17 +142,20 @@ fn ltk_match(
     b: VarId,
     term: &Term,
     locals: Option<&[Variable]>,
-    given: Subst,
-) -> Result<Option<Subst>, AllocError>
-    ensures { IfOk result (λ found. found
-        ≡ matched (is_listed (option_map (λ xs. xs.now) locals.entry)) (key_as_term (symmetric_term (ltk_term a b))) term.now given) }
+    found: &mut Subst,
+) -> Result<bool, AllocError>
+    ensures { IfOk result (λ same. IsFound same found.new
+        (matched (is_listed (option_map (λ xs. xs.now) locals.entry)) (key_as_term (symmetric_term (ltk_term a b))) term.now found.old)) }
 {
     match term.shape() {
-        Shape::Ltk(c, d) => match name_match(alloc, a, c, locals, given)? {
-            Some(first) => name_match(alloc, b, d, locals, first),
-            None => Ok(None),
-        },
-        _ => Ok(None),
+        Shape::Ltk(c, d) => {
+            if name_match(alloc, a, c, locals, found)? {
+                name_match(alloc, b, d, locals, found)
+            } else {
+                Ok(false)
+            }
+        }
+        _ => Ok(false),
     }
 }
 
@@ -158,20 +167,20 @@ fn pubk_match(
     a: VarId,
     term: &Term,
     locals: Option<&[Variable]>,
-    given: Subst,
-) -> Result<Option<Subst>, AllocError>
-    ensures { IfOk result (λ found. found ≡ matched (is_listed (option_map (λ xs. xs.now) locals.entry))
-        (key_as_term (asymmetric_term flag (pubk_term (option_map (λ s. s.now) purpose.entry) a))) term.now given) }
+    found: &mut Subst,
+) -> Result<bool, AllocError>
+    ensures { IfOk result (λ same. IsFound same found.new (matched (is_listed (option_map (λ xs. xs.now) locals.entry))
+        (key_as_term (asymmetric_term flag (pubk_term (option_map (λ s. s.now) purpose.entry) a))) term.now found.old)) }
 {
     match term.shape() {
         Shape::Pubk(other, other_purpose, b) => {
             if flag == other && is_same_purpose(purpose, other_purpose) {
-                name_match(alloc, a, b, locals, given)
+                name_match(alloc, a, b, locals, found)
             } else {
-                Ok(None)
+                Ok(false)
             }
         }
-        _ => Ok(None),
+        _ => Ok(false),
     }
 }
 
@@ -181,23 +190,52 @@ fn leaf_match(
     pattern: &Term,
     term: &Term,
     locals: Option<&[Variable]>,
-    given: Subst,
-) -> Result<Option<Subst>, AllocError>
+    found: &mut Subst,
+) -> Result<bool, AllocError>
     requires { ¬ HasTail pattern.now }
-    ensures { IfOk result (λ found. found
-        ≡ matched (is_listed (option_map (λ xs. xs.now) locals.entry)) pattern.now term.now given) }
+    ensures { IfOk result (λ same. IsFound same found.new
+        (matched (is_listed (option_map (λ xs. xs.now) locals.entry)) pattern.now term.now found.old)) }
 {
     match pattern.shape() {
-        Shape::Tag(text) => Ok(tag_match(text, term, locals, given)),
-        Shape::Variable(variable, sort) => variable_match(variable, sort, term, locals, given),
-        Shape::Inverse(variable) => inverse_match(alloc, variable, term, locals, given),
-        Shape::Ltk(a, b) => ltk_match(alloc, a, b, term, locals, given),
-        Shape::Pubk(flag, purpose, a) => pubk_match(alloc, flag, purpose, a, term, locals, given),
+        Shape::Tag(text) => Ok(is_tag(text, term)),
+        Shape::Variable(variable, sort) => variable_match(variable, sort, term, locals, found),
+        Shape::Inverse(variable) => inverse_match(alloc, variable, term, locals, found),
+        Shape::Ltk(a, b) => ltk_match(alloc, a, b, term, locals, found),
+        Shape::Pubk(flag, purpose, a) => pubk_match(alloc, flag, purpose, a, term, locals, found),
         _ => unreachable!(),
     }
 }
 
-/// Matches a term with a term. Right parts and plaintexts are walked by a loop, since a term may be long.
+/// Matches a term with a term: adds to what was found so far, or answers that it contradicts it. Right parts and plaintexts
+/// are walked by a loop, since a term may be long.
+fn add_match(
+    alloc: Global,
+    pattern: &Term,
+    term: &Term,
+    locals: Option<&[Variable]>,
+    found: &mut Subst,
+) -> Result<bool, AllocError>
+    ensures { IfOk result (λ same. IsFound same found.new
+        (matched (is_listed (option_map (λ xs. xs.now) locals.entry)) pattern.now term.now found.old)) }
+{
+    let mut left = pattern;
+    let mut right = term;
+    loop {
+        match beside(left, right) {
+            Sides::Parts(first, other_first, rest, other_rest) => {
+                if !add_match(alloc, first, other_first, locals, found)? {
+                    return Ok(false);
+                }
+                left = rest;
+                right = other_rest;
+            }
+            Sides::Leaf => return leaf_match(alloc, left, right, locals, found),
+            Sides::Apart => return Ok(false),
+        }
+    }
+}
+
+/// Matches a term with a term.
 fn match_beside(
     alloc: Global,
     pattern: &Term,
@@ -208,22 +246,11 @@ fn match_beside(
     ensures { IfOk result (λ found. found
         ≡ matched (is_listed (option_map (λ xs. xs.now) locals.entry)) pattern.now term.now given) }
 {
-    let mut left = pattern;
-    let mut right = term;
     let mut found = given;
-    loop {
-        match beside(left, right) {
-            Sides::Parts(first, other_first, rest, other_rest) => {
-                match match_beside(alloc, first, other_first, locals, found)? {
-                    Some(next) => found = next,
-                    None => return Ok(None),
-                }
-                left = rest;
-                right = other_rest;
-            }
-            Sides::Leaf => return leaf_match(alloc, left, right, locals, found),
-            Sides::Apart => return Ok(None),
-        }
+    if add_match(alloc, pattern, term, locals, &mut found)? {
+        Ok(Some(found))
+    } else {
+        Ok(None)
     }
 }
 

@@ -1,5 +1,5 @@
 // Substitutions.
-ghost use Rattle.std.specs.Prelude.{◌≡◌, [], ◌∷◌, IfOk, IsTrue};
+ghost use Rattle.std.specs.Prelude.{◌≡◌, [], ◌∷◌, IfOk, OnOk, IsTrue};
 ghost use Rattle.cp_unify.specs.Bindings.{BindNoneBelow};
 ghost use Rattle.cp_unify.specs.Places.{IsRestAfter};
 ghost use Rattle.cp_unify.specs.Solved.{IsSolved};
@@ -8,6 +8,7 @@ use crate::binding::Binding;
 use crate::places::{count_at, places_with, worthy_places};
 use std::alloc::{AllocError, Global};
 use std::marker::Model;
+use std::mem;
 
 /// A substitution: bindings of variables. If a variable has several, the first counts.
 pub struct Subst {
@@ -124,33 +125,36 @@ impl Subst {
         &bindings[start..]
     }
 
+    /// Puts a binding before the others. It counts in place of an earlier one of the same variable.
+    pub(crate) fn put(&mut self, binding: Binding) -> Result<(), AllocError>
+        ensures { OnOk result (self.new ≡ binding ∷ self.old) }
+    {
+        let number = binding.variable().number;
+        let alloc = *self.bindings.allocator();
+        self.bindings.insert(0, binding)?;
+        self.is_solved = false;
+        self.least = self.least.min(number);
+        let places = mem::replace(&mut self.places, Vec::new(alloc));
+        self.places = places_with(alloc, places, &self.bindings, number)?;
+        Ok(())
+    }
+
     /// The substitution with another binding before the others. It counts in place of an earlier one of the same
     /// variable.
     pub fn with(self, binding: Binding) -> Result<Subst, AllocError>
         ensures { IfOk result (λ s. s ≡ binding ∷ self) }
     {
-        let number = binding.variable().number;
-        let Subst {
-            mut bindings,
-            is_solved: _,
-            places,
-            least,
-        } = self;
-        let alloc = *bindings.allocator();
-        bindings.insert(0, binding)?;
-        let places = places_with(alloc, places, &bindings, number)?;
-        Ok(Subst {
-            bindings,
-            is_solved: false,
-            places,
-            least: least.min(number),
-        })
+        let mut longer = self;
+        longer.put(binding).map(|_| longer)
     }
 
     /// The same substitution.
     pub fn copy(&self, alloc: Global) -> Result<Subst, AllocError>
         ensures { IfOk result (λ s. s ≡ self.now) }
     {
+        if self.bindings.is_empty() {
+            return Ok(Subst::new(alloc));
+        }
         let bindings = Vec::from_clones(alloc, self.bindings())?;
         let places = Vec::from_slice(alloc, &self.places)?;
         Ok(Subst {

@@ -64,5 +64,8 @@ pub fn apply(alloc: Global, s: &Subst, term: &Term) -> Result<Term, AllocError>
     ensures plain { IfOk result (λ t. t ≡ apply_to (as_substitution s.now) term.now) }
     ensures value { IfOk result (λ t. (g : Assignment) → value_of g t ≡ value_of (after g (as_substitution s.now)) term.now) }
 {
+    if keeps(s, term) {
+        return term.copy();
+    }
     substituted(alloc, s, term)
 }

@@ -7,8 +7,8 @@ loop-rest-init c =
     let same = ap length c.strands-rest.ensures in
     (none_beyond c.args.k.now _ same, le_of_eq same)
 
-pub try_deletion-requires : goal.try_deletion-requires
-try_deletion-requires c = one_below c.loop-rest.rest (length c.args.k.now.strands) c.loop-rest-test.true c.loop-rest.invariant.1
+pub try_deletion-requires-clause-there_is : goal.try_deletion-requires-clause-there_is
+try_deletion-requires-clause-there_is c = one_below c.loop-rest.rest (length c.args.k.now.strands) c.loop-rest-test.true c.loop-rest.invariant.1
 
 pub returns-in-Some-clause-some : goal.returns-in-Some-clause-some
 returns-in-Some-clause-some c =

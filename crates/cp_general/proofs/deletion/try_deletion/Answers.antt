@@ -6,6 +6,9 @@ use Rattle.cp_general.proofs.Deleted.{deleted_alike}
 use Rattle.cp_general.proofs.FitTests.{some_if, none_if}
 use Rattle.cp_general.proofs.deletion.try_deletion.Goals as goal
 
+pub returns-then-branch-clause-none : goal.returns-then-branch-clause-none
+returns-then-branch-clause-none c = c.in_ok-is_needed.ensures c.if-branch.true
+
 pub returns-clause-some : goal.returns-clause-some
 returns-clause-some c =
     if_mapped c.is_fit.result c.map.result (λ fit found tests k.

@@ -1,4 +1,6 @@
-use Rattle.std.proofs.Common.{◌∙◌, ap, sym, subst}
+use Rattle.std.proofs.Common.{rules, ◌≡◌, ◌∙◌, ap, sym, subst}
+use Rattle.std.specs.Bool.{then_some}
+use Rattle.cp_lists.proofs.Collected.{if_mapped}
 use Rattle.cp_model.specs.Skeleton.{IsNodeOf, term_event_at, Skeleton}
 use Rattle.cp_model.specs.Derivable.{DerivableAt}
 use Rattle.cp_model.proofs.CarriedParts.{not_both}
@@ -9,17 +11,24 @@ pub is_derived-requires : goal.is_derived-requires
 is_derived-requires c = subst (λ (d : Skeleton). IsNodeOf d.strands c.args.node) (sym c.in_ok-less.ensures) c.requires.there
 
 pub returns-clause-exact : goal.returns-clause-exact
-returns-clause-exact c = some_if c.in_ok-derived.derived _ _ _ c.then_some.ensures (λ _. c.in_ok-less.ensures)
+returns-clause-exact c =
+    if_mapped c.is_derived.result c.map.result (λ derived found tells k.
+    let told : found ≡ then_some derived c.in_ok-less.less = search rules in
+    some_if derived _ found _ told (λ _. c.in_ok-less.ensures)) c.is_derived.ensures c.map.ensures.cases
 
 pub returns-clause-derived : goal.returns-clause-derived
 returns-clause-derived c =
-    some_if c.in_ok-derived.derived _ _ _ c.then_some.ensures
+    if_mapped c.is_derived.result c.map.result (λ derived found tells k.
+    let told : found ≡ then_some derived c.in_ok-less.less = search rules in
+    some_if derived _ found _ told
     (λ e t at. subst (λ (d : Skeleton). DerivableAt d c.args.node t) c.in_ok-less.ensures
-    ((c.in_ok-derived.ensures t (ap (λ (d : Skeleton). term_event_at d.strands c.args.node) c.in_ok-less.ensures ∙ at)).0 e))
+    ((tells t (ap (λ (d : Skeleton). term_event_at d.strands c.args.node) c.in_ok-less.ensures ∙ at)).0 e))) c.is_derived.ensures c.map.ensures.cases
 
 pub returns-clause-none : goal.returns-clause-none
 returns-clause-none c =
-    none_if c.in_ok-derived.derived _ _ _ c.then_some.ensures
+    if_mapped c.is_derived.result c.map.result (λ derived found tells k.
+    let told : found ≡ then_some derived c.in_ok-less.less = search rules in
+    none_if derived _ found _ told
     (λ e t at d. not_both e
-    ((c.in_ok-derived.ensures t (ap (λ (d : Skeleton). term_event_at d.strands c.args.node) c.in_ok-less.ensures ∙ at)).1
-    (subst (λ (x : Skeleton). DerivableAt x c.args.node t) (sym c.in_ok-less.ensures) d)))
+    ((tells t (ap (λ (d : Skeleton). term_event_at d.strands c.args.node) c.in_ok-less.ensures ∙ at)).1
+    (subst (λ (x : Skeleton). DerivableAt x c.args.node t) (sym c.in_ok-less.ensures) d)))) c.is_derived.ensures c.map.ensures.cases

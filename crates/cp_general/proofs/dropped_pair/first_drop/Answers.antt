@@ -13,13 +13,13 @@ loop-pair-init c = all_left_yet c.args.k.now c.pairs-pair-items.result.now (c.pa
 pub may_drop-requires-clause-listed : goal.may_drop-requires-clause-listed
 may_drop-requires-clause-listed c = subst (IsIn _) (c.pairs-pair-items.ensures ∙ c.order.ensures) (item_in c.pairs-pair-items.result.now c.loop-pair.pair-index no_pair c.loop-pair-test.true)
 
-pub loop-pair-preserved-then-not-branch : goal.loop-pair-preserved-then-not-branch
-loop-pair-preserved-then-not-branch c =
+pub loop-pair-preserved-then-not-may_drop : goal.loop-pair-preserved-then-not-may_drop
+loop-pair-preserved-then-not-may_drop c =
     let items = c.pairs-pair-items.result.now in
     let i = c.loop-pair.pair-index in
     let p = get_or items i no_pair in
     passed_one c.args.k.now items i p c.loop-pair-test.true (get_or_default items i no_pair p c.loop-pair-test.true) c.loop-pair.invariant
-    (never_may p c.args.k.now c.in_ok-may_drop.field-0 c.in_ok-may_drop.ensures c.if-not-branch.true)
+    (never_may p c.args.k.now c.may_drop.result c.may_drop.ensures c.if-not-may_drop.true)
 
 pub returns-in-Some-clause-some : goal.returns-in-Some-clause-some
 returns-in-Some-clause-some c =
@@ -42,4 +42,4 @@ loop-pair-preserved c =
     passed_one c.args.k.now items i p c.loop-pair-test.true (get_or_default items i no_pair p c.loop-pair-test.true) c.loop-pair.invariant (rw c.in-None.is at c.in_ok-less.ensures.none)
 
 pub returns-clause-none : goal.returns-clause-none
-returns-clause-none c = all_passed c.args.k.now c.pairs-pair-items.result.now c.loop-pair.pair-index c.loop-pair-test.false c.requires.lists c.loop-pair.invariant
+returns-clause-none c = all_passed c.args.k.now c.pairs-pair-items.result.now c.loop-pair.pair-index c.loop-pair-test.false c.loop-pair.invariant

@@ -1,9 +1,9 @@
-use Rattle.std.proofs.Common.{sym, ap, ◌∙◌, subst}
+use Rattle.std.proofs.Common.{ap, ◌∙◌, subst}
 use Rattle.cp_lists.specs.Lists.{IsIn}
 use Rattle.cp_lists.proofs.Items.{at_place}
 use Rattle.cp_model.specs.Skeleton.{Assumptions, Skeleton}
 use Rattle.cp_normal.specs.MisplacedValues.{OriginatesMisplaced}
-use Rattle.cp_normal.proofs.MisplacedOriginations.{none_next, none_is_misplaced, event_listed}
+use Rattle.cp_normal.proofs.MisplacedOriginations.{none_next, none_is_misplaced, event_listed, none_of_own}
 use Rattle.cp_normal.proofs.misplaced_values.some_is_misplaced.Goals as goal
 
 pub first_at-requires : goal.first_at-requires
@@ -16,7 +16,7 @@ pub loop-occurrence-preserved : goal.loop-occurrence-preserved
 loop-occurrence-preserved c =
     let own = c.uniquely_originating-uniques.ensures ∙ ap (λ (a : Assumptions). a.uniquely_originating) (c.assumptions.ensures ∙ ap (λ (k : Skeleton). k.assumptions) c.skeleton.ensures) in
     none_next (OriginatesMisplaced c.args.k.now) c.events-occurrences.result.now c.loop-occurrence.occurrence-index c.occurrence-item.result c.occurrence-item.result c.loop-occurrence-test.true c.occurrence-item.is
-    (λ s. (rw c.in-None.is at c.first_at.ensures) s.0 (subst (IsIn s.0) (sym own) s.1) s.2)
+    (none_of_own c.args.k.now c.occurrence-item.result _ own (rw c.in-None.is at c.first_at.ensures))
     c.loop-occurrence.invariant
 
 pub returns-clause-none : goal.returns-clause-none

@@ -1,11 +1,9 @@
 use Rattle.std.proofs.Common.{refl}
 use Rattle.cp_normal.proofs.NarrowingSteps.{form_narrowed}
-use Rattle.cp_normal.proofs.SoundForms.{form_sound}
 use Rattle.cp_normal.proofs.narrowing.settled.Goals as goal
 
-pub with_pairs-requires : goal.with_pairs-requires
-with_pairs-requires c = form_sound c.args.form.skeleton c.args.pairs.items c.is_sound.ensures c.requires.normal
+pub returns-in-Own : goal.returns-in-Own
+returns-in-Own c = form_narrowed c.args.form c.args.form c.args.form.skeleton.pairs c.requires.settled (rw c.in-Own.is at c.requires.normal) refl refl
 
-pub returns : goal.returns
-returns c =
-    form_narrowed c.args.form _ c.args.pairs.items _ c.requires.settled c.requires.normal c.in_ok-skeleton.ensures refl c.in_ok-vec.ensures.items
+pub with_form_pairs-requires : goal.with_form_pairs-requires
+with_form_pairs-requires c = record { settled = c.requires.settled; normal = rw c.in-More.is at c.requires.normal }

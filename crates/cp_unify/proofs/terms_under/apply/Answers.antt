@@ -11,3 +11,9 @@ returns-clause-value c =
     IfOk-weaker _ (λ t. t ≡ apply_to s c.args.term.now) _
     (λ t e g. ap (value_of g) e ∙ sym (value_after g s c.args.term.now))
     c.substituted.ensures
+
+pub returns-then-keeps-clause-value : goal.returns-then-keeps-clause-value
+returns-then-keeps-clause-value c =
+    IfOk-weaker _ (λ t. t ≡ c.args.term.now) _
+    (λ t e g. ap (value_of g) (e ∙ sym (c.keeps.ensures c.if-keeps.true)) ∙ sym (value_after g (as_substitution c.args.s.now) c.args.term.now))
+    c.copy.ensures

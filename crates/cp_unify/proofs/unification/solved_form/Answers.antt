@@ -11,15 +11,15 @@ returns-then-is_solved c =
 pub loop-binding-init : goal.loop-binding-init
 loop-binding-init c = rw c.new-solved.ensures (solved_but_all _)
 
-pub returns-in-None : goal.returns-in-None
-returns-in-None c =
+pub returns-then-not-branch : goal.returns-then-not-branch
+returns-then-not-branch c =
     none_early _ _ _ _ _ _ _ c.bindings-binding-items.ensures c.loop-binding.invariant c.loop-binding-test.true c.binding-item.is
-    c.in_ok-left.ensures c.term.ensures.term _ c.in-None.is c.in_ok-next.ensures
+    c.in_ok-left.ensures c.term.ensures.term _ _ c.in_ok-solve.ensures c.if-not-branch.true
 
 pub loop-binding-preserved : goal.loop-binding-preserved
 loop-binding-preserved c =
     next_early _ _ _ _ _ _ c.loop-binding.invariant c.loop-binding-test.true c.binding-item.is
-    c.in_ok-left.ensures c.term.ensures.term _ _ c.in-Some.is c.in_ok-next.ensures
+    c.in_ok-left.ensures c.term.ensures.term _ _ c.in_ok-solve.ensures c.if-not-branch.false
 
 pub returns : goal.returns
 returns c = all_found _ _ _ _ c.bindings-binding-items.ensures c.loop-binding.invariant c.loop-binding-test.false

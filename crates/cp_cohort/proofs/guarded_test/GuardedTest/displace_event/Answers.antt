@@ -12,7 +12,7 @@ use Rattle.cp_model.specs.Skeleton.{Before}
 use Rattle.cp_derive.specs.AtNode.{SkeletonNode}
 use Rattle.cp_cohort.specs.Cohort.{is_reception, is_before, GuardedTest}
 use Rattle.cp_cohort.proofs.ChildLists.{puts_nothing, puts_other}
-use Rattle.cp_cohort.proofs.GrownReleases.{grown_pair, displaced_each}
+use Rattle.cp_cohort.proofs.GrownReleases.{grown_pair, displaced_each, has_event, displaced_after}
 use Rattle.cp_cohort.proofs.UntilGiven.{until_none}
 use Rattle.cp_cohort.proofs.guarded_test.GuardedTest.displace_event.Goals as goal
 
@@ -32,6 +32,19 @@ pub returns-then-has_before : goal.returns-then-has_before
 returns-then-has_before c =
     let exact = told _ c.args.self.now c.self.inside.at.now (record { strand = c.args.strand; index = c.args.index }) c.has_before.result c.self.invariant.0 c.self.view_is c.has_before.ensures in
     puts_nothing c.args.children.now.items (is_before (exact.0 c.if-has_before.true))
+
+pub has_after-requires : goal.has_after-requires
+has_after-requires c =
+    let sent = subst (λ (r : Role). (t : Term) × (item_at r.trace c.args.index ≡ Some (send t))) c.role.ensures (c.is_sent.ensures.sent c.if-not-is_sent.false) in
+    has_event c.args.self.now c.args.strand c.args.instance.now.role c.args.instance.now.height c.args.index (bindings_of c.args.instance.now.values) sent.0 c.requires.there sent.1
+
+pub returns-then-has_after : goal.returns-then-has_after
+returns-then-has_after c =
+    let sent = subst (λ (r : Role). (t : Term) × (item_at r.trace c.args.index ≡ Some (send t))) c.role.ensures (c.is_sent.ensures.sent c.if-not-is_sent.false) in
+    let exact = told _ c.args.self.now c.self.inside.at.now (record { strand = c.args.strand; index = c.args.index }) c.has_before.result c.self.invariant.0 c.self.view_is c.has_before.ensures in
+    puts_nothing c.args.children.now.items
+    (displaced_after c.args.self.now c.args.strand c.args.instance.now.role c.args.instance.now.height c.args.index (bindings_of c.args.instance.now.values) sent.0 c.requires.there sent.1
+    (λ b. not_both c.if-has_before.false (exact.1 b)) (c.has_after.ensures c.if-has_after.true))
 
 pub with_events-requires : goal.with_events-requires
 with_events-requires c = record { there = c.requires.there; reached = omega (arith, c.requires.reached) }

@@ -51,7 +51,7 @@ loop-count-preserved c =
     let next : IsNext lists i (get_or counts i 0) =
     next_counted lists counts i (c.deref-count-items.ensures.value ∙ (c.self.invariant.1 ∙ ap (λ (x : Skeleton). map length (map strand_slots x.strands)) c.self.view_is)) c.loop-count-test.true in
     shares_added (listened k.strands) (slots_of k) c.in_ok-weights.weights.items lists i (get_or counts i 0) next c.loop-count.rest.now c.loop-count.invariant.0 own c.split_at-in-loop-count.result.1.now
-    shares.result.heavy shares.result.light c.saturating_mul.result c.loop-count.bucket_key c.loop-count.light_share c.saturating_add-bucket_key.result c.saturating_add-light_share.result (bucket_key_of k)
+    shares.result.heavy shares.result.light c.steepened.result c.loop-count.bucket_key c.loop-count.light_share c.saturating_add-bucket_key.result c.saturating_add-light_share.result (bucket_key_of k)
     (light_share_of k) c.split_at-in-loop-count.ensures.front c.split_at-in-loop-count.ensures.back (shares.ensures.heavy ∙ ap (λ ns. placed_from ns 0 own) c.deref-in-loop-count.ensures.value)
-    (shares.ensures.light ∙ ap (λ ns. placed_from ns 0 (map lightened own)) c.deref-in-loop-count.ensures.value) c.saturating_mul.ensures c.saturating_add-bucket_key.ensures c.saturating_add-light_share.ensures
+    (shares.ensures.light ∙ ap (λ ns. placed_from ns 0 (map lightened own)) c.deref-in-loop-count.ensures.value) c.steepened.ensures c.saturating_add-bucket_key.ensures c.saturating_add-light_share.ensures
     c.loop-count.invariant.1 c.loop-count.invariant.2

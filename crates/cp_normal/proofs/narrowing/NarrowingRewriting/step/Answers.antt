@@ -1,6 +1,6 @@
 use Rattle.std.proofs.Common.{◌∙◌}
 use Rattle.std.proofs.lemmas.Result.{IfOk-weaker}
-use Rattle.cp_normal.proofs.NarrowingSteps.{ends_narrowed, branches_narrowed}
+use Rattle.cp_normal.proofs.NarrowingSteps.{ends_narrowed, branches_narrowed, settled_narrowed}
 use Rattle.cp_normal.proofs.narrowing.NarrowingRewriting.step.Goals as goal
 
 pub returns-in-Ends : goal.returns-in-Ends
@@ -15,3 +15,6 @@ returns-in-Branches c =
     IfOk-weaker c.branches.result _ _
     (λ made are. branches_narrowed f v x c.deref.result.now made.items next.0 next.1 (c.deref.ensures.value ∙ next.2) are)
     c.branches.ensures
+
+pub returns-in_ok-vec-in-Settles : goal.returns-in_ok-vec-in-Settles
+returns-in_ok-vec-in-Settles c = settled_narrowed c.args.form c.in_ok-normal-in-Settles.normal _ c.in_ok-normal-in-Settles.ensures c.in_ok-vec-in-Settles.ensures.items
