@@ -6,7 +6,6 @@ use Rattle.cp_model.specs.Term.{Term, Substitution, apply_to, variable_term}
 use Rattle.cp_model.specs.Skeleton.{SkeletonStrand, Skeleton}
 use Rattle.cp_model.specs.Same.{has_variable}
 use Rattle.cp_model.specs.Strand.{Role, variables_of_prefix}
-use Rattle.cp_model.specs.declared.sort.Sort.{Sort}
 use Rattle.cp_model.specs.declared.variable.Declaration.{Declaration}
 use Rattle.cp_model.specs.declared.variable.Variable.{Variable}
 use Rattle.cp_fingerprint.specs.SharedValues.{place_weight, value_slots, declared_variable, declared_slots, strand_slots, strung, slots_of}
@@ -63,9 +62,9 @@ module _ (name : ℕ) (xs : List Variable) (g : Substitution) (ds : List Declara
   variables_added past s = all_added (Left i) s (ap (declared_slots name xs g i) (drop_all i ds past))
 
 -- The test of the code, whether a variable occurs.
-pub variable_test : (flag : Bool) (role own : Role) (height own_height n i : ℕ) (sort : Sort) → flag ≡ has_variable (variables_of_prefix role height) (record { sort = sort; number = n }) → role ≡ own →
-    height ≡ own_height → n ≡ i → (b : Bool) → flag ≡ b → has_variable (variables_of_prefix own own_height) (record { sort = sort; number = i }) ≡ b
-variable_test flag role own height own_height n i sort test role_is height_is n_is b is = cc
+pub variable_test : (flag : Bool) (role own : Role) (height own_height i : ℕ) (d : Declaration) → flag ≡ has_variable (variables_of_prefix role height) (declared_variable i d) → role ≡ own →
+    height ≡ own_height → (b : Bool) → flag ≡ b → has_variable (variables_of_prefix own own_height) (declared_variable i d) ≡ b
+variable_test flag role own height own_height i d test role_is height_is b is = cc
 
 -- ---- the places of strands
 

@@ -1,9 +1,13 @@
 // The values that stand at places, and beside each the sum of the weights of its places. The sums saturate.
-ghost use Rattle.std.specs.Prelude.{◌≡◌, ◌<◌, ◌∷◌, [], length, drop, map, IfSome, IfOk, OnOk};
+ghost use Rattle.std.specs.Prelude.{◌≡◌, ◌<◌, ◌∷◌, [], length, drop, map, Some, IfSome, IfOk, OnOk};
 ghost use Rattle.cp_model.specs.Homomorphism.{substitution_by};
+ghost use Rattle.cp_lists.specs.Lists.{item_at};
+ghost use Rattle.cp_model.specs.Same.{has_variable};
+ghost use Rattle.cp_model.specs.Strand.{variables_of_prefix};
 ghost use Rattle.cp_model.specs.Term.{apply_to};
+ghost use Rattle.cp_strand.specs.FirstEvents.{AreFirstEvents};
 ghost use Rattle.cp_term.specs.Variables.{variable_of_sort};
-ghost use Rattle.cp_fingerprint.specs.SharedValues.{value_slots, prefix_slots, strand_slots, strung};
+ghost use Rattle.cp_fingerprint.specs.SharedValues.{declared_variable, value_slots, prefix_slots, strand_slots, strung};
 ghost use Rattle.cp_fingerprint.specs.Values.{IsFoundAmong, IsAbsent};
 ghost use Rattle.cp_fingerprint.specs.Weights.{values_of, AreAdded, AreSumsOf};
 
@@ -11,7 +15,7 @@ use crate::shares::Place;
 use crate::slots::{place_weight, text_number};
 use crate::values::{FEW, find_among_few, keep};
 use cp_model::item_at;
-use cp_skel::{Instance, Role, Strand, StrandShape};
+use cp_skel::{Declaration, Instance, Role, Strand, StrandShape};
 use cp_term::{Sort, Term, TermTable, VarId, is_of_sort, var};
 use std::alloc::{AllocError, Global};
 
@@ -32,6 +36,28 @@ pub(crate) struct Sums {
     pub(crate) sums: Vec<ValueSum>,
     pub(crate) more: TermTable,
     pub(crate) places: Vec<Place>,
+}
+
+/// Whether the variable with this number, which is declared so, occurs in the first `height` events of a role, which keeps these
+/// indices of first events.
+fn is_in_prefix(
+    role: &Role,
+    first_events: &[Option<usize>],
+    height: usize,
+    number: usize,
+    declaration: &Declaration,
+) -> bool
+    requires kept { AreFirstEvents role.now first_events.now }
+    requires declared { item_at role.now.variables number ≡ Some declaration.now }
+    ensures { result ≡ has_variable (variables_of_prefix role.now height) (declared_variable number declaration.now) }
+{
+    let Some(first) = item_at(first_events, number) else {
+        return role.occurs_before(VarId::numbered(number), declaration.sort, height);
+    };
+    match *first {
+        Some(index) => index < height,
+        None => false,
+    }
 }
 
 impl Sums {
@@ -129,20 +155,20 @@ impl Sums {
         ensures { OnOk result (AreAdded (prefix_slots instance.now.role instance.now.height (substitution_by instance.now.values)) self.old self.new) }
     {
         let role: &Role = instance.role();
+        let height = instance.height();
+        let first_events = role.first_events();
         let name = text_number(role.name().as_bytes());
         let declarations = role.variables();
         for (number, declaration) in declarations.iter().enumerate() {
-            let id = VarId::numbered(number);
-            let sort = declaration.sort;
-            if !role.occurs_before(id, sort, instance.height()) {
+            if !is_in_prefix(role, first_events, height, number, declaration) {
                 continue;
             }
             self.add_variable(
                 alloc,
                 place_weight(name, number),
                 instance.values(),
-                id,
-                sort,
+                VarId::numbered(number),
+                declaration.sort,
             )?;
         }
         Ok(())

@@ -6,6 +6,7 @@ ghost use Rattle.cp_fingerprint.specs.Weights.{weight_beside};
 use crate::heard::{heard_weight, listened};
 use crate::shares::shares_of;
 use crate::sums::{Sums, ValueSum};
+use cp_base::Growing;
 use cp_skel::{Event, Skeleton, occurs};
 use cp_term::{Shape, Sort, Term, var};
 use std::alloc::{AllocError, Global};
@@ -90,6 +91,7 @@ fn value_weight(
 }
 
 /// The weights of the values, of which these are the sums.
+#[tactic(auto, using(crate::proofs::GrownHeights::one_made))]
 fn value_weights(
     alloc: Global,
     heard: &[Event],
@@ -98,9 +100,11 @@ fn value_weights(
 ) -> Result<Vec<usize>, AllocError>
     ensures { IfOk result (λ v. v.items ≡ map (weight_beside heard.now (slots_of weights.now)) sums.now) }
 {
-    sums.iter()
-        .map(|own| value_weight(alloc, heard, weights, own))
-        .try_collect(alloc)
+    let mut made = Growing::with_capacity(alloc, sums.len());
+    for own in sums {
+        made.push_made(value_weight(alloc, heard, weights, own));
+    }
+    made.finish()
 }
 
 /// The share as often as 2^16 goes into it: the more, the greater it is, and faster than it. A square would reach the greatest number

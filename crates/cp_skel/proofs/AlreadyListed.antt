@@ -22,7 +22,7 @@ use Rattle.cp_skel.proofs.EachOnce.{onto-known, onto-new, is-new}
 pub one-more : {A : Type 0} (xs : List A) (i : ℕ) (x : A) → i < length xs → x ≡ get_or xs i x → take (i + 1) xs ≡ take i xs ++ x ∷ []
 one-more xs i x lt is = sym (take_next xs i x (item_of_read xs i x lt is))
 
-none-first : {A : Type 0} (xs : List A) → take 0 xs ≡ []
+pub none-first : {A : Type 0} (xs : List A) → take 0 xs ≡ []
 none-first [] = refl
 none-first (x ∷ xs) = refl
 
@@ -211,3 +211,7 @@ listed_of k old own ks m n e f s p q a b c =
     (subst (λ o. ListEach o none_listed k.from_problem.assumptions m) e (subst (λ w. ListEach old none_listed w m) f p))
     (subst (λ o. ListEach o m (given_from 0 k.strands) n) e (subst (λ js. ListEach old m (given_from 0 js) n) s q))
     a b c
+
+pub some_listed : {A : Type 0} (has : List A → A → Bool) (onto : List A → List A → List A) (r : Option ℕ) (old : List A) (m : ℕ) {u v : A} → u ≡ v
+    → IfSome r (λ n. ListsTo has onto old m (u ∷ []) n) → IfSome r (λ n. ListsTo has onto old m (v ∷ []) n)
+some_listed has onto r old m e h = subst (λ w. IfSome r (λ n. ListsTo has onto old m (w ∷ []) n)) e h

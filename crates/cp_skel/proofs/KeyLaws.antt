@@ -10,7 +10,7 @@ use Rattle.cp_model.proofs.Gathered.{IsGathering, onto-only}
 use Rattle.cp_skel.specs.declared.keys.Keys.{Keys}
 use Rattle.cp_skel.specs.KeyTable.{HasKey}
 use Rattle.cp_skel.proofs.Once.{once-append}
-use Rattle.cp_skel.proofs.AlreadyListed.{one-more}
+use Rattle.cp_skel.proofs.AlreadyListed.{one-more, none-first}
 
 pub in_read : {A : Type 0} (xs : List A) (i : ℕ) (x : A) → slice_get xs i ≡ Some x → IsIn x xs
 in_read xs i x e = at_place xs i x (sym (slice_get_item xs i) ∙ e)
@@ -20,6 +20,10 @@ found_if_in xs x found h i = let p = place_of i in h p.0 (slice_get_item xs p.0 
 
 pub still_in : {A : Type 0} (old new more : List A) (x : A) → (new ≡ old) ⊎ (new ≡ old ++ more) → IsIn x old → IsIn x new
 still_in old new more x h i = ⊎_elim (λ e. subst (IsIn x) (sym e) i) (λ e. subst (IsIn x) (sym e) (in_append_left more i)) h
+
+pub once_first : {A : Type 0} (xs : List A) → IsEachOnce (take 1 xs)
+once_first [] = tt
+once_first (x ∷ xs) = subst (λ ys. IsEachOnce (x ∷ ys)) (sym (none-first xs)) ((λ i. not_in_none i), tt)
 
 -- One item more, which is none of those before it.
 pub once_more : {A : Type 0} (xs : List A) (n : ℕ) (x : A) → n < length xs → x ≡ get_or xs n x → (IsIn x (take n xs) → ⊥) → IsEachOnce (take n xs) → IsEachOnce (take (n + 1) xs)

@@ -8,7 +8,7 @@ use crate::assumptions::{Assumptions, UniqueAt};
 use crate::gathered::Gathered;
 use crate::keys::are_distinct;
 use crate::skeleton::{Node, Skeleton};
-use cp_strand::{Given, IndexedUnique, Strand, has};
+use cp_strand::{Given, IndexedUnique, Strand, StrandShape, has};
 use std::alloc::Global;
 
 /// How many of the old items are listed with this one, where so many were listed before, if it stands in its place or
@@ -42,6 +42,31 @@ fn listed_with_all<T: Gathered>(stated: &[T], old: &[T], start: usize) -> Option
     Some(count)
 }
 
+/// How many of the old unique values are listed with this one, which is given to the strand with this number, where so many
+/// were listed before, if it stands in its place or need not be listed.
+fn listed_with_unique(
+    strand: usize,
+    unique: &IndexedUnique,
+    old: &[UniqueAt],
+    count: usize,
+) -> Option<usize>
+    requires { count ≤ length old.now }
+    ensures { IfSome result (λ n. ListsTo has_unique uniques_onto old.now count (unique_on strand unique.now ∷ []) n) }
+{
+    let origin = Node {
+        strand,
+        index: unique.index,
+    };
+    if count < old.len() && old[count].is_at(&unique.value, origin) {
+        return Some(count + 1);
+    }
+    let Ok(value) = unique.value.copy() else {
+        return None;
+    };
+    let stated = UniqueAt::new(value, origin);
+    listed_with(&stated, old, count)
+}
+
 /// How many of the old unique values are listed with those that are given to the strand with this number, where so many
 /// were listed before, if they stand in this order.
 fn listed_with_uniques(
@@ -55,14 +80,7 @@ fn listed_with_uniques(
 {
     let mut count = start;
     for unique in given {
-        let Ok(value) = unique.value.copy() else {
-            return None;
-        };
-        let origin = Node {
-            strand,
-            index: unique.index,
-        };
-        count = listed_with(&UniqueAt::new(value, origin), old, count)?;
+        count = listed_with_unique(strand, unique, old, count)?;
     }
     Some(count)
 }
@@ -146,6 +164,9 @@ fn listed_with_strand(
     if let Some(given) = strand.given() {
         return listed_with_given(number, given, old, start);
     }
+    let StrandShape::Instance(_) = strand.shape() else {
+        return Some(start);
+    };
     let Ok(given) = strand.make_given(alloc) else {
         return None;
     };

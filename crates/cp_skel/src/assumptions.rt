@@ -1,5 +1,5 @@
 // What skeletons assume.
-ghost use Rattle.std.specs.Prelude.{◌≡◌, [], IsTrue, IfOk, OnOk, OnErr};
+ghost use Rattle.std.specs.Prelude.{◌≡◌, ◌↔◌, [], IsTrue, IfOk, OnOk, OnErr};
 ghost use Rattle.std.specs.Result.{IsOkAnd};
 ghost use Rattle.cp_skel.specs.JoinedAssumptions.{joined_assumptions};
 
@@ -45,6 +45,13 @@ impl UniqueAt {
         self.origin
     }
 
+    /// Whether it is this value with this recorded origin.
+    pub(crate) fn is_at(&self, value: &Atom, origin: Node) -> bool
+        ensures { IsTrue result ↔ (self.now ≡ record { value = value.now; origin = origin }) }
+    {
+        self.origin() == origin && self.value().same(value)
+    }
+
     /// The same value with the same origin.
     pub fn copy(&self) -> Result<UniqueAt, AllocError>
         ensures { IfOk result (λ u. u ≡ self.now) }
@@ -65,7 +72,7 @@ impl Clone for UniqueAt {
 
 impl Same for UniqueAt {
     fn is_same(&self, other: &UniqueAt) -> bool {
-        self.value().same(other.value()) && self.origin() == other.origin()
+        self.is_at(other.value(), other.origin())
     }
 }
 

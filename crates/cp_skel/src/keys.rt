@@ -53,11 +53,25 @@ impl Keys {
     }
 }
 
-/// Whether each item stands once. Without memory it may say that one does not.
-pub(crate) fn are_distinct<T: Gathered>(alloc: Global, items: &[T]) -> bool
+/// Whether each item stands once, where they are few: each is compared with those before it.
+fn are_few_distinct<T: Gathered>(items: &[T]) -> bool
     ensures { IsTrue result → IsEachOnce items.now }
 {
-    let mut keys = Keys::new(alloc, is_long(items));
+    for index in 1..items.len() {
+        let (before, _) = items.split_at(index);
+        if has(before, &items[index]) {
+            return false;
+        }
+    }
+    true
+}
+
+/// Whether each item stands once, where they are many: a table has the keys of those before it. Without memory it may say
+/// that one does not.
+fn are_many_distinct<T: Gathered>(alloc: Global, items: &[T]) -> bool
+    ensures { IsTrue result → IsEachOnce items.now }
+{
+    let mut keys = Keys::new(alloc, true);
     for index in 0..items.len() {
         let item = &items[index];
         let Ok(is_new) = keys.put(item.key()) else {
@@ -69,4 +83,15 @@ pub(crate) fn are_distinct<T: Gathered>(alloc: Global, items: &[T]) -> bool
         }
     }
     true
+}
+
+/// Whether each item stands once. Without memory it may say that one does not.
+pub(crate) fn are_distinct<T: Gathered>(alloc: Global, items: &[T]) -> bool
+    ensures { IsTrue result → IsEachOnce items.now }
+{
+    if is_long(items) {
+        are_many_distinct(alloc, items)
+    } else {
+        are_few_distinct(items)
+    }
 }

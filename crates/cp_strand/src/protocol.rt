@@ -3,6 +3,7 @@ ghost use Rattle.std.specs.Prelude.{◌≡◌, ◌≤◌, map, IfOk};
 ghost use Rattle.cp_model.specs.Declares.{DeclaresItsVariables, HasDeclaringRoles};
 ghost use Rattle.cp_model.specs.Strand.{variables_of_prefix};
 ghost use Rattle.cp_model.specs.Same.{has_variable};
+ghost use Rattle.cp_strand.specs.FirstEvents.{AreFirstEvents};
 
 use crate::atom::Atom;
 use crate::prefix_variables::{first_events, is_reached, occurs, prefix_of};
@@ -179,6 +180,13 @@ impl Role {
             ),
             _ => occurs(prefix_of(self, height), id, sort),
         }
+    }
+
+    /// For each of its variables for which it is kept, the index of the first event in which the variable occurs.
+    pub fn first_events(&self) -> &[Option<usize>]
+        ensures { AreFirstEvents self.now result.now }
+    {
+        &self.first_events
     }
 
     /// Its name.

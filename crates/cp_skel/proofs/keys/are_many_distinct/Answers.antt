@@ -4,8 +4,8 @@ use Rattle.cp_lists.specs.Lists.{IsIn}
 use Rattle.cp_skel.specs.KeyTable.{HasKey}
 use Rattle.cp_skel.proofs.AlreadyListed.{one-more}
 use Rattle.cp_skel.proofs.KeyLaws.{once_more, each_more}
-use Rattle.cp_skel.proofs.keys.are_distinct.Goals as goal
-use Rattle.cp_skel.proofs.keys.are_distinct.Goals.{else-not-is_new-via-then-not-is_new+else-has, else-not-is_new-via-else-not-is_new}
+use Rattle.cp_skel.proofs.keys.are_many_distinct.Goals as goal
+use Rattle.cp_skel.proofs.keys.are_many_distinct.Goals.{else-not-is_new-via-then-not-is_new+else-has, else-not-is_new-via-else-not-is_new}
 
 pub loop-index-preserved : goal.loop-index-preserved
 loop-index-preserved g c =
